@@ -1,0 +1,30 @@
+-- Parts of a list: what stands from a place on, and what stands before one.
+use Prim.Native.Nat.{ℕ, suc, _+_, _-_, _<_, _≤_}
+use mathlib.Core.Path.{_≡_, refl, sym, ap, _∙_}
+use mathlib.Core.List.{List, [], _∷_, _++_, reverse, reverse-append}
+use native.Mathlib.Omega.{arith}
+use lib.ListN.{length, getD, take, drop, length-drop}
+use lib.Seq.{drop-cons, take-suc, take-all, length-take-le}
+
+-- one element more
+pub next : (s : List ℕ) (i j : ℕ) → i < length s → j ≡ i + 1 → drop i s ≡ getD s i 0 ∷ drop j s
+next s i j h n = let e : suc i ≡ j = omega arith in drop-cons s i 0 h ∙ ap (λ (k : ℕ). getD s i 0 ∷ drop k s) e
+
+pub last : (s : List ℕ) (e k : ℕ) → k < length s → e ≡ k + 1 → reverse (take e s) ≡ getD s k 0 ∷ reverse (take k s)
+last s e k h n =
+    let p : e ≡ suc k = omega arith in
+    ap (λ (m : ℕ). reverse (take m s)) p ∙ ap reverse (take-suc s k 0 h) ∙ reverse-append (take k s) (getD s k 0 ∷ [])
+
+-- what `&s[i..]` gives
+pub rest : (s : List ℕ) (i : ℕ) → take (length s - i) (drop i s) ≡ drop i s
+rest s i = take-all (length s - i) (drop i s) (simp length-drop (omega arith))
+
+-- a part's place by its length
+pub from-end : (s : List ℕ) (i : ℕ) → i ≤ length s → take (length s - i) (drop i s) ≡ drop (length s - length (take (length s - i) (drop i s))) s
+from-end s i h =
+    let n : length (take (length s - i) (drop i s)) ≡ length s - i = ap length (rest s i) ∙ length-drop i s in
+    let m : i ≡ length s - length (take (length s - i) (drop i s)) = omega arith in
+    rest s i ∙ ap (λ (k : ℕ). drop k s) m
+
+pub from-start : (s : List ℕ) (e : ℕ) → e ≤ length s → take e s ≡ take (length (take e s)) s
+from-start s e h = ap (λ (k : ℕ). take k s) (sym (length-take-le e s h))

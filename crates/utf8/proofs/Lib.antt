@@ -1,0 +1,4 @@
+pub mod Lead
+pub mod Laws
+pub mod Encoding
+pub mod Examples

@@ -1,0 +1,71 @@
+-- `utf8::is_utf8` meets its contract: the whole text is UTF-8 where what is left of it is.
+-- Assumes nothing.
+use Prim.Native.Nat.{_-_, _≤_}
+use mathlib.Core.Path.{_≡_, refl, sym, ap, _∙_}
+use native.Mathlib.Omega.{arith}
+use lib.ListN.{length, drop, drop-of-length-le}
+use Rattle.utf8.specs.Utf8.{utf8}
+use borrow.Author.Needs.{needs}
+use Rattle.utf8.proofs.is_utf8.Statement.{statement}
+use Rattle.utf8.proofs.is_utf8.Tie as tie
+
+abbrev Inv-loop : tie.InvT-loop
+Inv-loop s i₀ i = (i ≤ length s) × (utf8 s ≡ utf8 (drop i s))
+
+abbrev μ-loop : tie.MeasureT-loop
+μ-loop s i₀ i = length s - i
+
+loop-holds : tie.Need-loop-holds Inv-loop μ-loop
+loop-holds c = search needs
+
+is-ascii-block-requires : tie.Need-is-ascii-block-requires Inv-loop μ-loop
+is-ascii-block-requires c κs = search needs
+
+add-i : tie.Need-add-i Inv-loop μ-loop
+add-i c = let h = c .before .is-ascii-block .ensures .fits (c .if1 .taken) in omega arith
+
+loop-less : tie.Need-loop-less Inv-loop μ-loop
+loop-less c = let h = c .before .is-ascii-block .ensures .fits (c .if1 .taken) in omega arith
+
+loop-again : tie.Need-loop-again Inv-loop μ-loop
+loop-again c =
+    (c .before .is-ascii-block .ensures .fits (c .if1 .taken), c .before .before .before .loop .inv .1 ∙ c .before .is-ascii-block .ensures .same (c .if1 .taken))
+
+block-end-requires : tie.Need-block-end-requires Inv-loop μ-loop
+block-end-requires c κs = search needs
+
+characters-requires : tie.Need-characters-requires Inv-loop μ-loop
+characters-requires c κs = search needs
+
+returns : tie.Need-returns Inv-loop μ-loop
+returns c =
+    let l = c .before .before .before .before .before .before in
+    sym (l .loop .inv .1 ∙ c .before .characters .ensures .same ∙ c .before .characters .ensures .stopped (c .if2 .taken))
+
+loop-less-2 : tie.Need-loop-less-2 Inv-loop μ-loop
+loop-less-2 c = let h = c .before .characters .ensures .fits in omega arith
+
+loop-again-2 : tie.Need-loop-again-2 Inv-loop μ-loop
+loop-again-2 c =
+    (c .before .characters .ensures .fits, c .before .before .before .before .before .before .loop .inv .1 ∙ c .before .characters .ensures .same)
+
+returns-2 : tie.Need-returns-2 Inv-loop μ-loop
+returns-2 c = sym (c .before .loop .inv .1 ∙ ap utf8 (drop-of-length-le _ (c .loop-test .left)))
+
+pub is-utf8-spec : {M : Type 1} → statement M
+is-utf8-spec =
+    tie.close
+    (tie.spec
+    Inv-loop
+    μ-loop
+    loop-holds
+    is-ascii-block-requires
+    add-i
+    loop-less
+    loop-again
+    block-end-requires
+    characters-requires
+    returns
+    loop-less-2
+    loop-again-2
+    returns-2)
