@@ -1,0 +1,3 @@
+pub mod Chars
+pub mod Search
+pub mod Lines

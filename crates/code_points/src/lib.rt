@@ -1,0 +1,1 @@
+// Theorems on texts as lists of code points; there is no code.
