@@ -1,7 +1,7 @@
 -- The encoding of a character by RFC 3629: a first byte, which is no tail byte and tells how many tail bytes follow.
 use Prim.Native.Nat.{ℕ, _+_, _-_, _*_, _/_, _%_, _<_, _≤_}
 use mathlib.Core.Path.{_≡_, refl, sym, ap, _∙_}
-use mathlib.Core.List.{List, [], _∷_, _++_, append-assoc, append-nil}
+use mathlib.Core.List.{List, [], _∷_, _++_}
 use mathlib.Core.Bool.{Bool, true, false, cond, _&&_}
 use borrow.Author.Tests.{le-leb, lt-leb}
 use native.Mathlib.Omega.{arith}
@@ -10,7 +10,7 @@ use lib.ListN.{length, take}
 use lib.Seq.{take-at}
 use Rattle.byte.proofs.Tests.{by-leb, inside, below, above}
 use Rattle.utf8.specs.Utf8.{tail}
-use Rattle.utf8.specs.Encode.{encode, encodes}
+use Rattle.utf8.specs.Encode.{encode}
 
 abbrev pub tails : List ℕ → Bool
 tails [] = true
@@ -108,10 +108,3 @@ unique c d s t e =
     let n : length (y .rest) ≡ length (x .rest) = y .many ∙ ap following (sym a) ∙ sym (x .many) in
     let r : x .rest ≡ y .rest = sym (take-at (x .rest) s (length (x .rest)) refl) ∙ ap (take (length (x .rest))) b ∙ take-at (y .rest) t (length (x .rest)) n in
     sym (x .code) ∙ rw (a, r) refl ∙ y .code
-
-pub encodes-append : (cs ds : List ℕ) → encodes (cs ++ ds) ≡ encodes cs ++ encodes ds
-encodes-append [] ds = refl
-encodes-append (c ∷ cs) ds = ap (λ (l : List ℕ). encode c ++ l) (encodes-append cs ds) ∙ sym (append-assoc (encode c) (encodes cs) (encodes ds))
-
-pub encodes-snoc : (cs : List ℕ) (c : ℕ) → encodes (cs ++ c ∷ []) ≡ encodes cs ++ encode c
-encodes-snoc cs c = encodes-append cs (c ∷ []) ∙ ap (λ (l : List ℕ). encodes cs ++ l) (append-nil (encode c))

@@ -1,3 +1,6 @@
+pub mod Encodes
 pub mod Chars
-pub mod Search
+pub mod White
+pub mod Trim
 pub mod Lines
+pub mod Search

@@ -14,7 +14,8 @@ use Rattle.search.proofs.Laws.{from-hit, from-miss, from-end, within}
 use Rattle.utf8.specs.Utf8.{tail}
 use Rattle.utf8.specs.Encode.{encode, encodes}
 use Rattle.code_points.specs.Place.{bytePlace}
-use Rattle.code_points.proofs.Chars.{tails, char, unique, encodes-append, encodes-snoc}
+use Rattle.code_points.proofs.Chars.{tails, char, unique}
+use Rattle.code_points.proofs.Encodes.{encodes-append, encodes-snoc}
 
 -- UTF-8 is a prefix code
 pub prefix-code : (ds cs : List ℕ) → prefixOf (encodes ds) (encodes cs) ≡ prefixOf ds cs

@@ -1,0 +1,76 @@
+// Bytes in hexadecimal, two digits each, in lower case.
+ghost use mathlib.Core.Path.{_≡_};
+ghost use mathlib.Core.Bool.{true};
+ghost use Prim.Native.Nat.{_+_, _≤_, _<_};
+ghost use lib.ListN.{length};
+ghost use Rattle.io.specs.Counts.{Counts};
+
+// The bytes that the digits from a place on write, as many as the buffer holds.
+pub fn decode(s: &[u8], at: usize, out: &mut [u8]) -> usize
+    ensures { λ r. ⌜ Counts r (now (out .exit)) ⌝ }
+{
+    let mut n: usize = 0;
+    let mut i = at;
+    while n < out.len() {
+        if !is_pair(s, i) {
+            return n;
+        }
+        out[n] = value(s[i]) * 16 + value(s[i + 1]);
+        n += 1;
+        i += 2;
+    }
+    n
+}
+
+// The place behind the digits from a place on and behind one space.
+pub fn digits_end(s: &[u8], at: usize) -> usize {
+    let mut i = at;
+    while i < s.len() {
+        if s[i] == b' ' {
+            return i + 1;
+        }
+        i += 1;
+    }
+    i
+}
+
+pub fn print(s: &[u8]) {
+    let mut i: usize = 0;
+    while i < s.len() {
+        io::print_hex(1, byte::widen(s[i]), 2);
+        i += 1;
+    }
+}
+
+// The number of eight bytes, the highest first; less than eight count from the lowest.
+pub fn number(s: &[u8]) -> u64 {
+    let mut n: u64 = 0;
+    let mut i: usize = 0;
+    while i < s.len() {
+        n = n % 0x100_0000_0000_0000 * 256 + byte::widen(s[i]);
+        i += 1;
+    }
+    n
+}
+
+fn is_pair(s: &[u8], i: usize) -> bool
+    ensures { λ r. ⌜ (r ≡ true → i + 2 ≤ length (now (s .entry))) ⌝ }
+{
+    if s.len() <= i {
+        return false;
+    }
+    if s.len() - i < 2 {
+        return false;
+    }
+    byte::both(is_digit(s[i]), is_digit(s[i + 1]))
+}
+
+fn is_digit(b: u8) -> bool {
+    byte::either(byte::in_range(b'0', b'9', b), byte::in_range(b'a', b'f', b))
+}
+
+fn value(b: u8) -> u8
+    ensures { λ r. ⌜ r < 16 ⌝ }
+{
+    if b <= b'9' { b % 16 } else { (b % 16 + 9) % 16 }
+}

@@ -1,0 +1,4 @@
+pub mod White
+pub mod Laws
+pub mod Steps
+mod Examples

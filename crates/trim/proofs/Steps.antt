@@ -1,0 +1,37 @@
+-- A step of the walk: what the bytes at a position of a text, or before it, say of the White_Space there.
+use Prim.Native.Nat.{ℕ, _+_, _-_, _<_, _≤_}
+use mathlib.Core.Path.{_≡_, refl, ap, _∙_}
+use mathlib.Core.List.{List, [], _∷_, reverse}
+use native.Mathlib.Omega.{arith}
+use lib.ListN.{length, getD, take, drop}
+use Rattle.byte.proofs.Parts.{next, last}
+use Rattle.trim.specs.Step.{Step}
+
+pub stays : {f : List ℕ → List ℕ} {t l u : List ℕ} {room : ℕ} → t ≡ l → f l ≡ l → Step f t u room 0
+stays p e = record { fits = omega arith; none = λ _. rw p e; some = λ x. absurd (x refl) }
+
+pub goes : {f : List ℕ → List ℕ} {t l u : List ℕ} {room : ℕ} (n : ℕ) → 0 < n → n ≤ room → t ≡ l → f l ≡ f u → Step f t u room n
+goes n h k p e = record { fits = k; none = λ x. absurd (omega arith); some = λ _. rw p e }
+
+module _ (s : List ℕ) (at : ℕ) where
+  pub at1 : at < length s → drop at s ≡ getD s at 0 ∷ drop (at + 1) s
+  at1 h = next s at (at + 1) h refl
+
+  pub at2 : at + 1 < length s → drop at s ≡ getD s at 0 ∷ getD s (at + 1) 0 ∷ drop (at + 2) s
+  at2 h = at1 (omega arith) ∙ ap (λ (t : List ℕ). getD s at 0 ∷ t) (next s (at + 1) (at + 2) h (omega arith))
+
+  pub at3 : at + 2 < length s → drop at s ≡ getD s at 0 ∷ getD s (at + 1) 0 ∷ getD s (at + 2) 0 ∷ drop (at + 3) s
+  at3 h = at2 (omega arith) ∙ ap (λ (t : List ℕ). getD s at 0 ∷ getD s (at + 1) 0 ∷ t) (next s (at + 2) (at + 3) h (omega arith))
+
+pub none : (s : List ℕ) (e : ℕ) → e ≡ 0 → reverse (take e s) ≡ []
+none s e h = rw h refl
+
+module _ (s : List ℕ) (e : ℕ) (h : e ≤ length s) where
+  pub before1 : 0 < e → reverse (take e s) ≡ getD s (e - 1) 0 ∷ reverse (take (e - 1) s)
+  before1 k = last s e (e - 1) (omega arith) (omega arith)
+
+  pub before2 : 1 < e → reverse (take e s) ≡ getD s (e - 1) 0 ∷ getD s (e - 2) 0 ∷ reverse (take (e - 2) s)
+  before2 k = before1 (omega arith) ∙ ap (λ (t : List ℕ). getD s (e - 1) 0 ∷ t) (last s (e - 1) (e - 2) (omega arith) (omega arith))
+
+  pub before3 : 2 < e → reverse (take e s) ≡ getD s (e - 1) 0 ∷ getD s (e - 2) 0 ∷ getD s (e - 3) 0 ∷ reverse (take (e - 3) s)
+  before3 k = before2 (omega arith) ∙ ap (λ (t : List ℕ). getD s (e - 1) 0 ∷ getD s (e - 2) 0 ∷ t) (last s (e - 2) (e - 3) (omega arith) (omega arith))
