@@ -9,18 +9,21 @@ use native.Mathlib.Nat.{le-trans}
 use Rattle.byte.proofs.Parts.{next}
 use Rattle.byte.proofs.Tests.{by-leb}
 use Rattle.utf8.specs.Utf8.{utf8, two, three, four}
-use Rattle.utf8.specs.Passed.{Width, Largest}
+use Rattle.utf8.specs.Passed.{Step, Largest}
 use Rattle.utf8.proofs.Lead.{one-is, two-is, three-is, four-is, two-short, three-short, four-short}
 
 module _ (s : List ℕ) (at : ℕ) (h : at < length s) where
-  -- a character of n bytes, or none
-  pub chosen : (n : ℕ) (p : Bool) → 0 < n → at + n ≤ length s → utf8 (drop at s) ≡ cond p (utf8 (drop (at + n) s)) false → p ≡ true → Width s at n
-  chosen n p z g e q = record { fits = g; none = λ x. absurd (omega arith); some = λ _. e ∙ ap (λ (b : Bool). cond b (utf8 (drop (at + n) s)) false) q }
+  pub passed : (n : ℕ) → 0 < n → at + n ≤ length s → utf8 (drop at s) ≡ utf8 (drop (at + n) s) → Step s at n
+  passed n z g e = record { fits = g; none = λ x. absurd (omega arith); some = λ _. e }
 
-  pub missing : utf8 (drop at s) ≡ false → Width s at 0
+  -- a character of n bytes, or none
+  pub chosen : (n : ℕ) (p : Bool) → 0 < n → at + n ≤ length s → utf8 (drop at s) ≡ cond p (utf8 (drop (at + n) s)) false → p ≡ true → Step s at n
+  chosen n p z g e q = passed n z g (e ∙ ap (λ (b : Bool). cond b (utf8 (drop (at + n) s)) false) q)
+
+  pub missing : utf8 (drop at s) ≡ false → Step s at 0
   missing e = record { fits = omega arith; none = λ _. e; some = λ x. absurd (x refl) }
 
-  pub refused : (n : ℕ) (p : Bool) → utf8 (drop at s) ≡ cond p (utf8 (drop (at + n) s)) false → p ≡ false → Width s at 0
+  pub refused : (n : ℕ) (p : Bool) → utf8 (drop at s) ≡ cond p (utf8 (drop (at + n) s)) false → p ≡ false → Step s at 0
   refused n p e q = missing (e ∙ ap (λ (b : Bool). cond b (utf8 (drop (at + n) s)) false) q)
 
   first : drop at s ≡ getD s at 0 ∷ drop (at + 1) s
@@ -40,7 +43,7 @@ module _ (s : List ℕ) (at : ℕ) (h : at < length s) where
       third (omega arith)
       ∙ ap (λ (t : List ℕ). getD s at 0 ∷ getD s (at + 1) 0 ∷ getD s (at + 2) 0 ∷ t) (next s (at + 3) (at + 4) (omega arith) (omega arith))
 
-  pub at-one : getD s at 0 ≤ 0x7F → Width s at 1
+  pub at-one : getD s at 0 ≤ 0x7F → Step s at 1
   at-one e = chosen 1 true (omega arith) (omega arith) (ap utf8 first ∙ one-is (getD s at 0) (drop (at + 1) s) e) refl
 
   pub at-two : at + 2 ≤ length s → 0x7F < getD s at 0 → getD s at 0 ≤ 0xDF → utf8 (drop at s) ≡ cond (two (getD s at 0) (getD s (at + 1) 0)) (utf8 (drop (at + 2) s)) false
@@ -54,13 +57,13 @@ module _ (s : List ℕ) (at : ℕ) (h : at < length s) where
       → utf8 (drop at s) ≡ cond (four (getD s at 0) (getD s (at + 1) 0) (getD s (at + 2) 0) (getD s (at + 3) 0)) (utf8 (drop (at + 4) s)) false
   at-four g a = ap utf8 (fourth g) ∙ four-is (getD s at 0) (getD s (at + 1) 0) (getD s (at + 2) 0) (getD s (at + 3) 0) (drop (at + 4) s) a
 
-  pub short-two : length s - at < 2 → 0x7F < getD s at 0 → Width s at 0
+  pub short-two : length s - at < 2 → 0x7F < getD s at 0 → Step s at 0
   short-two g a = missing (ap utf8 first ∙ two-short (getD s at 0) (drop (at + 1) s) a (left 1 g))
 
-  pub short-three : length s - at < 3 → 0xDF < getD s at 0 → Width s at 0
+  pub short-three : length s - at < 3 → 0xDF < getD s at 0 → Step s at 0
   short-three g a = missing (ap utf8 first ∙ three-short (getD s at 0) (drop (at + 1) s) a (left 2 g))
 
-  pub short-four : length s - at < 4 → 0xEF < getD s at 0 → Width s at 0
+  pub short-four : length s - at < 4 → 0xEF < getD s at 0 → Step s at 0
   short-four g a = missing (ap utf8 first ∙ four-short (getD s at 0) (drop (at + 1) s) a (left 3 g))
 
 -- bytes that are ASCII are passed

@@ -1,4 +1,5 @@
 pub mod Lead
+pub mod Second
 pub mod Laws
 pub mod Encoding
 pub mod Examples

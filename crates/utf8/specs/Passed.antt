@@ -6,8 +6,8 @@ use mathlib.Core.Bool.{Bool, true, false}
 use lib.ListN.{length, getD, drop}
 use Rattle.utf8.specs.Utf8.{utf8}
 
--- the character at a position has n bytes, or n is 0 and the text is not UTF-8 from there on
-pub record Width (s : List ℕ) (at n : ℕ) : Type 0 where
+-- n bytes are passed at a position, or n is 0 and the text is not UTF-8 from there on
+pub record Step (s : List ℕ) (at n : ℕ) : Type 0 where
   pub fits : at + n ≤ length s
   pub none : n ≡ 0 → utf8 (drop at s) ≡ false
   pub some : (n ≡ 0 → ⊥) → utf8 (drop at s) ≡ utf8 (drop (at + n) s)
@@ -23,7 +23,7 @@ pub record Passed (s : List ℕ) (at end next : ℕ) : Type 0 where
 pub record Largest (s : List ℕ) (at n m : ℕ) : Type 0 where
   pub most : (k : ℕ) → k < n → getD s (at + k) 0 ≤ m
 
--- where it is said to be one, a block of 32 bytes is passed
-pub record AsciiBlock (s : List ℕ) (at : ℕ) (r : Bool) : Type 0 where
-  pub fits : r ≡ true → at + 32 ≤ length s
-  pub same : r ≡ true → utf8 (drop at s) ≡ utf8 (drop (at + 32) s)
+-- where it is said, n bytes are passed
+pub record Ascii (s : List ℕ) (at n : ℕ) (r : Bool) : Type 0 where
+  pub fits : r ≡ true → at + n ≤ length s
+  pub same : r ≡ true → utf8 (drop at s) ≡ utf8 (drop (at + n) s)

@@ -18,13 +18,13 @@ abbrev μ-loop : tie.MeasureT-loop
 loop-holds : tie.Need-loop-holds Inv-loop μ-loop
 loop-holds c = (omega arith, omega arith, refl)
 
-width-requires : tie.Need-width-requires Inv-loop μ-loop
-width-requires c κs = search needs
+step-requires : tie.Need-step-requires Inv-loop μ-loop
+step-requires c κs = search needs
 
 returns : tie.Need-returns Inv-loop μ-loop
 returns c =
     let l = c .before .before .before in
-    record { on = l .loop .inv .0; fits = l .loop .inv .1; same = l .loop .inv .2; stopped = λ _. c .before .width .ensures .none (c .if1 .taken) }
+    record { on = l .loop .inv .0; fits = l .loop .inv .1; same = l .loop .inv .2; stopped = λ _. c .before .step .ensures .none (c .if1 .taken) }
 
 add-i : tie.Need-add-i Inv-loop μ-loop
 add-i c = search needs
@@ -33,7 +33,7 @@ loop-less : tie.Need-loop-less Inv-loop μ-loop
 loop-less c = search needs
 
 loop-again : tie.Need-loop-again Inv-loop μ-loop
-loop-again c = (omega arith, omega arith, c .before .before .before .loop .inv .2 ∙ c .before .width .ensures .some (c .if1 .left))
+loop-again c = (omega arith, omega arith, c .before .before .before .loop .inv .2 ∙ c .before .step .ensures .some (c .if1 .left))
 
 returns-2 : tie.Need-returns-2 Inv-loop μ-loop
 returns-2 c =
@@ -47,7 +47,7 @@ characters-spec =
     Inv-loop
     μ-loop
     loop-holds
-    width-requires
+    step-requires
     returns
     add-i
     loop-less

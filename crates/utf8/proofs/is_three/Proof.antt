@@ -1,102 +1,35 @@
+-- `utf8::is_three` meets its contract: by the range of the second byte.
+-- Assumes nothing.
+use Rattle.utf8.proofs.Second.{three-by}
 use borrow.Author.Needs.{needs}
 use Rattle.utf8.proofs.is_three.Statement.{statement}
 use Rattle.utf8.proofs.is_three.Tie as tie
-use Rattle.utf8.proofs.is_three.Reads as reads
-use Rattle.utf8.proofs.is_three.Lts as lts
-use Rattle.byte.proofs.both.Reads as both-reads
-use Rattle.byte.proofs.either.Reads as either-reads
-use Rattle.byte.proofs.in_range.Reads as in-range-reads
-use Rattle.utf8.proofs.is_tail.Reads as is-tail-reads
+
+pick-requires : tie.Need-pick-requires
+pick-requires c κs = search needs
+
+pick-requires-2 : tie.Need-pick-requires-2
+pick-requires-2 c κs = search needs
 
 in-range-requires : tie.Need-in-range-requires
 in-range-requires c κs = search needs
 
-both-requires : tie.Need-both-requires
-both-requires c κs = search needs
-
 is-tail-requires : tie.Need-is-tail-requires
 is-tail-requires c κs = search needs
 
-both-requires-2 : tie.Need-both-requires-2
-both-requires-2 c κs = search needs
-
-in-range-requires-2 : tie.Need-in-range-requires-2
-in-range-requires-2 c κs = search needs
-
-is-tail-requires-2 : tie.Need-is-tail-requires-2
-is-tail-requires-2 c κs = search needs
-
-both-requires-3 : tie.Need-both-requires-3
-both-requires-3 c κs = search needs
-
-is-tail-requires-3 : tie.Need-is-tail-requires-3
-is-tail-requires-3 c κs = search needs
-
-both-requires-4 : tie.Need-both-requires-4
-both-requires-4 c κs = search needs
-
-in-range-requires-3 : tie.Need-in-range-requires-3
-in-range-requires-3 c κs = search needs
-
-both-requires-5 : tie.Need-both-requires-5
-both-requires-5 c κs = search needs
-
-is-tail-requires-4 : tie.Need-is-tail-requires-4
-is-tail-requires-4 c κs = search needs
-
-both-requires-6 : tie.Need-both-requires-6
-both-requires-6 c κs = search needs
-
-in-range-requires-4 : tie.Need-in-range-requires-4
-in-range-requires-4 c κs = search needs
-
-is-tail-requires-5 : tie.Need-is-tail-requires-5
-is-tail-requires-5 c κs = search needs
-
-both-requires-7 : tie.Need-both-requires-7
-both-requires-7 c κs = search needs
-
-is-tail-requires-6 : tie.Need-is-tail-requires-6
-is-tail-requires-6 c κs = search needs
-
-both-requires-8 : tie.Need-both-requires-8
-both-requires-8 c κs = search needs
-
-either-requires : tie.Need-either-requires
-either-requires c κs = search needs
-
-either-requires-2 : tie.Need-either-requires-2
-either-requires-2 c κs = search needs
-
-either-requires-3 : tie.Need-either-requires-3
-either-requires-3 c κs = search needs
+both-requires : tie.Need-both-requires
+both-requires c κs = search needs
 
 returns : tie.Need-returns
-returns c = cc
+returns c = let a = c .before .before .before .before .before in cc (three-by (a .args .a) (a .args .b) (a .args .c) (a .pre .0) (a .pre .1))
 
 pub is-three-spec : {M : Type 1} → statement M
 is-three-spec =
     tie.close
     (tie.spec
+    pick-requires
+    pick-requires-2
     in-range-requires
-    both-requires
     is-tail-requires
-    both-requires-2
-    in-range-requires-2
-    is-tail-requires-2
-    both-requires-3
-    is-tail-requires-3
-    both-requires-4
-    in-range-requires-3
-    both-requires-5
-    is-tail-requires-4
-    both-requires-6
-    in-range-requires-4
-    is-tail-requires-5
-    both-requires-7
-    is-tail-requires-6
-    both-requires-8
-    either-requires
-    either-requires-2
-    either-requires-3
+    both-requires
     returns)

@@ -18,18 +18,18 @@ abbrev μ-loop : tie.MeasureT-loop
 loop-holds : tie.Need-loop-holds Inv-loop μ-loop
 loop-holds c = search needs
 
-is-ascii-block-requires : tie.Need-is-ascii-block-requires Inv-loop μ-loop
-is-ascii-block-requires c κs = search needs
+is-ascii-requires : tie.Need-is-ascii-requires Inv-loop μ-loop
+is-ascii-requires c κs = search needs
 
 add-i : tie.Need-add-i Inv-loop μ-loop
-add-i c = let h = c .before .is-ascii-block .ensures .fits (c .if1 .taken) in omega arith
+add-i c = let h = c .before .is-ascii .ensures .fits (c .if1 .taken) in omega arith
 
 loop-less : tie.Need-loop-less Inv-loop μ-loop
-loop-less c = let h = c .before .is-ascii-block .ensures .fits (c .if1 .taken) in omega arith
+loop-less c = let h = c .before .is-ascii .ensures .fits (c .if1 .taken) in omega arith
 
 loop-again : tie.Need-loop-again Inv-loop μ-loop
 loop-again c =
-    (c .before .is-ascii-block .ensures .fits (c .if1 .taken), c .before .before .before .loop .inv .1 ∙ c .before .is-ascii-block .ensures .same (c .if1 .taken))
+    (c .before .is-ascii .ensures .fits (c .if1 .taken), c .before .before .before .loop .inv .1 ∙ c .before .is-ascii .ensures .same (c .if1 .taken))
 
 block-end-requires : tie.Need-block-end-requires Inv-loop μ-loop
 block-end-requires c κs = search needs
@@ -59,7 +59,7 @@ is-utf8-spec =
     Inv-loop
     μ-loop
     loop-holds
-    is-ascii-block-requires
+    is-ascii-requires
     add-i
     loop-less
     loop-again

@@ -11,10 +11,10 @@ use Rattle.utf8.proofs.largest.Statement.{statement}
 use Rattle.utf8.proofs.largest.Tie as tie
 
 abbrev Inv-loop : tie.InvT-loop
-Inv-loop s at most₀ k₀ most k = (k ≤ 32) × (Largest s at k most)
+Inv-loop s at n most₀ k₀ most k = (k ≤ n) × (Largest s at k most)
 
 abbrev μ-loop : tie.MeasureT-loop
-μ-loop s at most₀ k₀ most k = 32 - k
+μ-loop s at n most₀ k₀ most k = n - k
 
 loop-holds : tie.Need-loop-holds Inv-loop μ-loop
 loop-holds c = let a = c .before .args in (omega arith, none-larger (now (a .s)) (a .at))
@@ -42,7 +42,7 @@ loop-again c =
 returns : tie.Need-returns Inv-loop μ-loop
 returns c =
     let l = c .before in
-    let z : l .loop .k ≡ 32 = omega arith in rw z at (l .loop .inv .1)
+    let z : l .loop .k ≡ l .before .before .args .n = omega arith in rw z at (l .loop .inv .1)
 
 pub largest-spec : {M : Type 1} → statement M
 largest-spec =

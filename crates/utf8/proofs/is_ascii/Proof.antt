@@ -1,4 +1,4 @@
--- `utf8::is_ascii_block` meets its contract: a block whose largest byte is ASCII is passed.
+-- `utf8::is_ascii` meets its contract: a block whose largest byte is ASCII is passed.
 -- Assumes nothing.
 use Prim.Native.Nat.{_≤_}
 use borrow.Author.Tests.{leb-true}
@@ -7,8 +7,8 @@ use denote.Ref.{now}
 use Rattle.byte.proofs.Tests.{never}
 use Rattle.utf8.proofs.Laws.{ascii}
 use borrow.Author.Needs.{needs}
-use Rattle.utf8.proofs.is_ascii_block.Statement.{statement}
-use Rattle.utf8.proofs.is_ascii_block.Tie as tie
+use Rattle.utf8.proofs.is_ascii.Statement.{statement}
+use Rattle.utf8.proofs.is_ascii.Tie as tie
 
 sub-if1 : tie.Need-sub-if1
 sub-if1 c = search needs
@@ -22,7 +22,7 @@ largest-requires c κs = search needs
 returns-2 : tie.Need-returns-2
 returns-2 c =
     let a = c .before .before .before in
-    record { fits = λ e. omega arith; same = λ e. ascii 32 (now (a .args .s)) (a .args .at) (c .largest .result) (omega arith) (c .largest .ensures) (leb-true _ _ e) }
+    record { fits = λ e. omega arith; same = λ e. ascii (a .args .n) (now (a .args .s)) (a .args .at) (c .largest .result) (omega arith) (c .largest .ensures) (leb-true _ _ e) }
 
-pub is-ascii-block-spec : {M : Type 1} → statement M
-is-ascii-block-spec = tie.close (tie.spec sub-if1 returns largest-requires returns-2)
+pub is-ascii-spec : {M : Type 1} → statement M
+is-ascii-spec = tie.close (tie.spec sub-if1 returns largest-requires returns-2)

@@ -1,4 +1,4 @@
--- `utf8::width3` meets its contract: its alternative of UTF8-char is the only one for such a first byte.
+-- `utf8::step3` meets its contract: its alternative of UTF8-char is the only one for such a first byte.
 -- Assumes nothing.
 use Prim.Native.Nat.{_+_}
 use mathlib.Core.Path.{sym, _∙_}
@@ -8,8 +8,8 @@ use denote.Ref.{now}
 use Rattle.utf8.specs.Utf8.{three}
 use Rattle.utf8.proofs.Laws.{chosen, refused, at-three, short-three}
 use borrow.Author.Needs.{needs}
-use Rattle.utf8.proofs.width3.Statement.{statement}
-use Rattle.utf8.proofs.width3.Tie as tie
+use Rattle.utf8.proofs.step3.Statement.{statement}
+use Rattle.utf8.proofs.step3.Tie as tie
 
 sub-if1 : tie.Need-sub-if1
 sub-if1 c = search needs
@@ -52,8 +52,8 @@ returns-3 c =
     refused s at (omega arith) 3 (three (getD s at 0) (getD s (at + 1) 0) (getD s (at + 2) 0)) (at-three s at (omega arith) (omega arith) (a .pre .1 .0) (a .pre .1 .1))
     (sym (c .before .is-three .ensures) ∙ c .if2 .left)
 
-pub width3-spec : {M : Type 1} → statement M
-width3-spec =
+pub step3-spec : {M : Type 1} → statement M
+step3-spec =
     tie.close
     (tie.spec
     sub-if1

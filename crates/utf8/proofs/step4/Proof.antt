@@ -1,4 +1,4 @@
--- `utf8::width4` meets its contract: its alternative of UTF8-char is the only one for such a first byte.
+-- `utf8::step4` meets its contract: its alternative of UTF8-char is the only one for such a first byte.
 -- Assumes nothing.
 use Prim.Native.Nat.{_+_}
 use mathlib.Core.Path.{sym, _∙_}
@@ -8,8 +8,8 @@ use denote.Ref.{now}
 use Rattle.utf8.specs.Utf8.{four}
 use Rattle.utf8.proofs.Laws.{chosen, refused, at-four, short-four}
 use borrow.Author.Needs.{needs}
-use Rattle.utf8.proofs.width4.Statement.{statement}
-use Rattle.utf8.proofs.width4.Tie as tie
+use Rattle.utf8.proofs.step4.Statement.{statement}
+use Rattle.utf8.proofs.step4.Tie as tie
 
 sub-if1 : tie.Need-sub-if1
 sub-if1 c = search needs
@@ -58,8 +58,8 @@ returns-3 c =
     refused s at (omega arith) 4 (four (getD s at 0) (getD s (at + 1) 0) (getD s (at + 2) 0) (getD s (at + 3) 0)) (at-four s at (omega arith) (omega arith) (a .pre .1))
     (sym (c .before .is-four .ensures) ∙ c .if2 .left)
 
-pub width4-spec : {M : Type 1} → statement M
-width4-spec =
+pub step4-spec : {M : Type 1} → statement M
+step4-spec =
     tie.close
     (tie.spec
     sub-if1

@@ -1,4 +1,4 @@
--- `utf8::width2` meets its contract: its alternative of UTF8-char is the only one for such a first byte.
+-- `utf8::step2` meets its contract: its alternative of UTF8-char is the only one for such a first byte.
 -- Assumes nothing.
 use Prim.Native.Nat.{_+_}
 use mathlib.Core.Path.{sym, _∙_}
@@ -8,8 +8,8 @@ use denote.Ref.{now}
 use Rattle.utf8.specs.Utf8.{two}
 use Rattle.utf8.proofs.Laws.{chosen, refused, at-two, short-two}
 use borrow.Author.Needs.{needs}
-use Rattle.utf8.proofs.width2.Statement.{statement}
-use Rattle.utf8.proofs.width2.Tie as tie
+use Rattle.utf8.proofs.step2.Statement.{statement}
+use Rattle.utf8.proofs.step2.Tie as tie
 
 sub-if1 : tie.Need-sub-if1
 sub-if1 c = search needs
@@ -46,8 +46,8 @@ returns-3 c =
     refused s at (omega arith) 2 (two (getD s at 0) (getD s (at + 1) 0)) (at-two s at (omega arith) (omega arith) (a .pre .1 .0) (a .pre .1 .1))
     (sym (c .before .is-two .ensures) ∙ c .if2 .left)
 
-pub width2-spec : {M : Type 1} → statement M
-width2-spec =
+pub step2-spec : {M : Type 1} → statement M
+step2-spec =
     tie.close
     (tie.spec
     sub-if1
