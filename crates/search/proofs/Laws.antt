@@ -2,14 +2,16 @@
 use Prim.Native.Nat.{ℕ, zero, suc, _+_, _<_, _≤_}
 use mathlib.Core.Path.{_≡_, refl, sym, ap, _∙_}
 use mathlib.Core.List.{List, [], _∷_}
-use mathlib.Core.Bool.{true, false}
+use mathlib.Core.Bool.{Bool, true, false, _||_}
 use borrow.Author.Tests.{le-leb, lt-leb}
 use native.Mathlib.Omega.{arith}
 use lib.ListN.{length, getD, drop, drop-of-length-le, length-drop}
-use Rattle.byte.proofs.Tests.{by-bool, by-leb, by-eqb}
+use Rattle.byte.proofs.Tests.{by-bool, by-leb, by-eqb, never}
 use Rattle.byte.proofs.Parts.{next}
+use Rattle.search.specs.declared.Found.{Found}
 use Rattle.search.specs.declared.Found.the-variants.{At, Nothing}
 use Rattle.search.specs.First.{prefixOf, firstFrom, firstAt, First}
+use Rattle.search.specs.Scan.{orElse, Clear}
 use Rattle.search.proofs.Prefix.{fits, too-long}
 
 nowhere : {P : Type 0} (i : ℕ) → Nothing ≡ At i → P
@@ -90,6 +92,19 @@ module _ (p s : List ℕ) where
       (λ y. nowhere at (sym e ∙ hit at h y))
       (λ n. by-eqb at j (λ q. rw (← q) n) (λ q. more (omega arith) (sym (miss at n) ∙ e))))
       at a e
+
+  -- no place is passed
+  pub none-yet : (at : ℕ) (r : Bool) → Clear p s at (at + 0) r
+  none-yet at r e = let z : at ≡ at + 0 = omega arith in ap (firstAt p s) z
+
+  -- one place more, by a test that is yes wherever p stands
+  pub one-more : (at i j : ℕ) (hit t : Bool) → Clear p s at i hit → (t ≡ false → prefixOf p (drop i s) ≡ false) → j ≡ i + 1 → Clear p s at j (hit || t)
+  one-more at i j true t c f n e = never (sym e)
+  one-more at i j false t c f n e = c refl ∙ miss i (f e) ∙ ap (firstAt p s) (sym n)
+
+pub or-nothing : (f : Found) → orElse f Nothing ≡ f
+or-nothing (At i) = refl
+or-nothing Nothing = refl
 
 pub empty : (s : List ℕ) (at : ℕ) → at ≤ length s → firstAt [] s at ≡ At at
 empty s at h = hit [] s at h refl

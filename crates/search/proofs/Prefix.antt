@@ -6,7 +6,8 @@ use mathlib.Core.Bool.{true, false}
 use borrow.Author.Tests.{eq-eqb, ne-eqb}
 use native.Mathlib.Omega.{arith}
 use lib.Dec.{eqb}
-use lib.ListN.{length, getD, drop, drop-of-length-le, length-append, length-drop}
+use lib.ListN.{length, getD, drop, drop-of-length-le, length-append, length-drop, List·getD-append}
+use lib.Seq.{getD-drop}
 use Rattle.byte.proofs.Tests.{by-bool, by-leb, by-eqb, never}
 use Rattle.byte.proofs.Parts.{next}
 use Rattle.search.specs.First.{prefixOf}
@@ -62,7 +63,17 @@ module _ (p s : List ℕ) (j i k : ℕ) (in-p : j < length p) (in-s : i < length
   pub other-at : (getD p j 0 ≡ getD s i 0 → ⊥) → prefixOf (drop j p) (drop i s) ≡ false
   other-at h = heads ∙ other (getD p j 0) (getD s i 0) (drop (j + 1) p) (drop k s) h
 
+-- where p stands, each of its bytes does
+pub each : (p s : List ℕ) (i j k : ℕ) → prefixOf p (drop i s) ≡ true → j < length p → k ≡ i + j → eqb (getD s k 0) (getD p j 0) ≡ true
+each p s i j k e h n =
+    eq-eqb _ _ (ap (λ (m : ℕ). getD s m 0) n ∙ sym (getD-drop i s j 0) ∙ ap (λ (t : List ℕ). getD t j 0) (split p (drop i s) e) ∙ List·getD-append p (drop (length p) (drop i s)) 0 j h)
+
 -- one byte
+pub single : (p : List ℕ) → length p ≡ 1 → getD p 0 0 ∷ [] ≡ p
+single [] e = absurd (omega arith)
+single (a ∷ []) e = refl
+single (a ∷ b ∷ p) e = absurd (omega arith)
+
 module _ (b : ℕ) (s : List ℕ) (i : ℕ) where
   pub byte-yes : i < length s → getD s i 0 ≡ b → prefixOf (b ∷ []) (drop i s) ≡ true
   byte-yes h e = same-at (b ∷ []) s 0 i (i + 1) (omega arith) h refl (sym e)

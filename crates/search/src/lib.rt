@@ -1,25 +1,37 @@
 // The first occurrence of a byte, and of a byte string, in a slice from a place on.
+// Whole blocks of places are passed by tests that have no branch and compile to vector code.
+use byte::both;
+use byte::either;
 ghost use mathlib.Core.Path.{_≡_};
 ghost use mathlib.Core.List.{[], _∷_};
-ghost use Prim.Native.Nat.{_+_, _≤_};
+ghost use mathlib.Core.Bool.{true};
+ghost use Prim.Native.Nat.{_+_, _<_, _≤_};
 ghost use lib.Dec.{leb};
 ghost use lib.ListN.{length, drop};
 ghost use Rattle.search.specs.First.{prefixOf, firstAt};
+ghost use Rattle.search.specs.Scan.{orElse, Places, Passed, Clear};
+
+// How many places a block has.
+const BLOCK: usize = 16;
 
 pub enum Found {
     At(usize),
     Nothing,
 }
 
+// A byte that is near is found quicker by the plain loop, so the blocks start behind the first.
 pub fn find_byte(s: &[u8], b: u8, at: usize) -> Found
     ensures { λ r. ⌜ r ≡ firstAt (b ∷ []) (now (s .entry)) at ⌝ }
 {
-    for i in at..s.len() {
-        if s[i] == b {
-            return Found::At(i);
-        }
+    if s.len() <= at {
+        return Found::Nothing;
     }
-    Found::Nothing
+    let near = block_end(at, s.len());
+    let found = byte_before(s, b, at, near);
+    match found {
+        Found::At(i) => Found::At(i),
+        Found::Nothing => find_by_blocks(s, b, near),
+    }
 }
 
 pub fn starts_with(s: &[u8], p: &[u8], at: usize) -> bool
@@ -41,23 +53,129 @@ pub fn find(s: &[u8], p: &[u8], at: usize) -> Found
     if p.len() == 0 {
         return Found::At(at);
     }
-    let first = p[0];
-    let last = s.len() - p.len();
-    let mut i = at;
-    while i <= last {
-        if s[i] == first && stands(s, p, i) {
+    if p.len() == 1 {
+        return find_by_blocks(s, p[0], at);
+    }
+    find_string(s, p, at)
+}
+
+fn find_by_blocks(s: &[u8], b: u8, at: usize) -> Found
+    requires { ⌜ at ≤ length (now s) ⌝ }
+    ensures { λ r. ⌜ r ≡ firstAt (b ∷ []) (now (s .entry)) at ⌝ }
+{
+    let block = pass_blocks(s, b, at);
+    byte_before(s, b, block, s.len())
+}
+
+// Passes blocks as long as they are without b.
+fn pass_blocks(s: &[u8], b: u8, at: usize) -> usize
+    requires { ⌜ at ≤ length (now s) ⌝ }
+    ensures { λ r. ⌜ Passed (b ∷ []) (now (s .entry)) at r ⌝ }
+{
+    let mut block = at;
+    while has_room(s, BLOCK, block) {
+        if has_byte(s, b, block, BLOCK) {
+            return block;
+        }
+        block += BLOCK;
+    }
+    block
+}
+
+// Whether b is among the n bytes from a place on.
+fn has_byte(s: &[u8], b: u8, at: usize, n: usize) -> bool
+    requires { ⌜ at + n ≤ length (now s) ⌝ }
+    ensures { λ r. ⌜ Clear (b ∷ []) (now (s .entry)) at (at + n) r ⌝ }
+{
+    let mut hit = false;
+    let mut k: usize = 0;
+    while k < n {
+        hit = either(hit, s[at + k] == b);
+        k += 1;
+    }
+    hit
+}
+
+// The first place before end at which b stands.
+fn byte_before(s: &[u8], b: u8, at: usize, end: usize) -> Found
+    requires { ⌜ (at ≤ end) × (end ≤ length (now s)) ⌝ }
+    ensures { λ r. ⌜ firstAt (b ∷ []) (now (s .entry)) at ≡ orElse r (firstAt (b ∷ []) (now (s .entry)) end) ⌝ }
+{
+    for i in at..end {
+        if s[i] == b {
             return Found::At(i);
         }
-        i += 1;
     }
     Found::Nothing
 }
 
-// Whether n bytes or more are left from a place on.
-fn has_room(s: &[u8], n: usize, at: usize) -> bool
-    ensures { λ r. ⌜ r ≡ leb (at + n) (length (now (s .entry))) ⌝ }
+fn find_string(s: &[u8], p: &[u8], at: usize) -> Found
+    requires { ⌜ Places (now p) (now s) at (at + 1) ⌝ }
+    ensures { λ r. ⌜ r ≡ firstAt (now (p .entry)) (now (s .entry)) at ⌝ }
 {
-    n <= s.len() && at <= s.len() - n
+    let stop = s.len() - p.len() + 1;
+    let mut i = at;
+    while i < stop {
+        let end = block_end(i, stop);
+        if may_stand(s, p, i, end) {
+            let found = string_before(s, p, i, end);
+            if let Found::At(j) = found {
+                return Found::At(j);
+            }
+        }
+        i = end;
+    }
+    Found::Nothing
+}
+
+// Whether p may stand at a place before end. Of less than a block nothing is known.
+fn may_stand(s: &[u8], p: &[u8], at: usize, end: usize) -> bool
+    requires { ⌜ Places (now p) (now s) at end ⌝ }
+    ensures { λ r. ⌜ Clear (now (p .entry)) (now (s .entry)) at end r ⌝ }
+{
+    if end - at != BLOCK {
+        return true;
+    }
+    any_agrees(s, p, at, BLOCK)
+}
+
+// Whether p agrees at one of the n places from a place on.
+fn any_agrees(s: &[u8], p: &[u8], at: usize, n: usize) -> bool
+    requires { ⌜ Places (now p) (now s) at (at + n) ⌝ }
+    ensures { λ r. ⌜ Clear (now (p .entry)) (now (s .entry)) at (at + n) r ⌝ }
+{
+    let mut hit = false;
+    let mut k: usize = 0;
+    while k < n {
+        hit = either(hit, agrees(s, p, at + k));
+        k += 1;
+    }
+    hit
+}
+
+// Whether the first, the middle and the last byte of p stand where they do if p stands at a place.
+fn agrees(s: &[u8], p: &[u8], at: usize) -> bool
+    requires { ⌜ Places (now p) (now s) at (at + 1) ⌝ }
+    ensures { λ r. ⌜ (prefixOf (now (p .entry)) (drop at (now (s .entry))) ≡ true → r ≡ true) ⌝ }
+{
+    let middle = p.len() / 2;
+    let last = p.len() - 1;
+    let ends = both(s[at] == p[0], s[at + last] == p[last]);
+    both(ends, s[at + middle] == p[middle])
+}
+
+// The first place before end at which p stands.
+fn string_before(s: &[u8], p: &[u8], at: usize, end: usize) -> Found
+    requires { ⌜ Places (now p) (now s) at end ⌝ }
+    ensures { λ r. ⌜ firstAt (now (p .entry)) (now (s .entry)) at ≡ orElse r (firstAt (now (p .entry)) (now (s .entry)) end) ⌝ }
+{
+    let first = p[0];
+    for i in at..end {
+        if s[i] == first && stands(s, p, i) {
+            return Found::At(i);
+        }
+    }
+    Found::Nothing
 }
 
 // Whether p stands at a place that has room for it.
@@ -73,4 +191,19 @@ fn stands(s: &[u8], p: &[u8], at: usize) -> bool
         j += 1;
     }
     true
+}
+
+// Where the block that starts at a place ends, or the places do.
+fn block_end(at: usize, stop: usize) -> usize
+    requires { ⌜ at < stop ⌝ }
+    ensures { λ r. ⌜ (at < r) × (r ≤ stop) ⌝ }
+{
+    if stop - at < BLOCK { stop } else { at + BLOCK }
+}
+
+// Whether n bytes or more are left from a place on.
+fn has_room(s: &[u8], n: usize, at: usize) -> bool
+    ensures { λ r. ⌜ r ≡ leb (at + n) (length (now (s .entry))) ⌝ }
+{
+    n <= s.len() && at <= s.len() - n
 }

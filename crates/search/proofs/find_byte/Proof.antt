@@ -1,60 +1,47 @@
--- `search::find_byte` meets its contract: at each place that is passed the byte does not stand, so the first place from `at` on is the first from `i` on.
-use Prim.Native.Nat.{_-_}
-use mathlib.Core.Path.{_≡_, sym, _∙_}
+-- `search::find_byte` meets its contract: the search goes on from where the near bytes end.
+use mathlib.Core.Path.{sym, _∙_}
 use mathlib.Core.List.{[], _∷_}
 use native.Mathlib.Omega.{arith}
-use lib.ListN.{length}
-use Rattle.search.specs.First.{firstAt}
-use Rattle.search.proofs.Prefix.{byte-yes, byte-no}
-use Rattle.search.proofs.Laws.{hit, miss, no-room}
+use Rattle.search.proofs.Laws.{no-room}
 use borrow.Author.Needs.{needs}
 use Rattle.search.proofs.find_byte.Statement.{statement}
 use Rattle.search.proofs.find_byte.Tie as tie
 
-abbrev Inv-loop : tie.InvT-loop
-Inv-loop s b at i₀ i-end i = firstAt (b ∷ []) s at ≡ firstAt (b ∷ []) s i
-
-abbrev μ-loop : tie.MeasureT-loop
-μ-loop s b at i₀ i-end i = length s - i
-
-loop-holds : tie.Need-loop-holds Inv-loop μ-loop
-loop-holds c = search needs
-
-shared-slice-read-if1 : tie.Need-shared-slice-read-if1 Inv-loop μ-loop
-shared-slice-read-if1 c = search needs
-
-returns : tie.Need-returns Inv-loop μ-loop
+returns : tie.Need-returns
 returns c =
-    let a = c .before .before .before .before .args in
-    let h = c .before .before .loop-test .taken in
-    sym (c .before .before .before .loop .inv ∙ hit (a .b ∷ []) (a .s .now) _ (omega arith) (byte-yes _ _ _ h (c .if1 .taken)))
-
-add-i : tie.Need-add-i Inv-loop μ-loop
-add-i c = search needs
-
-loop-less : tie.Need-loop-less Inv-loop μ-loop
-loop-less c = search needs
-
-loop-again : tie.Need-loop-again Inv-loop μ-loop
-loop-again c =
-    let a = c .before .before .before .before .args in
-    c .before .before .before .loop .inv ∙ miss (a .b ∷ []) (a .s .now) _ (byte-no _ _ _ (c .before .before .loop-test .taken) (c .if1 .left))
-
-returns-2 : tie.Need-returns-2 Inv-loop μ-loop
-returns-2 c =
     let a = c .before .before .args in
-    sym (c .before .loop .inv ∙ no-room (a .b ∷ []) (a .s .now) _ (omega arith))
+    sym (no-room (a .b ∷ []) (a .s .now) (a .at) (omega arith))
+
+block-end-requires : tie.Need-block-end-requires
+block-end-requires c κs = search needs
+
+byte-before-requires : tie.Need-byte-before-requires
+byte-before-requires c κs = search needs
+
+enum-known-found : tie.Need-enum-known-found
+enum-known-found c = search needs
+
+enum-told : tie.Need-enum-told
+enum-told c = search needs
+
+find-by-blocks-requires : tie.Need-find-by-blocks-requires
+find-by-blocks-requires c κs = search needs
+
+returns-2 : tie.Need-returns-2
+returns-2 c = sym (rw (c .before .found .given .1) at (c .before .before .before .byte-before .ensures))
+
+returns-3 : tie.Need-returns-3
+returns-3 c = c .find-by-blocks .ensures ∙ sym (rw (c .before .enum-told .given .1) at (c .before .before .before .byte-before .ensures))
 
 pub find-byte-spec : {M : Type 1} → statement M
 find-byte-spec =
     tie.close
     (tie.spec
-    Inv-loop
-    μ-loop
-    loop-holds
-    shared-slice-read-if1
     returns
-    add-i
-    loop-less
-    loop-again
-    returns-2)
+    block-end-requires
+    byte-before-requires
+    enum-known-found
+    enum-told
+    find-by-blocks-requires
+    returns-2
+    returns-3)

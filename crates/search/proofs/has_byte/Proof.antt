@@ -1,0 +1,67 @@
+-- `search::has_byte` meets its contract: while there is no hit, the byte stands at none of the places that are passed.
+use Prim.Native.Nat.{_+_, _-_, _<_, _≤_}
+use mathlib.Core.Path.{_≡_, sym, _∙_}
+use mathlib.Core.List.{[], _∷_}
+use borrow.Author.Tests.{eqb-false}
+use native.Mathlib.Omega.{arith}
+use lib.Dec.{eqb}
+use lib.ListN.{length, getD}
+use Rattle.search.specs.Scan.{Clear}
+use Rattle.search.proofs.Prefix.{byte-no}
+use Rattle.search.proofs.Laws.{none-yet, one-more}
+use borrow.Author.Needs.{needs}
+use Rattle.search.proofs.has_byte.Statement.{statement}
+use Rattle.search.proofs.has_byte.Tie as tie
+
+abbrev Inv-loop : tie.InvT-loop
+Inv-loop s b at n hit₀ k₀ hit k = (k ≤ n) × (Clear (b ∷ []) s at (at + k) hit)
+
+abbrev μ-loop : tie.MeasureT-loop
+μ-loop s b at n hit₀ k₀ hit k = n - k
+
+loop-holds : tie.Need-loop-holds Inv-loop μ-loop
+loop-holds c = let a = c .before .args in (omega arith, none-yet (a .b ∷ []) (a .s .now) (a .at) _)
+
+add-either : tie.Need-add-either Inv-loop μ-loop
+add-either c = search needs
+
+shared-slice-read-either : tie.Need-shared-slice-read-either Inv-loop μ-loop
+shared-slice-read-either c = search needs
+
+either-requires : tie.Need-either-requires Inv-loop μ-loop
+either-requires c κs = search needs
+
+add-k : tie.Need-add-k Inv-loop μ-loop
+add-k c = search needs
+
+loop-less : tie.Need-loop-less Inv-loop μ-loop
+loop-less c = search needs
+
+loop-again : tie.Need-loop-again Inv-loop μ-loop
+loop-again c =
+    let a = c .before .before .before .before .before .args in
+    let l = c .before .before .before .loop in
+    let h : a .at + l .k < length (a .s .now) = omega arith in (
+      omega arith,
+      λ e. one-more (a .b ∷ []) (a .s .now) (a .at) (a .at + l .k) (a .at + (l .k + 1)) (l .hit) (eqb (getD (a .s .now) (a .at + l .k) 0) (a .b)) (l .inv .1) (λ n. byte-no (a .b) (a .s .now) (a .at + l .k) h (eqb-false _ _ n)) (omega arith) (sym (c .either .ensures) ∙ e),
+    )
+
+returns : tie.Need-returns Inv-loop μ-loop
+returns c =
+    let l = c .before .loop in
+    let z : l .k ≡ c .before .before .before .args .n = omega arith in rw z at (l .inv .1)
+
+pub has-byte-spec : {M : Type 1} → statement M
+has-byte-spec =
+    tie.close
+    (tie.spec
+    Inv-loop
+    μ-loop
+    loop-holds
+    add-either
+    shared-slice-read-either
+    either-requires
+    add-k
+    loop-less
+    loop-again
+    returns)
