@@ -1,7 +1,4 @@
-//! Makes the vectors that crates/text_vectors replays: its `stdin` (a call and its arguments in hexadecimal, a case to a
-//! line) and its `stdout` (what Rust's own `str`, `u64` and slices answer).
-//!
-//!     rustc -O oracle/text_vectors.rs -o /tmp/text_vectors && /tmp/text_vectors crates/text_vectors
+// The cases of crates/replay that call the text floor: what Rust's own `str`, `u64` and slices answer (oracle/make).
 use std::fmt::Write;
 
 struct Cases {

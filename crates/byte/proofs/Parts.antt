@@ -3,8 +3,8 @@ use Prim.Native.Nat.{ℕ, suc, _+_, _-_, _<_, _≤_}
 use mathlib.Core.Path.{_≡_, refl, sym, ap, _∙_}
 use mathlib.Core.List.{List, [], _∷_, _++_, reverse, reverse-append}
 use native.Mathlib.Omega.{arith}
-use lib.ListN.{length, getD, take, drop, length-drop}
-use lib.Seq.{drop-cons, take-suc, take-all, length-take-le}
+use lib.ListN.{length, getD, take, drop, length-drop, take-append-drop}
+use lib.Seq.{drop-cons, drop-drop, drop-append-le, take-suc, take-all, take-at, take-append-le, length-take-le}
 
 -- one element more
 pub next : (s : List ℕ) (i j : ℕ) → i < length s → j ≡ i + 1 → drop i s ≡ getD s i 0 ∷ drop j s
@@ -28,3 +28,18 @@ from-end s i h =
 
 pub from-start : (s : List ℕ) (e : ℕ) → e ≤ length s → take e s ≡ take (length (take e s)) s
 from-start s e h = ap (λ (k : ℕ). take k s) (sym (length-take-le e s h))
+
+-- a part of a part
+pub inner : (s t : List ℕ) (j m k n i : ℕ) → t ≡ take m (drop j s) → k + n ≤ length t → i ≡ j + k → take n (drop k t) ≡ take n (drop i s)
+inner s t j m k n i e h f =
+    let u = drop m (drop j s) in
+    let p : drop j s ≡ t ++ u = sym (take-append-drop m (drop j s)) ∙ ap (λ (r : List ℕ). r ++ u) (sym e) in
+    let q : drop i s ≡ drop k t ++ u = ap (λ (l : ℕ). drop l s) f ∙ sym (drop-drop k j s) ∙ ap (drop k) p ∙ drop-append-le k t u (omega arith) in
+    sym (ap (take n) q ∙ take-append-le n (drop k t) u (omega (arith, length-drop k t)))
+
+-- what stands from a place on and before another
+pub middle : (s : List ℕ) (i e : ℕ) → i ≤ e → e ≤ length s → take (e - i) (drop i s) ≡ drop i (take e s)
+middle s i e h k =
+    let n = length-take-le e s k in
+    let p : drop i s ≡ drop i (take e s) ++ drop e s = ap (drop i) (sym (take-append-drop e s)) ∙ drop-append-le i (take e s) (drop e s) (omega arith) in
+    ap (take (e - i)) p ∙ take-at (drop i (take e s)) (drop e s) (e - i) (omega (arith, length-drop i (take e s)))

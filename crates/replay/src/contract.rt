@@ -1,0 +1,88 @@
+// What the calls that read a contract and its vector give, as text: the number of the refusal, or 0 and what was found.
+ghost use mathlib.Core.Path.{_≡_};
+ghost use Rattle.source.specs.Function.{functionRefusal};
+use super::hex;
+use source::function::Function;
+use source::function::FunctionError;
+use source::parameters::NextParameter;
+use source::vector::KeyValue;
+
+pub fn print(call: u8, a: &[u8], b: &[u8]) {
+    match call {
+        b'F' => function(a),
+        b'V' => value(source::vector::json_u64_for_key(a, b)),
+        _ => {}
+    }
+}
+
+// The parameters, and behind a bar the body.
+fn function(contract: &[u8]) {
+    let answer = source::function::find_function(contract);
+    match answer {
+        Function::Found(places) => {
+            let params_start = places.params_start;
+            let params_end = places.params_end;
+            let body_start = places.body_start;
+            let body_end = places.body_end;
+            io::write_all(1, b"0 ");
+            parameters(contract, params_start, params_end);
+            io::write_all(1, b"| ");
+            hex::print(&contract[body_start..body_end]);
+        }
+        Function::Refused(e) => {
+            io::print_decimal(1, refusal(e));
+        }
+    }
+}
+
+fn parameters(text: &[u8], from: usize, end: usize) {
+    let mut at = from;
+    while at < end {
+        let next = source::parameters::next_parameter(text, at, end);
+        let NextParameter::Is(parameter) = next else {
+            return;
+        };
+        let name_start = parameter.start;
+        let name_end = parameter.end;
+        spaced(&text[name_start..name_end]);
+        at = parameter.next;
+    }
+}
+
+fn spaced(name: &[u8]) {
+    hex::print(name);
+    io::write_all(1, b" ");
+}
+
+fn refusal(e: FunctionError) -> u64
+    ensures { λ r. ⌜ r ≡ functionRefusal e ⌝ }
+{
+    match e {
+        FunctionError::NoFunction => 3,
+        FunctionError::NoParameters => 4,
+        FunctionError::UnclosedParameters => 5,
+        FunctionError::NoBody => 6,
+        FunctionError::UnclosedBody => 7,
+    }
+}
+
+fn value(v: KeyValue) {
+    match v {
+        KeyValue::Is(n) => {
+            io::write_all(1, b"0 ");
+            io::print_decimal(1, n);
+        }
+        KeyValue::NoKey => {
+            io::print_decimal(1, 8);
+        }
+        KeyValue::NoColon => {
+            io::print_decimal(1, 9);
+        }
+        KeyValue::NoDigit => {
+            io::print_decimal(1, 10);
+        }
+        KeyValue::TooLarge => {
+            io::print_decimal(1, 11);
+        }
+    }
+}

@@ -1,0 +1,31 @@
+-- Laws of the number that a text starts with, by its digits.
+use Prim.Native.Nat.{ℕ, _^_}
+use mathlib.Core.Path.{_≡_, refl}
+use mathlib.Core.List.{List, [], _∷_}
+use mathlib.Core.Bool.{Bool, true, false, cond}
+use native.Mathlib.Omega.{arith}
+use lib.Dec.{ltb}
+use lib.ListN.{length}
+use Rattle.number.specs.Decimal.{value, capped}
+use Rattle.number.specs.declared.Value.{Value}
+use Rattle.number.specs.declared.Value.the-variants as Value
+use Rattle.source.specs.Vector.{ofDigits}
+use Rattle.source.specs.declared.vector.KeyValue.{KeyValue}
+use Rattle.source.specs.declared.vector.KeyValue.the-variants.{Is, NoDigit, TooLarge}
+
+-- the same answer in two types
+abbrev pub asKeyValue : Value → KeyValue
+asKeyValue (Value.Is n) = Is n
+asKeyValue Value.TooLarge = TooLarge
+
+pub no-digit : (ds : List ℕ) → length ds ≡ 0 → ofDigits ds ≡ NoDigit
+no-digit [] e = refl
+no-digit (d ∷ ds) e = absurd (omega arith)
+
+pub some-digits : (ds : List ℕ) → (length ds ≡ 0 → ⊥) → ofDigits ds ≡ asKeyValue (capped (value ds))
+some-digits [] h = absurd (h refl)
+some-digits (d ∷ ds) h = either (value (d ∷ ds)) (ltb (value (d ∷ ds)) (2 ^ 64))
+  where
+    either : (n : ℕ) (b : Bool) → cond b (Is n) TooLarge ≡ asKeyValue (cond b (Value.Is n) Value.TooLarge)
+    either n true = refl
+    either n false = refl

@@ -1,0 +1,62 @@
+-- `source::vector::find_quoted` meets its contract: at each place that is passed the quoted key does not stand.
+use Prim.Native.Nat.{_-_}
+use mathlib.Core.Path.{_≡_, sym, _∙_}
+use native.Mathlib.Omega.{arith}
+use lib.ListN.{length}
+use denote.Ref.{now}
+use Rattle.search.specs.First.{firstAt}
+use Rattle.search.proofs.Laws.{hit, miss, no-room}
+use Rattle.source.specs.Vector.{quoted}
+use borrow.Author.Needs.{needs}
+use Rattle.source.proofs.vector.find_quoted.Statement.{statement}
+use Rattle.source.proofs.vector.find_quoted.Tie as tie
+
+abbrev Inv-loop : tie.InvT-loop
+Inv-loop s key i₀ i-end i = firstAt (quoted key) s 0 ≡ firstAt (quoted key) s i
+
+abbrev μ-loop : tie.MeasureT-loop
+μ-loop s key i₀ i-end i = length s - i
+
+loop-holds : tie.Need-loop-holds Inv-loop μ-loop
+loop-holds c = search needs
+
+is-quoted-at-requires : tie.Need-is-quoted-at-requires Inv-loop μ-loop
+is-quoted-at-requires c κs = search needs
+
+returns : tie.Need-returns Inv-loop μ-loop
+returns c =
+    let a = c .before .before .before .before .before .before .args in
+    let l = c .before .before .before .loop in
+    sym (l .inv ∙ hit (quoted (now (a .key))) (now (a .s)) (l .i) (omega arith) (sym (c .before .is-quoted-at .ensures) ∙ c .if1 .taken))
+
+add-i : tie.Need-add-i Inv-loop μ-loop
+add-i c = search needs
+
+loop-less : tie.Need-loop-less Inv-loop μ-loop
+loop-less c = search needs
+
+loop-again : tie.Need-loop-again Inv-loop μ-loop
+loop-again c =
+    let a = c .before .before .before .before .before .before .args in
+    let l = c .before .before .before .loop in
+    l .inv ∙ miss (quoted (now (a .key))) (now (a .s)) (l .i) (sym (c .before .is-quoted-at .ensures) ∙ c .if1 .left)
+
+returns-2 : tie.Need-returns-2 Inv-loop μ-loop
+returns-2 c =
+    let a = c .before .before .before .before .args in
+    let l = c .before .loop in
+    sym (l .inv ∙ no-room (quoted (now (a .key))) (now (a .s)) (l .i) (omega arith))
+
+pub find-quoted-spec : {M : Type 1} → statement M
+find-quoted-spec =
+    tie.close
+    (tie.spec
+    Inv-loop
+    μ-loop
+    loop-holds
+    is-quoted-at-requires
+    returns
+    add-i
+    loop-less
+    loop-again
+    returns-2)

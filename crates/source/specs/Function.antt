@@ -1,0 +1,28 @@
+-- The contract's function. Every search takes the first occurrence.
+use Prim.Native.Nat.{ℕ, _+_}
+use mathlib.Core.List.{List, [], _∷_}
+use Rattle.search.specs.First.{firstAt}
+use Rattle.source.specs.declared.function.FunctionError.{FunctionError}
+use Rattle.source.specs.declared.function.FunctionError.the-variants.{NoFunction, NoParameters, UnclosedParameters, NoBody, UnclosedBody}
+use Rattle.source.specs.declared.function.Function.{Function}
+use Rattle.source.specs.declared.function.Function.the-variants.{Found, Refused}
+use Rattle.source.specs.Found.{foundOr}
+
+-- `fn `, the first `(` after it, the first `)` after that, the first `{` after that, the first `}` after that.
+-- The parameters stand between the parentheses, the body between the braces.
+abbrev pub functionOf : List ℕ → Function
+functionOf s =
+    foundOr (firstAt (0x66 ∷ 0x6E ∷ 0x20 ∷ []) s 0) (Refused NoFunction) (λ name.
+    foundOr (firstAt (0x28 ∷ []) s (name + 3)) (Refused NoParameters) (λ left.
+    foundOr (firstAt (0x29 ∷ []) s (left + 1)) (Refused UnclosedParameters) (λ right.
+    foundOr (firstAt (0x7B ∷ []) s (right + 1)) (Refused NoBody) (λ brace.
+    foundOr (firstAt (0x7D ∷ []) s (brace + 1)) (Refused UnclosedBody) (λ end.
+    Found (record { «params_start» = left + 1; «params_end» = right; «body_start» = brace + 1; «body_end» = end }))))))
+
+-- the number of each refusal
+abbrev pub functionRefusal : FunctionError → ℕ
+functionRefusal NoFunction = 3
+functionRefusal NoParameters = 4
+functionRefusal UnclosedParameters = 5
+functionRefusal NoBody = 6
+functionRefusal UnclosedBody = 7

@@ -1,0 +1,40 @@
+-- The number that a vector holds for a key. Every search takes the first occurrence; the vector is not read as JSON.
+use Prim.Native.Nat.{ℕ, _+_, _^_}
+use mathlib.Core.List.{List, [], _∷_, _++_}
+use mathlib.Core.Bool.{cond}
+use lib.Dec.{ltb}
+use lib.ListN.{length, drop}
+use Rattle.search.specs.First.{firstAt}
+use Rattle.trim.specs.Trim.{startTrimmed}
+use Rattle.number.specs.Decimal.{digits, value}
+use Rattle.source.specs.Found.{foundOr}
+use Rattle.source.specs.declared.vector.KeyValue.{KeyValue}
+use Rattle.source.specs.declared.vector.KeyValue.the-variants.{Is, NoKey, NoColon, NoDigit, TooLarge}
+
+-- a key in double quotes
+abbrev pub quoted : List ℕ → List ℕ
+quoted key = 0x22 ∷ key ++ 0x22 ∷ []
+
+-- the number that digits write, where there are any and it is below 2 ^ 64
+abbrev pub ofDigits : List ℕ → KeyValue
+ofDigits [] = NoDigit
+ofDigits (d ∷ ds) = cond (ltb (value (d ∷ ds)) (2 ^ 64)) (Is (value (d ∷ ds))) TooLarge
+
+-- the number that a text starts with
+abbrev pub leadingNumber : List ℕ → KeyValue
+leadingNumber s = ofDigits (digits s)
+
+-- the first occurrence of the key in double quotes, the first `:` after it, White_Space, digits
+abbrev pub vectorNumber : List ℕ → List ℕ → KeyValue
+vectorNumber s key =
+    foundOr (firstAt (quoted key) s 0) NoKey (λ at.
+    foundOr (firstAt (0x3A ∷ []) s (at + length (quoted key))) NoColon (λ colon.
+    leadingNumber (startTrimmed (drop (colon + 1) s))))
+
+-- the number of each refusal, 0 where there is none
+abbrev pub keyRefusal : KeyValue → ℕ
+keyRefusal (Is n) = 0
+keyRefusal NoKey = 8
+keyRefusal NoColon = 9
+keyRefusal NoDigit = 10
+keyRefusal TooLarge = 11

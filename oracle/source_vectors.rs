@@ -1,0 +1,135 @@
+// The cases of crates/replay that read a contract and its vector: what the original's `find_function` and
+// `json_u64_for_key` answer. Both are private there, so this text is compiled behind the original's (oracle/make).
+use std::fmt::Write;
+
+struct Cases {
+    input: String,
+    output: String,
+}
+
+fn hex(s: &str) -> String {
+    s.bytes().map(|b| format!("{b:02x}")).collect()
+}
+
+// The number of a refusal in document 01, by a part of the original's message.
+fn refusal(message: &str) -> String {
+    let numbers = [
+        ("no function", 3),
+        ("list missing", 4),
+        ("list is unclosed", 5),
+        ("body missing", 6),
+        ("body is unclosed", 7),
+        ("missing key", 8),
+        ("no value", 9),
+        ("not an unsigned", 10),
+        ("not u64", 11),
+    ];
+    let found = numbers.iter().find(|(part, _)| message.contains(part));
+    found.expect("a refusal of document 01").1.to_string()
+}
+
+impl Cases {
+    fn add(&mut self, call: char, a: &str, b: &str, answer: String) {
+        writeln!(self.input, "{call} {} {}", hex(a), hex(b)).unwrap();
+        writeln!(self.output, "{answer}").unwrap();
+    }
+
+    fn function(&mut self, contract: &str) {
+        let answer = match find_function(contract) {
+            Ok((names, body)) => {
+                let names: String = names.iter().map(|n| hex(n) + " ").collect();
+                format!("0 {names}| {}", hex(&body))
+            }
+            Err(message) => refusal(&message),
+        };
+        self.add('F', contract, "", answer);
+    }
+
+    fn value(&mut self, vector: &str, key: &str) {
+        let answer = match json_u64_for_key(vector, key) {
+            Ok(n) => format!("0 {n}"),
+            Err(message) => refusal(&message),
+        };
+        self.add('V', vector, key, answer);
+    }
+}
+
+// All strings over an alphabet of at most n letters.
+fn words(alphabet: &[&str], n: usize) -> Vec<String> {
+    let mut all = vec![String::new()];
+    let mut last = all.clone();
+    for _ in 0..n {
+        last = last.iter().flat_map(|w| alphabet.iter().map(move |a| format!("{w}{a}"))).collect();
+        all.extend(last.iter().cloned());
+    }
+    all
+}
+
+fn function_cases(c: &mut Cases) {
+    let signs = ["fn ", "(", ")", "{", "}"];
+    for s in words(&signs, 3) {
+        c.function(&s);
+    }
+    // a whole function: without one of its signs, with two of them exchanged, with one more at each place
+    let whole = ["fn ", "t", "(", "a", ")", " ", "{", "x", "}"];
+    for i in 0..whole.len() {
+        let mut parts = whole.to_vec();
+        parts.remove(i);
+        c.function(&parts.concat());
+        for j in 0..i {
+            let mut parts = whole.to_vec();
+            parts.swap(i, j);
+            c.function(&parts.concat());
+        }
+    }
+    for i in 0..=whole.len() {
+        for sign in signs {
+            let mut parts = whole.to_vec();
+            parts.insert(i, sign);
+            c.function(&parts.concat());
+        }
+    }
+    for s in ["fn\tt(a){}", "Fn t(a){}", "fnfn (a){}", "ffn (a){}", "fn (a\n,\nb)\n{\nreturn a\n}\n", "é fn é(é) é{é}é"] {
+        c.function(s);
+    }
+    for list in words(&["a", ",", ":", " ", "\u{3000}"], 3) {
+        c.function(&format!("fn ({list}){{}}"));
+    }
+    for list in ["a: u64, b: u64", " a b : c , d\te", "\u{2028}é\u{A0}:x,\u{85}ü\u{B}", "a,a,a", "\u{FEFF}a", "a\u{2000}:", "::a", ": a"] {
+        c.function(&format!("fn t({list}) {{ return a }}"));
+    }
+}
+
+fn value_cases(c: &mut Cases) {
+    for s in words(&["\"a\"", "\"", ":", "5", "a", " "], 3) {
+        c.value(&s, "a");
+    }
+    for key in ["a", "b", "ab", "", "expected", "é", "\"", ":", "a\":1,\"b", "a\\"] {
+        for vector in [
+            "{\"a\": 5, \"b\": 7, \"expected\": 24}",
+            "{\"expected\":1,\"a\":2,\"a\":3}",
+            "\"a\" 5, \"b\": 7",
+            "{\"aa\":1,\"ab\":2,\"b a\":3,\"\":4,\"\"\":5}",
+            "\"é\":6 \":\":7 \"a\\\":8",
+        ] {
+            c.value(vector, key);
+        }
+    }
+    for front in ["", " ", "\t\r\n", "\u{B}\u{C}", "\u{85}\u{A0}\u{3000}", "\u{FEFF}", "\u{200B}", "-", "+", "\"", "\0"] {
+        for number in ["0", "7", "007", "18446744073709551615", "18446744073709551616", "000000000000000000000018446744073709551615",
+            "99999999999999999999", "184467440737095516150", "", "x", "１"] {
+            for back in ["", "}", ".5", "e3", " 1"] {
+                c.value(&format!("{{\"k\":{front}{number}{back}"), "k");
+            }
+        }
+    }
+}
+
+fn main() {
+    let folder = std::env::args().nth(1).expect("the folder of crates/replay");
+    let mut c = Cases { input: String::new(), output: String::new() };
+    function_cases(&mut c);
+    value_cases(&mut c);
+    std::fs::write(format!("{folder}/stdin"), c.input).unwrap();
+    std::fs::write(format!("{folder}/stdout"), c.output).unwrap();
+}
