@@ -1,0 +1,150 @@
+-- One line more of the second pass.
+use Prim.Native.Nat.{ℕ, suc, _+_, _-_, _<_, _≤_, min}
+use mathlib.Core.Path.{_≡_, refl, sym, ap, _∙_}
+use mathlib.Core.List.{List, [], _∷_, _++_, append-assoc}
+use native.Mathlib.Omega.{arith}
+use native.Mathlib.Nat.{min-le-left, min-le-right}
+use native.Mathlib.Numerals.{add-one}
+use lib.ListN.{length, take, drop, set, length-set, take-append-drop}
+use lib.Seq.{drop-drop, drop-set-lt, take-suc-set}
+use Rattle.byte.proofs.Tests.{by-leb}
+use Rattle.lines.specs.Lines.{lines}
+use Rattle.ops.specs.Ops.{Operation, Reading, ops, refused, followedBy, thenRead, readLines, opsOf, kindsOf, operandsOf, onto}
+use Rattle.ops.specs.Passes.{lineReadAt, readInto, Good, Filled}
+use Rattle.ops.specs.declared.OpsError.{OpsError}
+use Rattle.ops.specs.declared.line.LineRead.{LineRead}
+use Rattle.ops.specs.declared.line.LineRead.the-variants.{Skip, Op, Bad}
+use Rattle.ops.specs.declared.line.Reached.{Reached}
+use Rattle.ops.proofs.Reading.{Stands, at-first, ended, moved, read-on}
+
+-- a buffer that holds n of what is to be written, with the rest before it
+abbrev Half : List ℕ → List ℕ → ℕ → List ℕ → Type 0
+Half whole out n rest = whole ≡ take n out ++ onto rest (drop n out)
+
+half-more : (whole out rest : List ℕ) (n v : ℕ) → n < length out → Half whole out n (v ∷ rest) → Half whole (set out n v) (n + 1) rest
+half-more whole out rest n v h e =
+    let t : take (n + 1) (set out n v) ≡ take n out ++ (v ∷ []) = rw add-one (take-suc-set out n v h) in
+    let d : drop (n + 1) (set out n v) ≡ drop (n + 1) out = drop-set-lt (n + 1) out n v (omega arith) in
+    let m : n + suc (length rest) ≡ n + 1 + length rest = omega arith in
+    let k : drop (suc (length rest)) (drop n out) ≡ drop (length rest) (drop (n + 1) out) =
+    drop-drop (suc (length rest)) n out ∙ ap (λ (i : ℕ). drop i out) m ∙ sym (drop-drop (length rest) (n + 1) out) in
+    e
+    ∙ ap (λ (s : List ℕ). take n out ++ (v ∷ (rest ++ s))) k
+    ∙ sym (append-assoc (take n out) (v ∷ []) (rest ++ drop (length rest) (drop (n + 1) out)))
+    ∙ ap (λ (s : List ℕ). s ++ (rest ++ drop (length rest) (drop (n + 1) out))) (sym t)
+    ∙ ap (λ (s : List ℕ). take (n + 1) (set out n v) ++ onto rest s) (sym d)
+
+half-all : (whole out : List ℕ) (n : ℕ) → Half whole out n [] → out ≡ whole
+half-all whole out n e = sym (e ∙ take-append-drop n out)
+
+-- the buffers hold n operations, and the lines from here on hold the rest
+pub record Filling (text kinds₀ operands₀ kinds operands : List ℕ) (at line n : ℕ) : Type 0 where
+  pub stands : Stands text at line
+  pub sameKinds : length kinds ≡ length kinds₀
+  pub sameOperands : length operands ≡ length operands₀
+  pub rest : List Operation
+  pub is : readLines text line (lines (drop at text)) (min (length kinds₀) (length operands₀) - n) ≡ ops rest
+  pub inKinds : Half (onto (kindsOf (opsOf (readInto text kinds₀ operands₀))) kinds₀) kinds n (kindsOf rest)
+  pub inOperands : Half (onto (operandsOf (opsOf (readInto text kinds₀ operands₀))) operands₀) operands n (operandsOf rest)
+
+pub fill-first : (text kinds operands : List ℕ) → Good text kinds operands → Filling text kinds operands kinds operands 0 0 0
+fill-first text kinds operands g =
+    let m = min (length kinds) (length operands) in
+    let z : m - 0 ≡ m = omega arith in
+    let o : opsOf (readInto text kinds operands) ≡ g .read = ap opsOf (g .is) in
+    record {
+      stands = at-first text;
+      sameKinds = refl;
+      sameOperands = refl;
+      rest = g .read;
+      is = ap (readLines text 0 (lines text)) z ∙ g .is;
+      inKinds = ap (λ (os : List Operation). onto (kindsOf os) kinds) o;
+      inOperands = ap (λ (os : List Operation). onto (operandsOf os) operands) o;
+    }
+
+module _ {text kinds₀ operands₀ kinds operands : List ℕ} {at line n : ℕ} (p : Filling text kinds₀ operands₀ kinds operands at line n) where
+  -- at the end
+  pub filled : length text ≤ at → Filled text kinds₀ operands₀ kinds operands
+  filled h =
+      let z : p .rest ≡ [] = nothing (sym (p .is) ∙ ended (p .stands) _ h) in
+      record {
+        inKinds = half-all _ kinds n (p .inKinds ∙ ap (λ (os : List Operation). take n kinds ++ onto (kindsOf os) (drop n kinds)) z);
+        inOperands = half-all _ operands n (p .inOperands ∙ ap (λ (os : List Operation). take n operands ++ onto (operandsOf os) (drop n operands)) z);
+      }
+    where
+      nothing : ops (p .rest) ≡ ops [] → p .rest ≡ []
+      nothing e = cc
+
+  -- at a line
+  module _ (h : at < length text) (r : Reached) (e : r ≡ lineReadAt text at (line + 1)) where
+    abbrev room : ℕ
+    room = min (length kinds₀) (length operands₀)
+
+    abbrev more : ℕ → Reading
+    more m = readLines text (line + 1) (lines (drop (r .next) text)) m
+
+    says : (x : LineRead) → r .read ≡ x → thenRead (line + 1) (room - n) more x ≡ ops (p .rest)
+    says x q = ap (thenRead (line + 1) (room - n) more) (sym q) ∙ sym (read-on (p .stands) h r e (room - n)) ∙ p .is
+
+    pub fill-skip : r .read ≡ Skip → Filling text kinds₀ operands₀ kinds operands (r .next) (line + 1) n
+    fill-skip q =
+        record {
+          stands = moved (p .stands) h r e;
+          sameKinds = p .sameKinds;
+          sameOperands = p .sameOperands;
+          rest = p .rest;
+          is = says Skip q;
+          inKinds = p .inKinds;
+          inOperands = p .inOperands;
+        }
+
+    -- no line is refused
+    pub fill-bad : {P : Type 0} (x : OpsError) → r .read ≡ Bad x → P
+    fill-bad x q = absurd (never (says (Bad x) q))
+      where
+        never : refused x ≡ ops (p .rest) → ⊥
+        never e = let z : _≡_ {A = ℕ} 0 1 = cc in omega arith
+
+    module _ (k v : ℕ) (q : r .read ≡ Op k v) where
+      -- there is room
+      pub fill-room : n < room
+      fill-room = by-leb room n (λ g. absurd (full g)) (λ g. g)
+        where
+          never : (x : OpsError) → refused x ≡ ops (p .rest) → ⊥
+          never x e = let z : _≡_ {A = ℕ} 0 1 = cc in omega arith
+
+          full : room ≤ n → ⊥
+          full g =
+              let m : 0 ≡ room - n = omega arith in
+              never _ (ap (λ (m : ℕ). thenRead (line + 1) m more (Op k v)) m ∙ says (Op k v) q)
+
+      pub room-kinds : n < length kinds
+      room-kinds = let f = fill-room in let s = p .sameKinds in omega (arith, min-le-left (length kinds₀) (length operands₀))
+
+      pub room-operands : n < length operands
+      room-operands = let f = fill-room in let s = p .sameOperands in omega (arith, min-le-right (length kinds₀) (length operands₀))
+
+      pub fill-op : Filling text kinds₀ operands₀ (set kinds n k) (set operands n v) (r .next) (line + 1) (n + 1)
+      fill-op =
+          let f = fill-room in
+          let m : suc (room - (n + 1)) ≡ room - n = omega arith in
+          go (more (room - (n + 1))) refl (ap (λ (m : ℕ). thenRead (line + 1) m more (Op k v)) m ∙ says (Op k v) q)
+        where
+          o : Operation
+          o = record { kind = k; operand = v }
+
+          go : (x : Reading) → more (room - (n + 1)) ≡ x → followedBy o x ≡ ops (p .rest) → Filling text kinds₀ operands₀ (set kinds n k) (set operands n v) (r .next) (line + 1) (n + 1)
+          go (refused x) y w = absurd (let z : _≡_ {A = ℕ} 0 1 = cc in omega arith)
+          go (ops os) y w =
+              let z : p .rest ≡ o ∷ os = cc in
+              record {
+                stands = moved (p .stands) h r e;
+                sameKinds = length-set kinds n k ∙ p .sameKinds;
+                sameOperands = length-set operands n v ∙ p .sameOperands;
+                rest = os;
+                is = y;
+                inKinds = half-more _ kinds (kindsOf os) n k room-kinds
+                    (p .inKinds ∙ ap (λ (os : List Operation). take n kinds ++ onto (kindsOf os) (drop n kinds)) z);
+                inOperands = half-more _ operands (operandsOf os) n v room-operands
+                    (p .inOperands ∙ ap (λ (os : List Operation). take n operands ++ onto (operandsOf os) (drop n operands)) z);
+              }

@@ -1,0 +1,12 @@
+pub mod Words
+pub mod Suffix
+pub mod PlainLines
+pub mod PlainReads
+pub mod Written
+pub mod Parsing
+pub mod Filling
+pub mod Passing
+pub mod Reading
+pub mod Reached
+pub mod Trimmed
+pub mod Examples

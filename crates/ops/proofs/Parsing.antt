@@ -1,0 +1,55 @@
+-- From the passes to the whole text.
+use Prim.Native.Nat.{ℕ, _-_, min}
+use mathlib.Core.Path.{_≡_, refl, sym, ap, subst, _∙_}
+use mathlib.Core.List.{List, [], _∷_}
+use mathlib.Core.Bool.{true, false}
+use native.Mathlib.Omega.{arith}
+use lib.ListN.{length}
+use Rattle.utf8.specs.Utf8.{utf8}
+use Rattle.ops.specs.Ops.{Operation, Reading, ops, refused, someRead, readText, answerOf, opsOf, kindsOf, operandsOf, onto, Parsed}
+use Rattle.ops.specs.Passes.{readInto, Good, Passed}
+use Rattle.ops.specs.declared.OpsError.{OpsError}
+use Rattle.ops.specs.declared.OpsError.the-variants.{NotUtf8}
+use Rattle.ops.specs.declared.ParsedOps.{ParsedOps}
+use Rattle.ops.specs.declared.ParsedOps.the-variants.{Read, Refused}
+
+-- what an answer says of the reading that it is of
+read-is : (x : Reading) (n : ℕ) → answerOf (someRead x) ≡ Read n → (os : List Operation) × (x ≡ ops os) × (someRead x ≡ x)
+read-is (ops []) n e = absurd (let z : _≡_ {A = ℕ} 0 1 = cc in omega arith)
+read-is (ops (o ∷ os)) n e = (o ∷ os, refl, refl)
+read-is (refused x) n e = absurd (let z : _≡_ {A = ℕ} 0 1 = cc in omega arith)
+
+refused-is : (x : Reading) (e : OpsError) → answerOf x ≡ Refused e → x ≡ refused e
+refused-is (ops os) e p = absurd (let z : _≡_ {A = ℕ} 0 1 = cc in omega arith)
+refused-is (refused x) e p = let z : x ≡ e = cc in ap refused z
+
+module _ (text kinds operands : List ℕ) where
+  parsed : (x : Reading) (r : ParsedOps) (kindsAfter operandsAfter : List ℕ) → readText text (min (length kinds) (length operands)) ≡ x → r ≡ answerOf x
+      → kindsAfter ≡ onto (kindsOf (opsOf x)) kinds → operandsAfter ≡ onto (operandsOf (opsOf x)) operands → Parsed text kinds operands kindsAfter operandsAfter r
+  parsed x r kindsAfter operandsAfter e p q s = record { answer = rw e p; kindsWritten = rw e q; operandsWritten = rw e s }
+
+  pub not-utf8 : utf8 text ≡ false → Parsed text kinds operands kinds operands (Refused NotUtf8)
+  not-utf8 u = parsed (refused NotUtf8) (Refused NotUtf8) kinds operands (simp u) refl refl refl
+
+  -- after the first pass, which writes nothing
+  module _ (u : utf8 text ≡ true) (k o : List ℕ) (r : ParsedOps) (f : Passed text kinds operands k o false r) where
+    whole : readText text (min (length kinds) (length operands)) ≡ someRead (readInto text kinds operands)
+    whole = simp u
+
+    pub is-refused : (x : OpsError) → r ≡ Refused x → Parsed text kinds operands k o r
+    is-refused x p =
+        parsed (refused x) r k o (whole ∙ refused-is (someRead (readInto text kinds operands)) x (sym (f .answer) ∙ p)) p (f .keptKinds refl) (f .keptOperands refl)
+
+    module _ (n : ℕ) (p : r ≡ Read n) where
+      good : (os : List Operation) × (readInto text kinds operands ≡ ops os) × (someRead (readInto text kinds operands) ≡ readInto text kinds operands)
+      good = read-is (readInto text kinds operands) n (sym (f .answer) ∙ p)
+
+      pub is-good : Good text k o
+      is-good = rw (f .keptKinds refl, f .keptOperands refl) (record { read = good .0; is = good .1 })
+
+      -- and after the second
+      pub is-read : (k' o' : List ℕ) (r' : ParsedOps) → Passed text k o k' o' true r' → Parsed text kinds operands k' o' r'
+      is-read k' o' r' g =
+          let w : Passed text kinds operands k' o' true r' =
+          subst (λ (x : List ℕ). Passed text x operands k' o' true r') (f .keptKinds refl) (subst (λ (y : List ℕ). Passed text k y k' o' true r') (f .keptOperands refl) g) in
+          parsed (readInto text kinds operands) r' k' o' (whole ∙ good .2) (w .answer ∙ ap answerOf (good .2)) (w .filled refl .inKinds) (w .filled refl .inOperands)

@@ -1,0 +1,184 @@
+-- Lines that stand as they are: a word, or a word, a space and digits.
+use Prim.Native.Nat.{ℕ, zero, suc, _+_, _-_, _<_}
+use mathlib.Core.Path.{_≡_, refl, sym, ap, subst, _∙_}
+use mathlib.Core.List.{List, [], _∷_, _++_, append-assoc, append-nil}
+use mathlib.Core.Bool.{Bool, true, false, cond, _&&_}
+use borrow.Author.Tests.{ne-eqb}
+use native.Mathlib.Omega.{arith}
+use lib.ListN.{length, getD, drop}
+use Rattle.byte.specs.Range.{within}
+use Rattle.byte.proofs.Tests.{never, and-left, and-right, and-both, between, inside, above}
+use Rattle.utf8.specs.Utf8.{utf8}
+use Rattle.utf8.proofs.Lead.{one-is}
+use Rattle.utf8.proofs.Encoding.{append}
+use Rattle.lines.specs.Lines.{lines, feedFree, lessReturn}
+use Rattle.lines.proofs.Written.{free-cons, free-append, line-then}
+use Rattle.trim.specs.Trim.{white1, startTrimmed, trimmed}
+use Rattle.trim.proofs.Laws.{trimmed-kept}
+use Rattle.number.specs.Decimal.{digit, allDigits, numberOf}
+use Rattle.number.specs.declared.Number.the-variants.{Is}
+use Rattle.ops.specs.Kinds.{Kind, alone, kinds, kindOf, partOf, parted}
+use Rattle.ops.specs.Line.{skipped, ofNumber, partRead, lineOf}
+use Rattle.ops.specs.declared.line.LineRead.the-variants.{Op}
+use Rattle.ops.proofs.Trimmed.{part-read}
+
+-- ASCII without White_Space and controls
+abbrev pub graphic : ℕ → Bool
+graphic a = within 33 126 a
+
+abbrev pub graphics : List ℕ → Bool
+graphics [] = true
+graphics (a ∷ s) = graphic a && graphics s
+
+not-white : (a : ℕ) → graphic a ≡ true → white1 a ≡ false
+not-white a e = let b = between 33 126 a e in simp (above 0x09 0x0D a (omega arith), ne-eqb a 0x20 (λ e. omega arith))
+
+-- the last byte
+graphics-last : (a : ℕ) (s : List ℕ) → graphics (a ∷ s) ≡ true → graphic (getD (a ∷ s) (length s) 0) ≡ true
+graphics-last a [] e = and-left (graphic a) true e
+graphics-last a (b ∷ s) e = graphics-last b s (and-right (graphic a) (graphics (b ∷ s)) e)
+
+last-append : (a : ℕ) (s : List ℕ) (b : ℕ) (t : List ℕ) → getD (a ∷ (s ++ (b ∷ t))) (length (s ++ (b ∷ t))) 0 ≡ getD (b ∷ t) (length t) 0
+last-append a [] b t = refl
+last-append a (c ∷ s) b t = last-append c s b t
+
+pub digits-graphic : (s : List ℕ) → allDigits s ≡ true → graphics s ≡ true
+digits-graphic [] e = refl
+digits-graphic (a ∷ s) e =
+    let b = between 48 57 a (and-left (digit a) (allDigits s) e) in
+    and-both (graphic a) (graphics s) (inside 33 126 a (omega arith) (omega arith)) (digits-graphic s (and-right (digit a) (allDigits s) e))
+
+-- such a text is UTF-8 on one line
+graphics-utf8 : (s : List ℕ) → graphics s ≡ true → utf8 s ≡ true
+graphics-utf8 [] e = refl
+graphics-utf8 (a ∷ s) e =
+    let b = between 33 126 a (and-left (graphic a) (graphics s) e) in
+    one-is a s (omega arith) ∙ graphics-utf8 s (and-right (graphic a) (graphics s) e)
+
+graphics-free : (s : List ℕ) → graphics s ≡ true → feedFree s ≡ true
+graphics-free [] e = refl
+graphics-free (a ∷ s) e =
+    let b = between 33 126 a (and-left (graphic a) (graphics s) e) in
+    free-cons a s (λ e. omega arith) ∙ graphics-free s (and-right (graphic a) (graphics s) e)
+
+-- what ends so has no carriage return to leave out, and what starts and ends so is trimmed
+return-kept : (s t : List ℕ) → graphics t ≡ true → 0 < length t → lessReturn (s ++ t) ≡ s ++ t
+return-kept [] [] e h = absurd (omega arith)
+return-kept [] (a ∷ []) e h = let b = between 33 126 a (and-left (graphic a) true e) in rw (ne-eqb a 13 (λ e. omega arith), lessReturn)
+return-kept [] (a ∷ b ∷ t) e h = ap (λ (s : List ℕ). a ∷ s) (return-kept [] (b ∷ t) (and-right (graphic a) (graphics (b ∷ t)) e) (omega arith))
+return-kept (a ∷ []) [] e h = absurd (omega arith)
+return-kept (a ∷ []) (b ∷ t) e h = ap (λ (s : List ℕ). a ∷ s) (return-kept [] (b ∷ t) e h)
+return-kept (a ∷ b ∷ s) t e h = ap (λ (s : List ℕ). a ∷ s) (return-kept (b ∷ s) t e h)
+
+trim-kept : (a : ℕ) (s : List ℕ) → graphic a ≡ true → graphic (getD (a ∷ s) (length s) 0) ≡ true → trimmed (a ∷ s) ≡ a ∷ s
+trim-kept a s e f =
+    let z = getD (a ∷ s) (length s) 0 in
+    let b = between 33 126 a e in
+    let c = between 33 126 z f in
+    trimmed-kept a s (omega arith) (not-white a e) (omega arith) (not-white z f)
+
+-- a text that stands on a line by itself, as it is
+pub record Plain (s : List ℕ) : Type 0 where
+  pub valid : utf8 s ≡ true
+  pub free : feedFree s ≡ true
+  pub unreturned : lessReturn s ≡ s
+  pub untrimmed : trimmed s ≡ s
+
+module _ (a : ℕ) (w : List ℕ) (e : graphics (a ∷ w) ≡ true) where
+  plain-word : Plain (a ∷ w)
+  plain-word =
+      record {
+        valid = graphics-utf8 (a ∷ w) e;
+        free = graphics-free (a ∷ w) e;
+        unreturned = return-kept [] (a ∷ w) e (omega arith);
+        untrimmed = trim-kept a w (and-left (graphic a) (graphics w) e) (graphics-last a w e);
+      }
+
+  plain-number : (d : List ℕ) → graphics d ≡ true → 0 < length d → Plain ((a ∷ w) ++ (32 ∷ d))
+  plain-number [] f h = absurd (omega arith)
+  plain-number (b ∷ d) f h =
+      record {
+        valid = append (a ∷ w) (32 ∷ b ∷ d) (graphics-utf8 (a ∷ w) e) ∙ one-is 32 (b ∷ d) (omega arith) ∙ graphics-utf8 (b ∷ d) f;
+        free = free-append (a ∷ w) (32 ∷ b ∷ d) (graphics-free (a ∷ w) e) ∙ free-cons 32 (b ∷ d) (λ e. omega arith) ∙ graphics-free (b ∷ d) f;
+        unreturned = ap lessReturn (sym (append-assoc (a ∷ w) (32 ∷ []) (b ∷ d))) ∙ return-kept ((a ∷ w) ++ (32 ∷ [])) (b ∷ d) f h ∙ append-assoc (a ∷ w) (32 ∷ []) (b ∷ d);
+        untrimmed = trim-kept a (w ++ (32 ∷ b ∷ d)) (and-left (graphic a) (graphics w) e)
+            (ap graphic (last-append a w 32 (b ∷ d)) ∙ graphics-last b d f);
+      }
+
+-- a kind's word, and whatever follows it, is read as that kind; it starts with a letter
+abbrev Told : ℕ → Kind → Type 0
+Told k w = (d : List ℕ) → (parted (w .word ++ cond (w .operand) (32 ∷ d) []) ≡ partOf k w) × ((within 65 90 (getD (w .word) 0 0) && graphics (w .word)) ≡ true)
+
+abbrev TellAll : ℕ → List Kind → Type 0
+TellAll k [] = Unit
+TellAll k (w ∷ ws) = Told k w × TellAll (suc k) ws
+
+told-at : (ws : List Kind) (k i : ℕ) → TellAll k ws → i < length ws → Told (k + i) (getD ws i (alone ""))
+told-at [] k i t h = absurd (omega arith)
+told-at (w ∷ ws) k zero t h = let z : k ≡ k + 0 = omega arith in subst (λ (n : ℕ). Told n w) z (t .0)
+told-at (w ∷ ws) k (suc i) t h = let z : suc k + i ≡ k + suc i = omega arith in subst (λ (n : ℕ). Told n (getD ws i (alone ""))) z (told-at ws (suc k) i (t .1) (omega arith))
+
+told-all : TellAll 0 kinds
+told-all =
+    ((λ d. (refl, refl)), ((λ d. (refl, refl)), ((λ d. (refl, refl)), ((λ d. (refl, refl)), ((λ d. (refl, refl)), ((λ d. (refl, refl)), ((λ d. (refl, refl)), ((λ d. (refl, refl)), ((λ d. (refl, refl)), ((λ d. (refl, refl)), ((λ d. (refl, refl)), ((λ d. (refl, refl)), ((λ d. (refl, refl)), ((λ d. (refl, refl)), ((λ d. (refl, refl)), ((λ d. (refl, refl)), tt))))))))))))))))
+
+told : (k : ℕ) → k < 16 → Told k (kindOf k)
+told k h = let z : 0 + k ≡ k = omega arith in subst (λ (n : ℕ). Told n (kindOf k)) z (told-at kinds 0 k told-all h)
+
+drop-word : (w d : List ℕ) → drop (suc (length w)) (w ++ (32 ∷ d)) ≡ d
+drop-word [] d = refl
+drop-word (a ∷ w) d = drop-word w d
+
+-- a kind's line, whatever digits write its operand
+abbrev pub lineWith : ℕ → List ℕ → List ℕ
+lineWith k d = kindOf k .word ++ cond (kindOf k .operand) (32 ∷ d) []
+
+-- it stands by itself, and is read as its kind and the number
+pub record Reads (k : ℕ) (d : List ℕ) (v : ℕ) : Type 0 where
+  pub plain : Plain (lineWith k d)
+  pub is : (line start : ℕ) → lineOf line start (lineWith k d) ≡ Op k (cond (kindOf k .operand) v 0)
+
+module _ (d : List ℕ) (v : ℕ) (g : graphics d ≡ true) (h : 0 < length d) (e : numberOf d ≡ Is v) where
+  line-plain : (w : List ℕ) (b : Bool) → (within 65 90 (getD w 0 0) && graphics w) ≡ true → Plain (w ++ cond b (32 ∷ d) []) × (skipped (w ++ cond b (32 ∷ d) []) ≡ false)
+  line-plain [] b e = never e
+  line-plain (a ∷ w) b e =
+      let f = and-right (within 65 90 a) (graphics (a ∷ w)) e in
+      let h = between 65 90 a (and-left (within 65 90 a) (graphics (a ∷ w)) e) in
+      (line b f, ne-eqb a 35 (λ e. omega arith))
+    where
+      line : (b : Bool) → graphics (a ∷ w) ≡ true → Plain ((a ∷ w) ++ cond b (32 ∷ d) [])
+      line true f = plain-number a w f d g h
+      line false f = subst Plain (sym (append-nil (a ∷ w))) (plain-word a w f)
+
+  digits-kept : trimmed d ≡ d
+  digits-kept = go d g h
+    where
+      go : (d : List ℕ) → graphics d ≡ true → 0 < length d → trimmed d ≡ d
+      go [] e h = absurd (omega arith)
+      go (a ∷ d) e h = plain-word a d e .untrimmed
+
+  part-is : (line place k : ℕ) (w : List ℕ) (b : Bool) → partRead line place (w ++ cond b (32 ∷ d) []) (partOf k (record { word = w; operand = b })) ≡ Op k (cond b v 0)
+  part-is line place k w false = refl
+  part-is line place k w true =
+      let z : length w + 1 ≡ suc (length w) = omega arith in
+      let r : drop (length w + 1) (w ++ (32 ∷ d)) ≡ d = ap (λ (n : ℕ). drop n (w ++ (32 ∷ d))) z ∙ drop-word w d in
+      ap (ofNumber k line _ _) (ap (λ (s : List ℕ). numberOf (trimmed s)) r ∙ ap numberOf digits-kept ∙ e)
+
+  pub reads : (k : ℕ) → k < 16 → Reads k d v
+  reads k p =
+      let q = line-plain (kindOf k .word) (kindOf k .operand) (told k p d .1) in
+      record { plain = q .0; is = λ line start. by-part q line start }
+    where
+      by-part : Plain (lineWith k d) × (skipped (lineWith k d) ≡ false) → (line start : ℕ) → lineOf line start (lineWith k d) ≡ Op k (cond (kindOf k .operand) v 0)
+      by-part q line start =
+          let s = lineWith k d in
+          let t = q .0 .untrimmed in
+          let place = start + (length s - length (startTrimmed s)) in
+          part-read s (startTrimmed s) (trimmed s) refl refl line start (parted (trimmed s)) (ap skipped t ∙ q .1) refl
+          ∙ ap (λ (t : List ℕ). partRead line place t (parted t)) t
+          ∙ ap (partRead line place s) (told k p d .0)
+          ∙ part-is line place k (kindOf k .word) (kindOf k .operand)
+
+-- the lines of such a line, a line feed and what follows
+pub plain-lines : {s : List ℕ} → Plain s → (t : List ℕ) → lines (s ++ (10 ∷ t)) ≡ s ∷ lines t
+plain-lines {s} q t = line-then s t (q .free) ∙ ap (λ (l : List ℕ). l ∷ lines t) (q .unreturned)

@@ -1,0 +1,150 @@
+-- The line at a place of a text, and where the lines start.
+use Prim.Native.Nat.{ℕ, zero, suc, _+_, _-_, _<_, _≤_}
+use mathlib.Core.Path.{_≡_, refl, sym, ap, ap₂, subst, _∙_}
+use mathlib.Core.List.{List, [], _∷_}
+use mathlib.Core.Bool.{Bool, true, false, cond}
+use native.Mathlib.Omega.{arith}
+use lib.ListN.{length, getD, take, drop, drop-of-length-le}
+use lib.Seq.{drop-drop}
+use Rattle.byte.proofs.Tests.{by-leb}
+use Rattle.utf8.specs.Utf8.{utf8}
+use Rattle.lines.specs.Lines.{lines}
+use Rattle.lines.specs.Cursor.{span, headOf, firstLine, lineFrom, lineAt, IsLine}
+use Rattle.lines.specs.declared.Line.{Line}
+use Rattle.lines.specs.declared.Step.the-variants.{Next, Done}
+use Rattle.lines.proofs.Cursor.{line-here, line-done, step-line}
+use Rattle.ops.specs.Line.{lineOf}
+use Rattle.trim.specs.Trim.{trimmed}
+use Rattle.ops.specs.Ops.{startOf, nthLine, trimmedLine, nthStep, lineNumbered}
+use Rattle.ops.specs.Passes.{lineReadAt}
+use Rattle.ops.specs.declared.line.LineRead.{LineRead}
+use Rattle.ops.specs.declared.line.LineRead.the-variants.{Skip}
+use Rattle.ops.specs.declared.line.Reached.{Reached}
+
+module _ (text : List ℕ) (at : ℕ) where
+  pub is-from : (l : Line) → lineAt text at ≡ Next l → l ≡ lineFrom text at
+  is-from l e = by-leb (suc at) (length text) (λ h. here (line-here text at h)) (λ h. absurd (none (line-done text at (omega arith))))
+    where
+      here : lineAt text at ≡ Next (lineFrom text at) → l ≡ lineFrom text at
+      here p = cc
+
+      none : lineAt text at ≡ Done → ⊥
+      none p = let z : _≡_ {A = ℕ} 0 1 = cc in omega arith
+
+  pub is-past : lineAt text at ≡ Done → length text ≤ at
+  is-past e = by-leb (length text) at (λ h. h) (λ h. absurd (some (line-here text at h)))
+    where
+      some : lineAt text at ≡ Next (lineFrom text at) → ⊥
+      some p = let z : _≡_ {A = ℕ} 0 1 = cc in omega arith
+
+  pub past : length text ≤ at → drop at text ≡ []
+  past h = drop-of-length-le text {i = at} h
+
+  pub first-is : (l : Line) → lineAt text at ≡ Next l → firstLine (drop at text) ≡ take (l .end - at) (drop at text)
+  first-is l e = ap headOf (step-line text at l e .is)
+
+  pub reached-next : (line : ℕ) (l : Line) (r : LineRead) → lineAt text at ≡ Next l → r ≡ lineOf line at (take (l .end - at) (drop at text))
+      → _≡_ {A = Reached} (record { read = r; next = l .next }) (lineReadAt text at line)
+  reached-next line l r e p =
+      ap₂ (λ r n. record { read = r; next = n }) (p ∙ ap (lineOf line at) (sym (first-is l e))) (ap (λ (l : Line). l .next) (is-from l e))
+
+  pub reached-done : (line : ℕ) → lineAt text at ≡ Done → _≡_ {A = Reached} (record { read = Skip; next = at }) (lineReadAt text at line)
+  reached-done line e =
+      let z : at ≡ at + 0 = omega arith in
+      ap (λ n. record { read = Skip; next = n }) z
+      ∙ ap (λ (s : List ℕ). record { read = lineOf line at (firstLine s); next = at + span s }) (sym (past (is-past e)))
+
+-- the lines from a place within the text on
+pub record Onward (text : List ℕ) (at : ℕ) : Type 0 where
+  pub on : at < at + span (drop at text)
+  pub fits : at + span (drop at text) ≤ length text
+  pub lines : lines (drop at text) ≡ firstLine (drop at text) ∷ lines (drop (at + span (drop at text)) text)
+
+pub onward : (text : List ℕ) (at : ℕ) → at < length text → Onward text at
+onward text at h =
+    let e = line-here text at h in
+    let i = step-line text at (lineFrom text at) e in
+    record { on = i .on; fits = i .fits; lines = i .is ∙ ap (λ (l : List ℕ). l ∷ lines (drop (at + span (drop at text)) text)) (sym (first-is text at (lineFrom text at) e)) }
+
+-- where the next line starts
+pub next-start : (n : ℕ) (text : List ℕ) → startOf (suc n) text ≡ startOf n text + span (drop (startOf n text) text)
+next-start zero text = omega arith
+next-start (suc n) text =
+    let s = span text in
+    let e = next-start n (drop s text) in
+    let d = drop-drop (startOf n (drop s text)) s text in
+    ap (λ m. s + m) e
+    ∙ omega (arith, ap span d)
+
+-- what stands there
+pub starts-at : (n : ℕ) (text : List ℕ) → firstLine (drop (startOf n text) text) ≡ getD (lines text) n []
+starts-at zero text = go (lines text)
+  where
+    go : (ls : List (List ℕ)) → headOf ls ≡ getD ls 0 []
+    go [] = refl
+    go (l ∷ ls) = refl
+starts-at (suc n) text =
+    let s = span text in
+    let z : 0 + s ≡ s = omega arith in
+    by-leb (length text) 0
+    (λ h. ap firstLine (past text (startOf (suc n) text) (omega arith)) ∙ ap (λ (t : List ℕ). getD (lines t) (suc n) []) (sym (past text 0 h)))
+    (λ h. ap firstLine (sym (drop-drop (startOf n (drop s text)) s text))
+    ∙ starts-at n (drop s text)
+    ∙ ap (λ (ls : List (List ℕ)). getD ls (suc n) []) (sym (onward text 0 h .lines ∙ ap (λ (k : ℕ). firstLine text ∷ lines (drop k text)) z)))
+
+-- the lines before a line, from a place on
+module _ (text : List ℕ) (at n : ℕ) where
+  pub one-further : at + startOf (suc n) (drop at text) ≡ at + span (drop at text) + startOf n (drop (at + span (drop at text)) text)
+  one-further = omega (arith, ap (startOf n) (drop-drop (span (drop at text)) at text))
+
+-- the line of a number
+pub no-number : (text : List ℕ) (n : ℕ) → n ≡ 0 → lineNumbered text n ≡ Done
+no-number text n e = ap (lineNumbered text) e ∙ go (utf8 text)
+  where
+    go : (b : Bool) → cond b Done Done ≡ Done
+    go true = refl
+    go false = refl
+
+pub numbered : (text : List ℕ) (n : ℕ) → utf8 text ≡ true → (n ≡ 0 → ⊥) → lineNumbered text n ≡ lineAt text (0 + startOf (n - 1) text)
+numbered text n u h =
+    let e : n ≡ suc (n - 1) = omega arith in
+    let z : startOf (n - 1) text ≡ 0 + startOf (n - 1) text = omega arith in
+    ap (λ (b : Bool). cond b (nthStep n text) Done) u ∙ ap (λ (m : ℕ). nthStep m text) e ∙ ap (lineAt text) z
+
+-- what the line of a number says, by where it stands
+by-number : {P : Type 0} (text : List ℕ) (n : ℕ) → (lineNumbered text n ≡ Done → trimmedLine text n ≡ [] → P)
+    → ((k : ℕ) → lineNumbered text n ≡ lineAt text (startOf k text) → trimmedLine text n ≡ trimmed (getD (lines text) k []) → P) → P
+by-number {P = P} text n none some = go (utf8 text) n refl refl
+  where
+    go : (b : Bool) (m : ℕ) → utf8 text ≡ b → n ≡ m → P
+    go false m u e = none (simp u) (simp u)
+    go true zero u e = none (no-number text n e) (ap (λ (b : Bool). cond b (trimmed (nthLine n (lines text))) []) u ∙ ap (λ (m : ℕ). trimmed (nthLine m (lines text))) e)
+    go true (suc k) u e =
+        some k (ap (λ (b : Bool). cond b (nthStep n text) Done) u ∙ ap (λ (m : ℕ). nthStep m text) e)
+        (ap (λ (b : Bool). cond b (trimmed (nthLine n (lines text))) []) u ∙ ap (λ (m : ℕ). trimmed (nthLine m (lines text))) e)
+
+module _ (text : List ℕ) (n : ℕ) where
+  pub numbered-none : lineNumbered text n ≡ Done → trimmedLine text n ≡ []
+  numbered-none e =
+      by-number text n (λ _ t. t)
+      (λ k p t. t ∙ ap trimmed (sym (starts-at k text) ∙ ap firstLine (past text (startOf k text) (is-past text (startOf k text) (sym p ∙ e)))))
+
+  module _ (l : Line) (e : lineNumbered text n ≡ Next l) where
+    pub numbered-line : IsLine text (l .start) l
+    numbered-line =
+        by-number text n (λ p t. absurd (none p))
+        (λ k p t. let i = step-line text (startOf k text) l (sym p ∙ e) in subst (λ (a : ℕ). IsLine text a l) (sym (i .starts)) i)
+      where
+        none : lineNumbered text n ≡ Done → ⊥
+        none p = let z : _≡_ {A = ℕ} 0 1 = cc in omega arith
+
+    pub numbered-text : trimmed (take (l .end - l .start) (drop (l .start) text)) ≡ trimmedLine text n
+    numbered-text =
+        by-number text n (λ p t. absurd (none p))
+        (λ k p t.
+        let i = step-line text (startOf k text) l (sym p ∙ e) in
+        ap (λ (a : ℕ). trimmed (take (l .end - a) (drop a text))) (i .starts)
+        ∙ ap trimmed (sym (first-is text (startOf k text) l (sym p ∙ e)) ∙ starts-at k text) ∙ sym t)
+      where
+        none : lineNumbered text n ≡ Done → ⊥
+        none p = let z : _≡_ {A = ℕ} 0 1 = cc in omega arith

@@ -1,0 +1,80 @@
+-- `ops::trimmed_line` meets its contract: the line of the number, trimmed.
+-- Assumes nothing.
+use mathlib.Core.Path.{sym, _∙_}
+use denote.Ref.{now}
+use Rattle.ops.proofs.Reached.{numbered-line, numbered-text, numbered-none}
+use borrow.Author.Needs.{needs}
+use Rattle.ops.proofs.trimmed_line.Statement.{statement}
+use Rattle.ops.proofs.trimmed_line.Tie as tie
+
+nth-line-requires : tie.Need-nth-line-requires
+nth-line-requires c κs = search needs
+
+enum-known-step : tie.Need-enum-known-step
+enum-known-step c = search needs
+
+sub-trim : tie.Need-sub-trim
+sub-trim c =
+    let text = now (c .before .before .before .before .before .args .text) in
+    let n = c .before .before .before .before .before .args .line in
+    let i = numbered-line text n _ (sym (c .before .before .before .nth-line .ensures) ∙ c .before .step .given .1) in
+    let a = i .starts in
+    let b = i .ends in
+    let e = i .before in
+    let g = i .fits in search needs
+
+part-trim-start : tie.Need-part-trim-start
+part-trim-start c =
+    let text = now (c .before .before .before .before .before .args .text) in
+    let n = c .before .before .before .before .before .args .line in
+    let i = numbered-line text n _ (sym (c .before .before .before .nth-line .ensures) ∙ c .before .step .given .1) in
+    let a = i .starts in
+    let b = i .ends in
+    let e = i .before in
+    let g = i .fits in search needs
+
+part-trim-end : tie.Need-part-trim-end
+part-trim-end c =
+    let text = now (c .before .before .before .before .before .args .text) in
+    let n = c .before .before .before .before .before .args .line in
+    let i = numbered-line text n _ (sym (c .before .before .before .nth-line .ensures) ∙ c .before .step .given .1) in
+    let a = i .starts in
+    let b = i .ends in
+    let e = i .before in
+    let g = i .fits in search needs
+
+trim-requires : tie.Need-trim-requires
+trim-requires c κs = search needs
+
+enum-told : tie.Need-enum-told
+enum-told c = search needs
+
+slice-aggregate-result : tie.Need-slice-aggregate-result
+slice-aggregate-result c = search needs
+
+returns : tie.Need-returns
+returns c =
+    let text = now (c .before .before .before .before .before .before .before .args .text) in
+    let n = c .before .before .before .before .before .before .before .args .line in
+    c .trim .ensures .text ∙ numbered-text text n _ (sym (c .before .before .before .before .before .nth-line .ensures) ∙ c .before .before .before .step .given .1)
+
+returns-2 : tie.Need-returns-2
+returns-2 c =
+    let text = now (c .before .before .before .before .before .args .text) in
+    let n = c .before .before .before .before .before .args .line in
+    sym (numbered-none text n (sym (c .before .before .before .nth-line .ensures) ∙ c .before .enum-told .given .1))
+
+pub trimmed-line-spec : {M : Type 1} → statement M
+trimmed-line-spec =
+    tie.close
+    (tie.spec
+    nth-line-requires
+    enum-known-step
+    sub-trim
+    part-trim-start
+    part-trim-end
+    trim-requires
+    enum-told
+    slice-aggregate-result
+    returns
+    returns-2)

@@ -1,0 +1,6 @@
+pub mod Ascii
+pub mod Kinds
+pub mod Line
+pub mod Ops
+pub mod Written
+pub mod Passes

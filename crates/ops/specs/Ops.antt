@@ -1,0 +1,132 @@
+-- The operations of a text, and the refusals by document 01's numbers.
+use Prim.Native.Nat.{ℕ, zero, suc, _+_, min}
+use mathlib.Core.Path.{_≡_}
+use mathlib.Core.List.{List, [], _∷_, _++_, map}
+use mathlib.Core.Bool.{cond}
+use lib.ListN.{length, getD, drop}
+use Rattle.utf8.specs.Utf8.{utf8}
+use Rattle.lines.specs.Lines.{lines}
+use Rattle.lines.specs.Cursor.{span, lineAt}
+use Rattle.lines.specs.declared.Step.{Step}
+use Rattle.lines.specs.declared.Step.the-variants.{Done}
+use Rattle.trim.specs.Trim.{trimmed}
+use Rattle.ops.specs.Line.{lineOf}
+use Rattle.ops.specs.declared.OpsError.{OpsError}
+use Rattle.ops.specs.declared.OpsError.the-variants.{NotUtf8, BadPush, BadSlot, UnknownOp, BadTarget, Full, Empty}
+use Rattle.ops.specs.declared.ParsedOps.{ParsedOps}
+use Rattle.ops.specs.declared.ParsedOps.the-variants.{Read, Refused}
+use Rattle.ops.specs.declared.line.LineRead.{LineRead}
+use Rattle.ops.specs.declared.line.LineRead.the-variants.{Skip, Op, Bad}
+
+pub record Operation : Type 0 where
+  pub kind : ℕ
+  pub operand : ℕ
+
+pub data Reading : Type 0 where
+  ops : List Operation → Reading
+  refused : OpsError → Reading
+
+-- where a line starts that has n lines before it; the text's end where there is none
+abbrev pub startOf : ℕ → List ℕ → ℕ
+startOf zero s = 0
+startOf (suc n) s = span s + startOf n (drop (span s) s)
+
+-- one operation in front
+abbrev pub followedBy : Operation → Reading → Reading
+followedBy o (ops os) = ops (o ∷ os)
+followedBy o (refused e) = refused e
+
+-- a good operation, with room for as many
+abbrev pub withRoom : ℕ → ℕ → (ℕ → Reading) → Operation → Reading
+withRoom line zero more o = refused (Full line)
+withRoom line (suc room) more o = followedBy o (more room)
+
+-- what a line says, and then what the lines after it say with the room that is left
+abbrev pub thenRead : ℕ → ℕ → (ℕ → Reading) → LineRead → Reading
+thenRead line room more Skip = more room
+thenRead line room more (Op k v) = withRoom line room more (record { kind = k; operand = v })
+thenRead line room more (Bad e) = refused e
+
+-- the lines of a text, n of its lines being before them
+abbrev pub readLines : List ℕ → ℕ → List (List ℕ) → ℕ → Reading
+readLines text n [] room = ops []
+readLines text n (l ∷ ls) room = thenRead (n + 1) room (readLines text (n + 1) ls) (lineOf (n + 1) (startOf n text) l)
+
+abbrev pub someRead : Reading → Reading
+someRead (ops []) = refused Empty
+someRead (ops (o ∷ os)) = ops (o ∷ os)
+someRead (refused e) = refused e
+
+-- a text, with room for as many operations
+abbrev pub readText : List ℕ → ℕ → Reading
+readText text room = cond (utf8 text) (someRead (readLines text 0 (lines text) room)) (refused NotUtf8)
+
+-- the answer, and the operations where there is no refusal
+abbrev pub answerOf : Reading → ParsedOps
+answerOf (ops os) = Read (length os)
+answerOf (refused e) = Refused e
+
+abbrev pub opsOf : Reading → List Operation
+opsOf (ops os) = os
+opsOf (refused e) = []
+
+abbrev pub kindsOf : List Operation → List ℕ
+kindsOf os = map (λ o. o .kind) os
+
+abbrev pub operandsOf : List Operation → List ℕ
+operandsOf os = map (λ o. o .operand) os
+
+-- a buffer with these written over its start
+abbrev pub onto : List ℕ → List ℕ → List ℕ
+onto xs buffer = xs ++ drop (length xs) buffer
+
+-- what reading gives
+pub record Parsed (text kinds operands kindsAfter operandsAfter : List ℕ) (r : ParsedOps) : Type 0 where
+  pub answer : r ≡ answerOf (readText text (min (length kinds) (length operands)))
+  pub kindsWritten : kindsAfter ≡ onto (kindsOf (opsOf (readText text (min (length kinds) (length operands))))) kinds
+  pub operandsWritten : operandsAfter ≡ onto (operandsOf (opsOf (readText text (min (length kinds) (length operands))))) operands
+
+-- document 01's number of a refusal, and the numbers that it carries
+abbrev pub numberOfError : OpsError → ℕ
+numberOfError NotUtf8 = 27
+numberOfError (BadPush line place len) = 28
+numberOfError (BadSlot line place len) = 29
+numberOfError (UnknownOp line place len) = 30
+numberOfError (BadTarget line place len) = 31
+numberOfError (Full line) = 32
+numberOfError Empty = 33
+
+abbrev pub valuesOfError : OpsError → List ℕ
+valuesOfError NotUtf8 = []
+valuesOfError (BadPush line place len) = line ∷ place ∷ len ∷ []
+valuesOfError (BadSlot line place len) = line ∷ place ∷ len ∷ []
+valuesOfError (UnknownOp line place len) = line ∷ place ∷ len ∷ []
+valuesOfError (BadTarget line place len) = line ∷ place ∷ len ∷ []
+valuesOfError (Full line) = line ∷ []
+valuesOfError Empty = []
+
+-- and of an answer: 0 where the operations were read
+abbrev pub numberOfAnswer : ParsedOps → ℕ
+numberOfAnswer (Read n) = 0
+numberOfAnswer (Refused e) = numberOfError e
+
+abbrev pub valuesOfAnswer : ParsedOps → List ℕ
+valuesOfAnswer (Read n) = n ∷ []
+valuesOfAnswer (Refused e) = valuesOfError e
+
+-- the line of a number from 1
+abbrev pub nthLine : ℕ → List (List ℕ) → List ℕ
+nthLine zero ls = []
+nthLine (suc n) ls = getD ls n []
+
+-- its trimmed text; empty where the text is not UTF-8 or has no such line
+abbrev pub trimmedLine : List ℕ → ℕ → List ℕ
+trimmedLine text n = cond (utf8 text) (trimmed (nthLine n (lines text))) []
+
+-- where it stands
+abbrev pub nthStep : ℕ → List ℕ → Step
+nthStep zero text = Done
+nthStep (suc n) text = lineAt text (startOf n text)
+
+abbrev pub lineNumbered : List ℕ → ℕ → Step
+lineNumbered text n = cond (utf8 text) (nthStep n text) Done

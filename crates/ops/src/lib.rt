@@ -1,0 +1,144 @@
+// Ops text: one operation to a line, read into kinds and operands.
+mod kind;
+mod line;
+mod plain;
+mod word;
+
+use line::LineRead;
+use line::line_read_at;
+use lines::Step;
+ghost use mathlib.Core.Path.{_≡_};
+ghost use mathlib.Core.Bool.{true};
+ghost use Prim.Native.Nat.{min};
+ghost use Rattle.ops.specs.Ops.{Parsed, trimmedLine, lineNumbered};
+ghost use Rattle.ops.specs.Passes.{Good, Passed};
+
+// Lines are counted from 1. Places count bytes from 0 in the whole text.
+pub enum OpsError {
+    NotUtf8,
+    BadPush {
+        line: usize,
+        place: usize,
+        len: usize,
+    },
+    BadSlot {
+        line: usize,
+        place: usize,
+        len: usize,
+    },
+    UnknownOp {
+        line: usize,
+        place: usize,
+        len: usize,
+    },
+    BadTarget {
+        line: usize,
+        place: usize,
+        len: usize,
+    },
+    Full {
+        line: usize,
+    },
+    Empty,
+}
+
+pub enum ParsedOps {
+    Read(usize),
+    Refused(OpsError),
+}
+
+// Reads twice: first the answer, then, unless it is a refusal, the operations into the buffers.
+pub fn parse_ops(text: &[u8], kinds: &mut [u8], operands: &mut [u64]) -> ParsedOps
+    ensures { λ r. ⌜ Parsed (now (text .entry)) (now (kinds .entry)) (now (operands .entry)) (now (kinds .exit)) (now (operands .exit)) r ⌝ }
+{
+    if !utf8::is_utf8(text) {
+        return ParsedOps::Refused(OpsError::NotUtf8);
+    }
+    let answer = pass(text, kinds, operands, false);
+    match answer {
+        ParsedOps::Read(_) => pass(text, kinds, operands, true),
+        ParsedOps::Refused(_) => answer,
+    }
+}
+
+// The trimmed line of a number from 1, as a part of the text.
+pub fn trimmed_line<'a>(text: &'a [u8], line: usize) -> &'a [u8]
+    ensures { λ r. ⌜ now r ≡ trimmedLine (now (text .entry)) line ⌝ }
+{
+    let step = nth_line(text, line);
+    match step {
+        Step::Next(l) => {
+            let start = l.start;
+            let end = l.end;
+            trim::trim(&text[start..end])
+        }
+        Step::Done => &text[..0],
+    }
+}
+
+// Where the line of a number from 1 stands.
+pub fn nth_line(text: &[u8], line: usize) -> Step
+    ensures { λ r. ⌜ r ≡ lineNumbered (now (text .entry)) line ⌝ }
+{
+    if line == 0 {
+        return Step::Done;
+    }
+    if !utf8::is_utf8(text) {
+        return Step::Done;
+    }
+    let mut at: usize = 0;
+    let mut left = line - 1;
+    while 0 < left {
+        let step = lines::line_at(text, at);
+        let Step::Next(l) = step else {
+            return Step::Done;
+        };
+        at = l.next;
+        left -= 1;
+    }
+    lines::line_at(text, at)
+}
+
+fn smaller(a: usize, b: usize) -> usize
+    ensures { λ r. ⌜ r ≡ min a b ⌝ }
+{
+    if a <= b { a } else { b }
+}
+
+// One pass over a text that is UTF-8. It gives the answer, and writes the operations only where it is told to.
+fn pass(text: &[u8], kinds: &mut [u8], operands: &mut [u64], writing: bool) -> ParsedOps
+    requires { ⌜ (writing ≡ true → Good (now text) (now kinds) (now operands)) ⌝ }
+    ensures { λ r. ⌜ Passed (now (text .entry)) (now (kinds .entry)) (now (operands .entry)) (now (kinds .exit)) (now (operands .exit)) writing r ⌝ }
+{
+    let room = smaller(kinds.len(), operands.len());
+    let mut at: usize = 0;
+    let mut line: usize = 0;
+    let mut n: usize = 0;
+    while at < text.len() {
+        line += 1;
+        let reached = line_read_at(text, at, line);
+        let read = reached.read;
+        at = reached.next;
+        match read {
+            LineRead::Skip => {}
+            LineRead::Op { kind, operand } => {
+                if n == room {
+                    return ParsedOps::Refused(OpsError::Full { line });
+                }
+                let here = n;
+                n += 1;
+                if writing {
+                    kinds[here] = kind;
+                    operands[here] = operand;
+                }
+            }
+            LineRead::Bad(e) => {
+                return ParsedOps::Refused(e);
+            }
+        }
+    }
+    if n == 0 {
+        return ParsedOps::Refused(OpsError::Empty);
+    }
+    ParsedOps::Read(n)
+}
