@@ -1,0 +1,54 @@
+-- The gate's tests, place by place, and what they say.
+use Prim.Native.Nat.{ℕ, suc, _+_, _<_, _≤_}
+use mathlib.Core.Path.{_≡_, refl, sym, ap, ap₂, _∙_}
+use mathlib.Core.List.{List, [], _∷_}
+use mathlib.Core.Bool.{Bool, true, false, not, _&&_}
+use native.Mathlib.Omega.{arith}
+use lib.Dec.{eqb}
+use lib.ListN.{length, getD, drop}
+use borrow.Author.Tests.{eq-eqb, ne-eqb, eqb-true, not-true, not-false}
+use Rattle.byte.proofs.Tests.{never, and-left, and-right}
+use Rattle.byte.proofs.Parts.{next}
+use Rattle.context.specs.Gate.{equal, isHexDigit, allHexDigits}
+
+-- lists of different lengths differ
+pub equal-lengths : (s t : List ℕ) → (length s ≡ length t → ⊥) → equal s t ≡ false
+equal-lengths [] [] n = absurd (n refl)
+equal-lengths [] (b ∷ t) n = refl
+equal-lengths (a ∷ s) [] n = refl
+equal-lengths (a ∷ s) (b ∷ t) n = go (eqb a b) (equal-lengths s t (λ e. n (ap suc e)))
+  where
+    go : (p : Bool) → equal s t ≡ false → (p && equal s t) ≡ false
+    go true e = e
+    go false e = refl
+
+equal-next : (s t : List ℕ) (i : ℕ) → i < length s → i < length t → equal (drop i s) (drop i t) ≡ (eqb (getD s i 0) (getD t i 0) && equal (drop (i + 1) s) (drop (i + 1) t))
+equal-next s t i h k = rw (next s i (i + 1) h refl, next t i (i + 1) k refl)
+
+pub equal-on : (s t : List ℕ) (i : ℕ) → i < length s → i < length t → getD s i 0 ≡ getD t i 0 → equal (drop i s) (drop i t) ≡ equal (drop (i + 1) s) (drop (i + 1) t)
+equal-on s t i h k e = rw (equal-next s t i h k, eq-eqb (getD s i 0) (getD t i 0) e)
+
+pub equal-off : (s t : List ℕ) (i : ℕ) → i < length s → i < length t → (getD s i 0 ≡ getD t i 0 → ⊥) → equal (drop i s) (drop i t) ≡ false
+equal-off s t i h k n = rw (equal-next s t i h k, ne-eqb (getD s i 0) (getD t i 0) n)
+
+pub hex-at : (s : List ℕ) (i : ℕ) (p : Bool) → i < length s → isHexDigit (getD s i 0) ≡ p → allHexDigits (drop i s) ≡ (p && allHexDigits (drop (i + 1) s))
+hex-at s i p h e = rw (next s i (i + 1) h refl, e)
+
+-- the test says equality
+pub equal-refl : (s : List ℕ) → equal s s ≡ true
+equal-refl [] = refl
+equal-refl (a ∷ s) = rw (eq-eqb a a refl) (equal-refl s)
+
+pub equal-true : (s t : List ℕ) → equal s t ≡ true → s ≡ t
+equal-true [] [] e = refl
+equal-true [] (b ∷ t) e = never e
+equal-true (a ∷ s) [] e = never e
+equal-true (a ∷ s) (b ∷ t) e =
+    ap₂ _∷_ (eqb-true a b (and-left (eqb a b) (equal s t) e)) (equal-true s t (and-right (eqb a b) (equal s t) e))
+
+-- the test b, from the code's result r and its branch on `!r`
+pub holds : {r b : Bool} → r ≡ b → not r ≡ false → b ≡ true
+holds {r} p q = sym p ∙ not-false r q
+
+pub fails : {r b : Bool} → r ≡ b → not r ≡ true → b ≡ false
+fails {r} p q = sym p ∙ not-true r q

@@ -1,0 +1,73 @@
+-- The chain gate: refusals 35 to 40 of document 01, in its order.
+use Prim.Native.Nat.{ℕ}
+use mathlib.Core.List.{List, [], _∷_}
+use mathlib.Core.Bool.{Bool, true, false, _&&_, _||_}
+use lib.Dec.{eqb}
+use lib.ListN.{length}
+use Rattle.byte.specs.Range.{within}
+use Rattle.context.specs.declared.ContextError.{ContextError}
+use Rattle.context.specs.declared.ContextError.the-variants.{InvalidChainId, InvalidNetworkId, InvalidGenesisId, ProtocolMismatch, VmMismatch, GenesisMismatch}
+use Rattle.context.specs.declared.Gate.{Gate}
+use Rattle.context.specs.declared.Gate.the-variants.{Passed, Refused}
+
+-- equality of lists as a test
+abbrev pub equal : List ℕ → List ℕ → Bool
+equal [] [] = true
+equal [] (b ∷ t) = false
+equal (a ∷ s) [] = false
+equal (a ∷ s) (b ∷ t) = eqb a b && equal s t
+
+-- `atc`, `devnet`, `testnet` and `mainnet` in ASCII
+abbrev pub atc : List ℕ
+atc = 97 ∷ 116 ∷ 99 ∷ []
+
+abbrev pub devnet : List ℕ
+devnet = 100 ∷ 101 ∷ 118 ∷ 110 ∷ 101 ∷ 116 ∷ []
+
+abbrev pub testnet : List ℕ
+testnet = 116 ∷ 101 ∷ 115 ∷ 116 ∷ 110 ∷ 101 ∷ 116 ∷ []
+
+abbrev pub mainnet : List ℕ
+mainnet = 109 ∷ 97 ∷ 105 ∷ 110 ∷ 110 ∷ 101 ∷ 116 ∷ []
+
+abbrev pub isNetwork : List ℕ → Bool
+isNetwork s = (equal s devnet || equal s testnet) || equal s mainnet
+
+-- 0 to 9, A to F, a to f
+abbrev pub isHexDigit : ℕ → Bool
+isHexDigit a = within 48 57 a || (within 65 70 a || within 97 102 a)
+
+abbrev pub allHexDigits : List ℕ → Bool
+allHexDigits [] = true
+allHexDigits (a ∷ s) = isHexDigit a && allHexDigits s
+
+abbrev pub isGenesisId : List ℕ → Bool
+isGenesisId s = eqb (length s) 64 && allHexDigits s
+
+-- the refusal e unless the test holds
+abbrev pub need : Bool → ContextError → Gate → Gate
+need true e g = g
+need false e g = Refused e
+
+abbrev pub gateOf : (chain network genesis protocol vm computed expectedProtocol expectedVm : List ℕ) → Gate
+gateOf chain network genesis protocol vm computed expectedProtocol expectedVm =
+    need (equal chain atc) InvalidChainId
+    (need (isNetwork network) InvalidNetworkId
+    (need (isGenesisId genesis) InvalidGenesisId
+    (need (equal protocol expectedProtocol) ProtocolMismatch
+    (need (equal vm expectedVm) VmMismatch
+    (need (equal genesis computed) GenesisMismatch
+    Passed)))))
+
+-- document 01's number of each case
+abbrev pub errorNumber : ContextError → ℕ
+errorNumber InvalidChainId = 35
+errorNumber InvalidNetworkId = 36
+errorNumber InvalidGenesisId = 37
+errorNumber ProtocolMismatch = 38
+errorNumber VmMismatch = 39
+errorNumber GenesisMismatch = 40
+
+abbrev pub gateNumber : Gate → ℕ
+gateNumber Passed = 0
+gateNumber (Refused e) = errorNumber e

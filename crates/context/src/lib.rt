@@ -1,0 +1,100 @@
+// The chain gate: what a state transition tests of its context before anything else is looked at.
+ghost use mathlib.Core.Path.{_≡_};
+ghost use Rattle.context.specs.Gate.{equal, isHexDigit, allHexDigits, isNetwork, isGenesisId, gateOf};
+
+pub enum ContextError {
+    InvalidChainId,
+    InvalidNetworkId,
+    InvalidGenesisId,
+    ProtocolMismatch,
+    VmMismatch,
+    GenesisMismatch,
+}
+
+pub enum Gate {
+    Passed,
+    Refused(ContextError),
+}
+
+pub fn execution_gate(
+    chain_id: &[u8],
+    network_id: &[u8],
+    genesis_id: &[u8],
+    protocol_version: &[u8],
+    vm_version: &[u8],
+    computed_genesis_id: &[u8],
+    expected_protocol: &[u8],
+    expected_vm: &[u8],
+) -> Gate
+    ensures { λ r. ⌜ r ≡ gateOf (now («chain_id» .entry)) (now («network_id» .entry)) (now («genesis_id» .entry)) (now («protocol_version» .entry)) (now («vm_version» .entry)) (now («computed_genesis_id» .entry)) (now («expected_protocol» .entry)) (now («expected_vm» .entry)) ⌝ }
+{
+    if !same(chain_id, b"atc") {
+        return Gate::Refused(ContextError::InvalidChainId);
+    }
+    if !is_network(network_id) {
+        return Gate::Refused(ContextError::InvalidNetworkId);
+    }
+    if !is_genesis_id(genesis_id) {
+        return Gate::Refused(ContextError::InvalidGenesisId);
+    }
+    if !same(protocol_version, expected_protocol) {
+        return Gate::Refused(ContextError::ProtocolMismatch);
+    }
+    if !same(vm_version, expected_vm) {
+        return Gate::Refused(ContextError::VmMismatch);
+    }
+    if !same(genesis_id, computed_genesis_id) {
+        return Gate::Refused(ContextError::GenesisMismatch);
+    }
+    Gate::Passed
+}
+
+// Byte by byte, whatever the bytes stand for.
+fn same(a: &[u8], b: &[u8]) -> bool
+    ensures { λ r. ⌜ r ≡ equal (now (a .entry)) (now (b .entry)) ⌝ }
+{
+    if a.len() != b.len() {
+        return false;
+    }
+    let mut i: usize = 0;
+    while i < a.len() {
+        if a[i] != b[i] {
+            return false;
+        }
+        i += 1;
+    }
+    true
+}
+
+fn is_network(s: &[u8]) -> bool
+    ensures { λ r. ⌜ r ≡ isNetwork (now (s .entry)) ⌝ }
+{
+    let named = byte::either(same(s, b"devnet"), same(s, b"testnet"));
+    byte::either(named, same(s, b"mainnet"))
+}
+
+fn is_genesis_id(s: &[u8]) -> bool
+    ensures { λ r. ⌜ r ≡ isGenesisId (now (s .entry)) ⌝ }
+{
+    byte::both(s.len() == 64, all_hex_digits(s))
+}
+
+fn all_hex_digits(s: &[u8]) -> bool
+    ensures { λ r. ⌜ r ≡ allHexDigits (now (s .entry)) ⌝ }
+{
+    let mut i: usize = 0;
+    while i < s.len() {
+        if !is_hex_digit(s[i]) {
+            return false;
+        }
+        i += 1;
+    }
+    true
+}
+
+fn is_hex_digit(a: u8) -> bool
+    ensures { λ r. ⌜ r ≡ isHexDigit a ⌝ }
+{
+    let letter = byte::either(byte::in_range(b'A', b'F', a), byte::in_range(b'a', b'f', a));
+    byte::either(byte::in_range(b'0', b'9', a), letter)
+}

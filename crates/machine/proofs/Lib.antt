@@ -1,0 +1,5 @@
+pub mod Stack
+pub mod Storage
+pub mod Program
+pub mod Effects
+pub mod Runs

@@ -1,0 +1,129 @@
+-- Theorems of runs: an operation that goes on costs at least 1, a run in pieces, equal programs, and a run's bound.
+use Prim.Native.Nat.{ℕ, zero, suc, _+_, _-_, _≤_, _<_}
+use native.Mathlib.Omega.{arith}
+use native.Mathlib.Nat.{zero-add, suc-add}
+use native.Mathlib.Decide.{decLt}
+use mathlib.Core.Path.{_≡_, refl, ap, fun-ext}
+use mathlib.Core.Bool.{Bool, true, false, cond}
+use mathlib.Core.List.{List}
+use lib.ListN.{length, getD}
+use lib.Dec.{ltb}
+use borrow.Author.Tests.{lt-ltb, le-ltb}
+use Rattle.machine.specs.Operation.{Op, push, binary, dup, swap, jump, jumpIfNotZero, load, store, caller, jumpIfZero, halt}
+use Rattle.machine.specs.Machine.{Frame, Effect, moves, jumps, ends, fails, Act, over, costs, Outcome, next, done, stop, effectOf, settle, pay, actOf, machine, follow, runOf, start, whole}
+
+-- an operation that goes on costs at least 1
+abbrev pub PricedAct : Act → Type 0
+PricedAct over = Unit {0}
+PricedAct (costs p (moves s m)) = 1 ≤ p
+PricedAct (costs p (jumps t s m)) = 1 ≤ p
+PricedAct (costs p ends) = Unit {0}
+PricedAct (costs p (fails f)) = Unit {0}
+
+abbrev pub Priced : (Frame → Act) → Type 0
+Priced act = (fr : Frame) → PricedAct (act fr)
+
+priced-effect : (p : ℕ) (e : Effect) → 1 ≤ p → PricedAct (costs p e)
+priced-effect p (moves s m) h = h
+priced-effect p (jumps t s m) h = h
+priced-effect p ends h = tt
+priced-effect p (fails f) h = tt
+
+priced-op : (c room : ℕ) (op : Op) (fr : Frame) → PricedAct (actOf c room op fr)
+priced-op c room (push v) fr = priced-effect 1 (effectOf c room (push v) (fr .stack) (fr .storage)) (omega arith)
+priced-op c room (binary o) fr = priced-effect 2 (effectOf c room (binary o) (fr .stack) (fr .storage)) (omega arith)
+priced-op c room dup fr = priced-effect 1 (effectOf c room dup (fr .stack) (fr .storage)) (omega arith)
+priced-op c room swap fr = priced-effect 1 (effectOf c room swap (fr .stack) (fr .storage)) (omega arith)
+priced-op c room (jump t) fr = priced-effect 2 (effectOf c room (jump t) (fr .stack) (fr .storage)) (omega arith)
+priced-op c room (jumpIfNotZero t) fr = priced-effect 2 (effectOf c room (jumpIfNotZero t) (fr .stack) (fr .storage)) (omega arith)
+priced-op c room (load i) fr = priced-effect 3 (effectOf c room (load i) (fr .stack) (fr .storage)) (omega arith)
+priced-op c room (store i) fr = priced-effect 3 (effectOf c room (store i) (fr .stack) (fr .storage)) (omega arith)
+priced-op c room caller fr = priced-effect 1 (effectOf c room caller (fr .stack) (fr .storage)) (omega arith)
+priced-op c room (jumpIfZero t) fr = priced-effect 2 (effectOf c room (jumpIfZero t) (fr .stack) (fr .storage)) (omega arith)
+priced-op c room halt fr = tt
+
+pub priced : (program : List Op) (c room : ℕ) → Priced (machine program c room)
+priced program c room fr = go (ltb (fr .pos) (length program))
+  where
+    go : (b : Bool) → PricedAct (cond b (actOf c room (getD program (fr .pos) halt) fr) over)
+    go true = priced-op c room (getD program (fr .pos) halt) fr
+    go false = tt
+
+-- n operations and then m more are n + m operations
+pub split : (act : Frame → Act) (n m g : ℕ) (fr : Frame) → runOf act (n + m) g fr ≡ follow (runOf act n g fr) (runOf act m)
+unfolding runOf
+split act zero m g fr = rw zero-add
+split act (suc n) m g fr = rw suc-add (go (pay g fr (act fr)) (λ h f. split act n m h f))
+  where
+    go : (o : Outcome) → ((h : ℕ) (f : Frame) → runOf act (n + m) h f ≡ follow (runOf act n h f) (runOf act m))
+        → follow o (runOf act (n + m)) ≡ follow (follow o (runOf act n)) (runOf act m)
+    go (next h f) ih = ih h f
+    go (done h f) ih = refl
+    go (stop e) ih = refl
+
+-- programs that act alike run alike
+pub alike : (act act′ : Frame → Act) → ((fr : Frame) → act fr ≡ act′ fr) → (n g : ℕ) (fr : Frame) → runOf act n g fr ≡ runOf act′ n g fr
+alike act act′ h n g fr = ap (λ (a : Frame → Act). runOf a n g fr) (fun-ext h)
+
+-- what an outcome has counted: a frame with at most n operations
+abbrev pub Counted : ℕ → Outcome → Type 0
+Counted n (next h fr) = fr .ops ≤ n
+Counted n (done h fr) = fr .ops ≤ n
+Counted n (stop f) = Unit {0}
+
+-- at most n operations are executed
+pub counted : (act : Frame → Act) (n g : ℕ) (fr : Frame) → Counted (fr .ops + n) (runOf act n g fr)
+unfolding runOf
+counted act zero g fr = omega arith
+counted act (suc n) g fr = go (act fr) (λ h f k. more (fr .ops) n h f k (counted act n h f))
+  where
+    more : (k n h : ℕ) (f : Frame) → f .ops ≡ k + 1 → Counted (f .ops + n) (runOf act n h f) → Counted (k + suc n) (runOf act n h f)
+    more k n h f e c = let s : f .ops + n ≡ k + suc n = omega arith in rw s at c
+
+    effect : (h : ℕ) (e : Effect) → ((h : ℕ) (f : Frame) → f .ops ≡ fr .ops + 1 → Counted (fr .ops + suc n) (runOf act n h f)) → Counted (fr .ops + suc n) (follow (settle h fr e) (runOf act n))
+    effect h (moves s m) ih = ih h (record { pos = fr .pos + 1; stack = s; storage = m; ops = fr .ops + 1 }) refl
+    effect h (jumps t s m) ih = ih h (record { pos = t; stack = s; storage = m; ops = fr .ops + 1 }) refl
+    effect h ends ih = omega arith
+    effect h (fails f) ih = tt
+
+    go : (a : Act) → ((h : ℕ) (f : Frame) → f .ops ≡ fr .ops + 1 → Counted (fr .ops + suc n) (runOf act n h f)) → Counted (fr .ops + suc n) (follow (pay g fr a) (runOf act n))
+    go over ih = omega arith
+    go (costs p e) ih = paid (decLt g p)
+      where
+        paid : Dec (g < p) → Counted (fr .ops + suc n) (follow (pay g fr (costs p e)) (runOf act n))
+        paid (yes l) = rw (lt-ltb g p l) tt
+        paid (no l) = let k : p ≤ g = omega arith in rw (le-ltb g p k) (effect (g - p) e ih)
+
+abbrev pub Ended : Outcome → Type 0
+Ended (next h fr) = ⊥
+Ended (done h fr) = Unit {0}
+Ended (stop f) = Unit {0}
+
+-- with more operations than gas a run has ended
+pub ended : (act : Frame → Act) → Priced act → (n g : ℕ) (fr : Frame) → g < n → Ended (runOf act n g fr)
+unfolding runOf
+ended act pr zero g fr h = absurd (omega arith)
+ended act pr (suc n) g fr h = go (act fr) (pr fr) (λ g₁ f. ended act pr n g₁ f)
+  where
+    effect : (p : ℕ) (e : Effect) → p ≤ g → PricedAct (costs p e) → ((g₁ : ℕ) (f : Frame) → g₁ < n → Ended (runOf act n g₁ f)) → Ended (follow (settle (g - p) fr e) (runOf act n))
+    effect p (moves s m) k one ih = ih (g - p) (record { pos = fr .pos + 1; stack = s; storage = m; ops = fr .ops + 1 }) (omega arith)
+    effect p (jumps t s m) k one ih = ih (g - p) (record { pos = t; stack = s; storage = m; ops = fr .ops + 1 }) (omega arith)
+    effect p ends k one ih = tt
+    effect p (fails f) k one ih = tt
+
+    paid : (p : ℕ) (e : Effect) → PricedAct (costs p e) → ((g₁ : ℕ) (f : Frame) → g₁ < n → Ended (runOf act n g₁ f)) → Dec (g < p) → Ended (follow (pay g fr (costs p e)) (runOf act n))
+    paid p e one ih (yes l) = rw (lt-ltb g p l) tt
+    paid p e one ih (no l) = let k : p ≤ g = omega arith in rw (le-ltb g p k) (effect p e k one ih)
+
+    go : (a : Act) → PricedAct a → ((g₁ : ℕ) (f : Frame) → g₁ < n → Ended (runOf act n g₁ f)) → Ended (follow (pay g fr a) (runOf act n))
+    go over one ih = tt
+    go (costs p e) one ih = paid p e one ih (decLt g p)
+
+-- a whole run under the limit g ends, and executes at most g + 1 operations
+pub whole-ends : (program : List Op) (c room g : ℕ) (m : List ℕ) → Ended (whole program c room g m)
+unfolding whole
+whole-ends program c room g m = ended (machine program c room) (priced program c room) (g + 1) g (start m) (omega arith)
+
+pub whole-bounded : (program : List Op) (c room g : ℕ) (m : List ℕ) → Counted (g + 1) (whole program c room g m)
+unfolding whole
+whole-bounded program c room g m = rw zero-add at (counted (machine program c room) (g + 1) g (start m))

@@ -1,0 +1,104 @@
+-- The machine's state as the code holds it: registers, the stack buffer and the work buffer.
+use Prim.Native.Nat.{ℕ, zero, suc, _+_, _-_, _≤_, _<_, _^_, max}
+use mathlib.Core.Path.{_≡_}
+use mathlib.Core.List.{List, [], _∷_}
+use lib.ListN.{length, getD, take}
+use Rattle.word.specs.Apply.{Binary, add, sub, mul, div, eq, lt}
+use Rattle.machine.specs.declared.Refusal.{Refusal}
+use Rattle.machine.specs.declared.Refusal.the-variants.{OutOfGas, StackUnderflow, StackLimitExceeded, DivisionByZero, StorageLimitExceeded, OutsideStorage}
+use Rattle.machine.specs.declared.Regs.{Regs}
+use Rattle.machine.specs.Operation.{Op, priceOf}
+use Rattle.machine.specs.Machine.{Frame, Effect, Outcome, next, done, stop, settle, pay, actOf, machine, runOf}
+
+-- the first n of a buffer, the last of them first
+unfoldable pub down : ℕ → List ℕ → List ℕ
+down zero xs = []
+down (suc n) xs = getD xs n 0 ∷ down n xs
+
+-- the frame in the registers, the stack buffer s and the work buffer w
+abbrev pub frameOf : List ℕ → List ℕ → Regs → Frame
+frameOf s w r = record { pos = r .pos; stack = down (r .items) s; storage = take (r .used) w; ops = r .ops }
+
+-- codes 46 to 51 are document 01's numbers, and any other counts as 46; the note is a price or a number of slots
+abbrev pub refusalOf : ℕ → ℕ → ℕ → Refusal
+refusalOf code note left =
+    getD (OutOfGas note left ∷ StackUnderflow ∷ StackLimitExceeded ∷ DivisionByZero ∷ StorageLimitExceeded note ∷ OutsideStorage ∷ []) (code - 46) (OutOfGas note left)
+
+-- code 0 goes on, 1 is done, any other is a refusal
+abbrev pub byCode : ℕ → ℕ → ℕ → Frame → Outcome
+byCode zero note g fr = next g fr
+byCode (suc zero) note g fr = done g fr
+byCode (suc (suc n)) note g fr = stop (refusalOf (suc (suc n)) note g)
+
+abbrev pub outcomeOf : List ℕ → List ℕ → Regs → Outcome
+outcomeOf s w r = byCode (r .code) (r .note) (r .gas) (frameOf s w r)
+
+-- registers that go on to a place, that end well, and that end with a refusal
+abbrev pub goneOn : Regs → ℕ → ℕ → ℕ → Regs
+goneOn r pos items used = record { pos = pos; gas = r .gas; items = items; used = used; ops = r .ops + 1; code = 0; note = 0 }
+
+abbrev pub ended : Regs → ℕ → Regs
+ended r ops = record { pos = r .pos; gas = r .gas; items = r .items; used = r .used; ops = ops; code = 1; note = 0 }
+
+abbrev pub stopped : Regs → ℕ → ℕ → Regs
+stopped r code note = record { pos = r .pos; gas = r .gas; items = r .items; used = r .used; ops = r .ops; code = code; note = note }
+
+abbrev pub paid : Regs → ℕ → Regs
+paid r p = record { pos = r .pos; gas = r .gas - p; items = r .items; used = r .used; ops = r .ops; code = r .code; note = r .note }
+
+-- bounds that every operation keeps. A jump costs 2, so the operations counted stay below the position or the gas spent,
+-- and the count fits a word under every limit
+pub record Held (room : ℕ) (r : Regs) : Type 0 where
+  pub items : r .items ≤ 4096
+  pub used : r .used ≤ room
+  pub spent : r .ops + r .gas < 2 ^ 64 + r .code
+  pub count : r .ops < max (r .pos + 1) (2 ^ 64 - 1 - r .gas) + r .code
+
+-- what an operation asks of the registers and of the stack buffer's length
+pub record Ready (r : Regs) (n : ℕ) : Type 0 where
+  pub room : 4096 ≤ n
+  pub items : r .items ≤ 4096
+  pub pos : r .pos < 2 ^ 63
+  pub ops : r .ops + 1 < 2 ^ 64
+
+-- what an operation that is paid for leaves of r's bounds; where it goes on, its position is lo or more
+pub record Kept (lo room : ℕ) (r q : Regs) : Type 0 where
+  pub items : q .items ≤ 4096
+  pub used : q .used ≤ room
+  pub gas : q .gas ≡ r .gas
+  pub counted : r .ops + 1 ≤ q .ops + q .code
+  pub once : q .ops ≤ r .ops + 1
+  pub pos : lo ≤ q .pos + q .code
+
+-- an operation's effect on the buffers s and w, which it leaves as s′ and w′
+pub record Did (lo : ℕ) (effect : List ℕ → List ℕ → Effect) (r q : Regs) (s w s′ w′ : List ℕ) : Type 0 where
+  pub outcome : outcomeOf s′ w′ q ≡ settle (r .gas) (frameOf s w r) (effect (down (r .items) s) (take (r .used) w))
+  pub kept : Kept lo (length w) r q
+
+-- the same where the work buffer is neither read nor written
+abbrev pub DidAny : ℕ → (List ℕ → List ℕ → Effect) → Regs → Regs → List ℕ → List ℕ → Type 0
+DidAny lo effect r q s s′ = (w : List ℕ) → r .used ≤ length w → Did lo effect r q s w s′ w
+
+-- registers that run, and the lengths of the buffers
+pub record Running (r : Regs) (stack work : ℕ) : Type 0 where
+  pub held : Held work r
+  pub code : r .code ≡ 0
+  pub room : 4096 ≤ stack
+
+-- one operation, paid for and done
+pub record Stepped (c : ℕ) (op : Op) (r q : Regs) (s w s′ w′ : List ℕ) : Type 0 where
+  pub outcome : outcomeOf s′ w′ q ≡ pay (r .gas) (frameOf s w r) (actOf c (length w) op (frameOf s w r))
+  pub held : Held (length w) q
+  pub gas : q .gas ≤ r .gas
+  pub falls : q .gas + 1 ≤ r .gas + q .code
+
+-- the two-sided operation of kind 1, 2, 3, 4 or 9; any other kind is taken for Lt
+abbrev pub binaryOf : ℕ → Binary
+binaryOf k = getD (lt ∷ add ∷ sub ∷ mul ∷ div ∷ lt ∷ lt ∷ lt ∷ lt ∷ eq ∷ []) k lt
+
+-- a run to its end: with more operations than gas it is the machine's
+pub record Ran (program : List Op) (c : ℕ) (r q : Regs) (s w s′ w′ : List ℕ) : Type 0 where
+  pub outcome : (n : ℕ) → r .gas < n → outcomeOf s′ w′ q ≡ runOf (machine program c (length w)) n (r .gas) (frameOf s w r)
+  pub held : Held (length w) q
+  pub over : 1 ≤ q .code
+  pub gas : q .gas ≤ r .gas

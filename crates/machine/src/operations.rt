@@ -1,0 +1,183 @@
+// What each operation does once its price is taken.
+ghost use mathlib.Core.Path.{_≡_};
+ghost use mathlib.Core.List.{List, _++_};
+ghost use mathlib.Core.Option.{some};
+ghost use Prim.Native.Nat.{ℕ, _+_, _-_, _≤_, _<_, _^_};
+ghost use lib.ListN.{length, take, drop, replicate};
+ghost use Rattle.word.specs.Apply.{apply as applyOf};
+ghost use Rattle.machine.specs.Machine.{jumps, pushOf, twoOf, dupOf, swapOf, jumpIfZeroOf, jumpIfNotZeroOf, loadOf, storeOf, requested as requestedOf};
+ghost use Rattle.machine.specs.Registers.{Ready, Did, DidAny, binaryOf};
+
+use super::registers;
+use super::Regs;
+
+pub fn push(stack: &mut [u64], r: Regs, v: u64) -> Regs
+    requires { ⌜ Ready r (length (now stack)) ⌝ }
+    ensures { λ q. ⌜ DidAny (r .pos + 1) (pushOf v) r q (now (stack .entry)) (now (stack .exit)) ⌝ }
+{
+    let n = r.items;
+    if n >= 4096 {
+        return registers::stop(r, 48, 0);
+    }
+    stack[n] = v;
+    registers::go_on(r, r.pos + 1, n + 1, r.used)
+}
+
+// The two-sided operation of a kind: the Rust's closures, as a choice.
+fn apply(kind: u8, a: u64, b: u64) -> u64
+    requires { ⌜ (kind ≡ 4 → 1 ≤ b) ⌝ }
+    ensures { λ r. ⌜ some r ≡ applyOf (binaryOf kind) a b ⌝ }
+{
+    match kind {
+        1 => std::num::wrapping_add_u64(a, b),
+        2 => std::num::wrapping_sub_u64(a, b),
+        3 => word::wrapping_mul(a, b),
+        4 => a / b,
+        9 => { if a == b { 1 } else { 0 } }
+        _ => { if a < b { 1 } else { 0 } }
+    }
+}
+
+pub fn two(stack: &mut [u64], r: Regs, kind: u8) -> Regs
+    requires { ⌜ Ready r (length (now stack)) ⌝ }
+    ensures { λ q. ⌜ DidAny (r .pos + 1) (twoOf (binaryOf kind)) r q (now (stack .entry)) (now (stack .exit)) ⌝ }
+{
+    let n = r.items;
+    if n < 2 {
+        return registers::stop(r, 47, 0);
+    }
+    let b = stack[n - 1];
+    let a = stack[n - 2];
+    if kind == 4 {
+        if b == 0 {
+            return registers::stop(r, 49, 0);
+        }
+    }
+    stack[n - 2] = apply(kind, a, b);
+    registers::go_on(r, r.pos + 1, n - 1, r.used)
+}
+
+pub fn dup(stack: &mut [u64], r: Regs) -> Regs
+    requires { ⌜ Ready r (length (now stack)) ⌝ }
+    ensures { λ q. ⌜ DidAny (r .pos + 1) dupOf r q (now (stack .entry)) (now (stack .exit)) ⌝ }
+{
+    let n = r.items;
+    if n < 1 {
+        return registers::stop(r, 47, 0);
+    }
+    let v = stack[n - 1];
+    push(stack, r, v)
+}
+
+pub fn swap(stack: &mut [u64], r: Regs) -> Regs
+    requires { ⌜ Ready r (length (now stack)) ⌝ }
+    ensures { λ q. ⌜ DidAny (r .pos + 1) swapOf r q (now (stack .entry)) (now (stack .exit)) ⌝ }
+{
+    let n = r.items;
+    if n < 2 {
+        return registers::stop(r, 47, 0);
+    }
+    let b = stack[n - 1];
+    let a = stack[n - 2];
+    stack[n - 1] = a;
+    stack[n - 2] = b;
+    registers::go_on(r, r.pos + 1, n, r.used)
+}
+
+pub fn jump(r: Regs, t: u64) -> Regs
+    requires { ⌜ r .ops + 1 < 2 ^ 64 ⌝ }
+    requires { ⌜ r .items ≤ 4096 ⌝ }
+    ensures { λ q. ⌜ ((s : List ℕ) → DidAny 0 (jumps t) r q s s) ⌝ }
+{
+    registers::go_on(r, t as usize, r.items, r.used)
+}
+
+pub fn jump_if_zero(stack: &[u64], r: Regs, t: u64) -> Regs
+    requires { ⌜ Ready r (length (now stack)) ⌝ }
+    ensures { λ q. ⌜ DidAny 0 (jumpIfZeroOf t) r q (now (stack .entry)) (now (stack .entry)) ⌝ }
+{
+    let n = r.items;
+    if n < 1 {
+        return registers::stop(r, 47, 0);
+    }
+    if stack[n - 1] == 0 {
+        return registers::go_on(r, t as usize, n - 1, r.used);
+    }
+    registers::go_on(r, r.pos + 1, n - 1, r.used)
+}
+
+pub fn jump_if_not_zero(stack: &[u64], r: Regs, t: u64) -> Regs
+    requires { ⌜ Ready r (length (now stack)) ⌝ }
+    ensures { λ q. ⌜ DidAny 0 (jumpIfNotZeroOf t) r q (now (stack .entry)) (now (stack .entry)) ⌝ }
+{
+    let n = r.items;
+    if n < 1 {
+        return registers::stop(r, 47, 0);
+    }
+    if stack[n - 1] == 0 {
+        return registers::go_on(r, r.pos + 1, n - 1, r.used);
+    }
+    registers::go_on(r, t as usize, n - 1, r.used)
+}
+
+pub fn load(stack: &mut [u64], work: &[u64], r: Regs, slot: u64) -> Regs
+    requires { ⌜ Ready r (length (now stack)) ⌝ }
+    requires { ⌜ r .used ≤ length (now work) ⌝ }
+    ensures { λ q. ⌜ Did (r .pos + 1) (loadOf slot) r q (now (stack .entry)) (now (work .entry)) (now (stack .exit)) (now (work .entry)) ⌝ }
+{
+    let at = slot as usize;
+    let end = r.used;
+    if at < end {
+        return push(stack, r, work[at]);
+    }
+    push(stack, r, 0)
+}
+
+pub fn store(stack: &[u64], work: &mut [u64], r: Regs, slot: u64) -> Regs
+    requires { ⌜ Ready r (length (now stack)) ⌝ }
+    requires { ⌜ r .used ≤ length (now work) ⌝ }
+    ensures { λ q. ⌜ Did (r .pos + 1) (storeOf (length (now (work .entry))) slot) r q (now (stack .entry)) (now (work .entry)) (now (stack .entry)) (now (work .exit)) ⌝ }
+{
+    let n = r.items;
+    if n < 1 {
+        return registers::stop(r, 47, 0);
+    }
+    let v = stack[n - 1];
+    if slot >= 65536 {
+        return registers::stop(r, 50, requested(slot));
+    }
+    let at = slot as usize;
+    let used = r.used;
+    if at >= work.len() {
+        return registers::stop(r, 51, 0);
+    }
+    if at < used {
+        work[at] = v;
+        return registers::go_on(r, r.pos + 1, n - 1, used);
+    }
+    zero_out(work, used, at);
+    work[at] = v;
+    registers::go_on(r, r.pos + 1, n - 1, at + 1)
+}
+
+// The slots that the storage would need, as far as a word counts them.
+fn requested(slot: u64) -> u64
+    ensures { λ r. ⌜ r ≡ requestedOf slot ⌝ }
+{
+    if slot < 18446744073709551615 {
+        return slot + 1;
+    }
+    slot
+}
+
+// Zeros from `a` up to `e`.
+pub fn zero_out(s: &mut [u64], a: usize, e: usize)
+    requires { ⌜ (a ≤ e) × (e ≤ length (now s)) ⌝ }
+    ensures { λ _. ⌜ now (s .exit) ≡ take a (now (s .entry)) ++ (replicate (e - a) 0 ++ drop e (now (s .entry))) ⌝ }
+{
+    let mut i = a;
+    while i < e {
+        s[i] = 0;
+        i += 1;
+    }
+}

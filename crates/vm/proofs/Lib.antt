@@ -1,0 +1,5 @@
+pub mod Laws
+pub mod Copies
+pub mod Ends
+pub mod Transitions
+pub mod Examples

@@ -1,0 +1,56 @@
+-- `execute_state_transition_with_gas` meets its contract: the lengths, the gate, then the verifier and the run.
+use mathlib.Core.Path.{_≡_, refl, sym, _∙_}
+use Rattle.context.proofs.Laws.{holds, fails}
+use Rattle.vm.proofs.Laws.{lent}
+use borrow.Author.Needs.{needs}
+use Rattle.vm.proofs.execute_state_transition_with_gas.Statement.{statement}
+use Rattle.vm.proofs.execute_state_transition_with_gas.Tie as tie
+
+buffers-fit-requires : tie.Need-buffers-fit-requires
+buffers-fit-requires c κs = search needs
+
+returns : tie.Need-returns
+returns c = rw (fails (c .before .buffers-fit .ensures) (c .if1 .taken)) (record { answer = refl; stack = refl; work = refl; storage = refl })
+
+execution-gate-requires : tie.Need-execution-gate-requires
+execution-gate-requires c κs = search needs
+
+enum-known-gate : tie.Need-enum-known-gate
+enum-known-gate c = search needs
+
+enum-told : tie.Need-enum-told
+enum-told c = search needs
+
+verified-run-requires : tie.Need-verified-run-requires
+verified-run-requires c κs = let a = c .before .before .before .before .before .before .before .before .before .before .before .before .before .before .before .before .before .before .before .before .before .args in lent (a .kinds .now) (a .operands .now) (a .stack .now) (a .work .now) (a .storage .now) (a .state .used) (holds (c .before .before .before .before .before .before .before .buffers-fit .ensures) (c .before .before .before .before .before .before .if1 .left))
+
+returns-2 : tie.Need-returns-2
+returns-2 c = rw (holds (c .before .before .before .before .before .buffers-fit .ensures) (c .before .before .before .before .if1 .left), sym (c .before .before .before .execution-gate .ensures) ∙ c .before .gate .given .1) (record { answer = refl; stack = refl; work = refl; storage = refl })
+
+same-length : tie.Need-same-length
+same-length c = search needs
+
+same-length-2 : tie.Need-same-length-2
+same-length-2 c = search needs
+
+same-length-3 : tie.Need-same-length-3
+same-length-3 c = search needs
+
+returns-3 : tie.Need-returns-3
+returns-3 c = rw (holds (c .before .before .before .before .before .before .before .before .before .before .before .before .before .before .buffers-fit .ensures) (c .before .before .before .before .before .before .before .before .before .before .before .before .before .if1 .left), sym (c .before .before .before .before .before .before .before .before .before .before .before .before .execution-gate .ensures) ∙ c .before .before .before .before .before .before .before .before .before .before .enum-told .given .1) (c .before .before .before .before .before .before .verified-run .ensures)
+
+pub execute-state-transition-with-gas-spec : {M : Type 1} → statement M
+execute-state-transition-with-gas-spec =
+    tie.close
+    (tie.spec
+    buffers-fit-requires
+    returns
+    execution-gate-requires
+    enum-known-gate
+    enum-told
+    verified-run-requires
+    returns-2
+    same-length
+    same-length-2
+    same-length-3
+    returns-3)

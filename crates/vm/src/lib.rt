@@ -1,0 +1,131 @@
+// A state transition: the lent buffers' lengths, the chain gate, the verifier, the metered run.
+ghost use mathlib.Core.Path.{_≡_};
+ghost use lib.ListN.{length};
+ghost use Rattle.context.specs.Gate.{gateOf};
+ghost use Rattle.context.specs.declared.Gate.the-variants as gate;
+ghost use Rattle.vm.specs.Verify.{buffersFit, gateCheck, verifyOf, andThen};
+ghost use Rattle.vm.specs.Transition.{Meets, Lent, transitionOf, performed, afterCheck, untouched, ofRun};
+
+mod buffers;
+pub mod verify;
+mod perform;
+
+use context::Gate;
+use machine::Refusal;
+
+// The part of a state that is no buffer.
+pub struct State {
+    pub used: usize,
+}
+
+pub enum Check {
+    Passed,
+    Refused(Refusal),
+}
+
+pub enum Answer {
+    Success {
+        gas_spent: u64,
+        operations: u64,
+        items: usize,
+        state: State,
+    },
+    Refused(Refusal),
+}
+
+pub fn run_with_gas(
+    kinds: &[u8],
+    operands: &[u64],
+    caller: u64,
+    gas_limit: u64,
+    stack: &mut [u64],
+    work: &mut [u64],
+    storage: &mut [u64],
+    state: State,
+) -> Answer
+    ensures { λ a. ⌜ Meets (transitionOf gate.Passed (now (kinds .entry)) (now (operands .entry)) caller «gas_limit» (now (stack .entry)) (now (work .entry)) (now (storage .entry)) state) a (now (stack .exit)) (now (work .exit)) (now (storage .exit)) ⌝ }
+{
+    if !verify::buffers_fit(kinds.len(), operands.len(), stack.len(), work.len(), storage.len(), state.used) {
+        return Answer::Refused(Refusal::BufferLengths);
+    }
+    perform::verified_run(kinds, operands, caller, gas_limit, stack, work, storage, state)
+}
+
+pub fn execute_state_transition_with_gas(
+    chain_id: &[u8],
+    network_id: &[u8],
+    genesis_id: &[u8],
+    protocol_version: &[u8],
+    vm_version: &[u8],
+    computed_genesis_id: &[u8],
+    expected_protocol: &[u8],
+    expected_vm: &[u8],
+    kinds: &[u8],
+    operands: &[u64],
+    caller: u64,
+    gas_limit: u64,
+    stack: &mut [u64],
+    work: &mut [u64],
+    storage: &mut [u64],
+    state: State,
+) -> Answer
+    ensures { λ a. ⌜ Meets (transitionOf (gateOf (now («chain_id» .entry)) (now («network_id» .entry)) (now («genesis_id» .entry)) (now («protocol_version» .entry)) (now («vm_version» .entry)) (now («computed_genesis_id» .entry)) (now («expected_protocol» .entry)) (now («expected_vm» .entry))) (now (kinds .entry)) (now (operands .entry)) caller «gas_limit» (now (stack .entry)) (now (work .entry)) (now (storage .entry)) state) a (now (stack .exit)) (now (work .exit)) (now (storage .exit)) ⌝ }
+{
+    if !verify::buffers_fit(kinds.len(), operands.len(), stack.len(), work.len(), storage.len(), state.used) {
+        return Answer::Refused(Refusal::BufferLengths);
+    }
+    let gate = context::execution_gate(
+        chain_id,
+        network_id,
+        genesis_id,
+        protocol_version,
+        vm_version,
+        computed_genesis_id,
+        expected_protocol,
+        expected_vm,
+    );
+    match gate {
+        Gate::Refused(e) => Answer::Refused(Refusal::Context(e)),
+        Gate::Passed => perform::verified_run(kinds, operands, caller, gas_limit, stack, work, storage, state),
+    }
+}
+
+// The same with no gas, as the Rust has it.
+pub fn execute_state_transition(
+    chain_id: &[u8],
+    network_id: &[u8],
+    genesis_id: &[u8],
+    protocol_version: &[u8],
+    vm_version: &[u8],
+    computed_genesis_id: &[u8],
+    expected_protocol: &[u8],
+    expected_vm: &[u8],
+    kinds: &[u8],
+    operands: &[u64],
+    caller: u64,
+    stack: &mut [u64],
+    work: &mut [u64],
+    storage: &mut [u64],
+    state: State,
+) -> Answer
+    ensures { λ a. ⌜ Meets (transitionOf (gateOf (now («chain_id» .entry)) (now («network_id» .entry)) (now («genesis_id» .entry)) (now («protocol_version» .entry)) (now («vm_version» .entry)) (now («computed_genesis_id» .entry)) (now («expected_protocol» .entry)) (now («expected_vm» .entry))) (now (kinds .entry)) (now (operands .entry)) caller 0 (now (stack .entry)) (now (work .entry)) (now (storage .entry)) state) a (now (stack .exit)) (now (work .exit)) (now (storage .exit)) ⌝ }
+{
+    execute_state_transition_with_gas(
+        chain_id,
+        network_id,
+        genesis_id,
+        protocol_version,
+        vm_version,
+        computed_genesis_id,
+        expected_protocol,
+        expected_vm,
+        kinds,
+        operands,
+        caller,
+        0,
+        stack,
+        work,
+        storage,
+        state,
+    )
+}

@@ -1,0 +1,92 @@
+// The run behind the tests of lengths and gate: it works in the work buffer, and the storage is
+// written once, when the run has succeeded.
+ghost use mathlib.Core.Path.{_≡_};
+ghost use Prim.Native.Nat.{_≤_};
+ghost use lib.ListN.{length};
+ghost use Rattle.machine.specs.Registers.{outcomeOf, Held};
+ghost use Rattle.vm.specs.Verify.{verifyOf};
+ghost use Rattle.vm.specs.Transition.{Meets, Lent, performed, afterCheck, untouched, ofRun};
+
+use super::buffers;
+use super::verify;
+use super::Answer;
+use super::Check;
+use super::State;
+use machine::Regs;
+
+pub fn verified_run(
+    kinds: &[u8],
+    operands: &[u64],
+    caller: u64,
+    gas_limit: u64,
+    stack: &mut [u64],
+    work: &mut [u64],
+    storage: &mut [u64],
+    state: State,
+) -> Answer
+    requires { ⌜ Lent (now kinds) (now operands) (now stack) (now work) (now storage) (state .used) ⌝ }
+    ensures { λ a. ⌜ Meets (afterCheck (verifyOf (now (kinds .entry)) (now (operands .entry)) (state .used)) (λ f. untouched f state (now (stack .entry)) (now (work .entry)) (now (storage .entry))) (performed (now (kinds .entry)) (now (operands .entry)) caller «gas_limit» (now (stack .entry)) (now (storage .entry)) state)) a (now (stack .exit)) (now (work .exit)) (now (storage .exit)) ⌝ }
+{
+    match verify::verify(kinds, operands, state.used) {
+        Check::Refused(f) => Answer::Refused(f),
+        Check::Passed => run(kinds, operands, caller, gas_limit, stack, work, storage, state),
+    }
+}
+
+fn run(
+    kinds: &[u8],
+    operands: &[u64],
+    caller: u64,
+    gas_limit: u64,
+    stack: &mut [u64],
+    work: &mut [u64],
+    storage: &mut [u64],
+    state: State,
+) -> Answer
+    requires { ⌜ Lent (now kinds) (now operands) (now stack) (now work) (now storage) (state .used) ⌝ }
+    ensures { λ a. ⌜ Meets (performed (now (kinds .entry)) (now (operands .entry)) caller «gas_limit» (now (stack .entry)) (now (storage .entry)) state) a (now (stack .exit)) (now (work .exit)) (now (storage .exit)) ⌝ }
+{
+    let used = state.used;
+    buffers::copy_front(work, storage, used);
+    let from = Regs {
+        pos: 0,
+        gas: gas_limit,
+        items: 0,
+        used,
+        ops: 0,
+        code: 0,
+        note: 0,
+    };
+    let r = metered::run(kinds, operands, caller, stack, work, from);
+    finish(gas_limit, r, stack, work, storage, state)
+}
+
+// The answer of a run that has ended, and what it leaves in the buffers.
+fn finish(
+    gas_limit: u64,
+    r: Regs,
+    stack: &mut [u64],
+    work: &mut [u64],
+    storage: &mut [u64],
+    state: State,
+) -> Answer
+    requires { ⌜ (length (now work) ≡ length (now storage)) × (4096 ≤ length (now stack)) × Held (length (now work)) r × (1 ≤ r .code) × (r .gas ≤ «gas_limit») ⌝ }
+    ensures { λ a. ⌜ Meets (ofRun «gas_limit» state (length (now (stack .entry))) (now (storage .entry)) (outcomeOf (now (stack .entry)) (now (work .entry)) r)) a (now (stack .exit)) (now (work .exit)) (now (storage .exit)) ⌝ }
+{
+    if r.code != 1 {
+        buffers::clear_from(stack, 0);
+        buffers::clear_from(work, 0);
+        return Answer::Refused(machine::refusal_of(r.code, r.note, r.gas));
+    }
+    let items = r.items;
+    let used = r.used;
+    buffers::clear_from(stack, items);
+    buffers::copy_front(storage, work, used);
+    buffers::clear_from(work, 0);
+    Answer::Success {
+        gas_spent: gas_limit - r.gas,
+        operations: r.ops,
+        items,
+        state: State { used },
+    }
+}
