@@ -2,9 +2,9 @@
 ghost use mathlib.Core.Path.{_≡_};
 ghost use Rattle.machine.specs.Registers.{refusalOf};
 
-pub mod registers;
 pub mod operations;
 pub mod price;
+pub mod registers;
 
 pub enum Refusal {
     BufferLengths,

@@ -7,9 +7,8 @@ ghost use lib.ListN.{length, take, drop, replicate};
 ghost use Rattle.word.specs.Apply.{apply as applyOf};
 ghost use Rattle.machine.specs.Machine.{jumps, pushOf, twoOf, dupOf, swapOf, jumpIfZeroOf, jumpIfNotZeroOf, loadOf, storeOf, requested as requestedOf};
 ghost use Rattle.machine.specs.Registers.{Ready, Did, DidAny, binaryOf};
-
-use super::registers;
 use super::Regs;
+use super::registers;
 
 pub fn push(stack: &mut [u64], r: Regs, v: u64) -> Regs
     requires { ⌜ Ready r (length (now stack)) ⌝ }

@@ -2,7 +2,6 @@
 ghost use mathlib.Core.Path.{_≡_};
 ghost use Prim.Native.Nat.{_+_, _≤_, _<_, _^_};
 ghost use Rattle.machine.specs.Registers.{goneOn, ended, stopped, paid};
-
 use super::Regs;
 
 pub fn pay(r: Regs, price: u64) -> Regs

@@ -6,8 +6,8 @@ ghost use Rattle.machine.specs.Registers.{Running, Ran};
 
 mod step;
 
-use machine::registers;
 use machine::Regs;
+use machine::registers;
 
 // Operations until the program ends or is refused, from any registers that run.
 pub fn run(

@@ -4,11 +4,10 @@ ghost use Prim.Native.Nat.{_<_, _^_};
 ghost use lib.ListN.{length};
 ghost use Rattle.machine.specs.Operation.{opOf};
 ghost use Rattle.machine.specs.Registers.{Running, Stepped};
-
+use machine::Regs;
 use machine::operations;
 use machine::price;
 use machine::registers;
-use machine::Regs;
 
 fn step_of(
     kind: u8,

@@ -7,8 +7,8 @@ ghost use Rattle.vm.specs.Verify.{buffersFit, gateCheck, verifyOf, andTh
 ghost use Rattle.vm.specs.Transition.{Meets, Lent, transitionOf, performed, afterCheck, untouched, ofRun};
 
 mod buffers;
-pub mod verify;
 mod perform;
+pub mod verify;
 
 use context::Gate;
 use machine::Refusal;
@@ -45,10 +45,26 @@ pub fn run_with_gas(
 ) -> Answer
     ensures { λ a. ⌜ Meets (transitionOf gate.Passed (now (kinds .entry)) (now (operands .entry)) caller «gas_limit» (now (stack .entry)) (now (work .entry)) (now (storage .entry)) state) a (now (stack .exit)) (now (work .exit)) (now (storage .exit)) ⌝ }
 {
-    if !verify::buffers_fit(kinds.len(), operands.len(), stack.len(), work.len(), storage.len(), state.used) {
+    if !verify::buffers_fit(
+        kinds.len(),
+        operands.len(),
+        stack.len(),
+        work.len(),
+        storage.len(),
+        state.used,
+    ) {
         return Answer::Refused(Refusal::BufferLengths);
     }
-    perform::verified_run(kinds, operands, caller, gas_limit, stack, work, storage, state)
+    perform::verified_run(
+        kinds,
+        operands,
+        caller,
+        gas_limit,
+        stack,
+        work,
+        storage,
+        state,
+    )
 }
 
 pub fn execute_state_transition_with_gas(
@@ -71,7 +87,14 @@ pub fn execute_state_transition_with_gas(
 ) -> Answer
     ensures { λ a. ⌜ Meets (transitionOf (gateOf (now («chain_id» .entry)) (now («network_id» .entry)) (now («genesis_id» .entry)) (now («protocol_version» .entry)) (now («vm_version» .entry)) (now («computed_genesis_id» .entry)) (now («expected_protocol» .entry)) (now («expected_vm» .entry))) (now (kinds .entry)) (now (operands .entry)) caller «gas_limit» (now (stack .entry)) (now (work .entry)) (now (storage .entry)) state) a (now (stack .exit)) (now (work .exit)) (now (storage .exit)) ⌝ }
 {
-    if !verify::buffers_fit(kinds.len(), operands.len(), stack.len(), work.len(), storage.len(), state.used) {
+    if !verify::buffers_fit(
+        kinds.len(),
+        operands.len(),
+        stack.len(),
+        work.len(),
+        storage.len(),
+        state.used,
+    ) {
         return Answer::Refused(Refusal::BufferLengths);
     }
     let gate = context::execution_gate(
@@ -86,7 +109,16 @@ pub fn execute_state_transition_with_gas(
     );
     match gate {
         Gate::Refused(e) => Answer::Refused(Refusal::Context(e)),
-        Gate::Passed => perform::verified_run(kinds, operands, caller, gas_limit, stack, work, storage, state),
+        Gate::Passed => perform::verified_run(
+            kinds,
+            operands,
+            caller,
+            gas_limit,
+            stack,
+            work,
+            storage,
+            state,
+        ),
     }
 }
 

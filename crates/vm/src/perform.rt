@@ -6,12 +6,11 @@ ghost use lib.ListN.{length};
 ghost use Rattle.machine.specs.Registers.{outcomeOf, Held};
 ghost use Rattle.vm.specs.Verify.{verifyOf};
 ghost use Rattle.vm.specs.Transition.{Meets, Lent, performed, afterCheck, untouched, ofRun};
-
-use super::buffers;
-use super::verify;
 use super::Answer;
 use super::Check;
 use super::State;
+use super::buffers;
+use super::verify;
 use machine::Regs;
 
 pub fn verified_run(
@@ -29,7 +28,16 @@ pub fn verified_run(
 {
     match verify::verify(kinds, operands, state.used) {
         Check::Refused(f) => Answer::Refused(f),
-        Check::Passed => run(kinds, operands, caller, gas_limit, stack, work, storage, state),
+        Check::Passed => run(
+            kinds,
+            operands,
+            caller,
+            gas_limit,
+            stack,
+            work,
+            storage,
+            state,
+        ),
     }
 }
 

@@ -5,7 +5,6 @@ ghost use Rattle.machine.specs.declared.Refusal.the-variants.{JumpOutOfRange};
 ghost use Rattle.vm.specs.declared.Check.the-variants as check;
 ghost use Rattle.vm.specs.Verify.{need, buffersFit, operationCheck, operationsCheck, verifyOf};
 ghost use lib.ListN.{length};
-
 use super::Check;
 use machine::Refusal;
 

@@ -63,7 +63,7 @@ returns c =
     record {
       outcome =
           λ n h.
-              sym (l .inv .4 (outcomeOf (d .last .1 .1 .1 .0) (d .last .1 .1 .1 .1 .0) q) (ends-with (machine (decode (a .kinds .now) (a .operands .now)) (a .caller) (length (a .work .now))) (l .r .gas) (q .code) (q .note) (q .gas) (frameOf (l .stack) (l .work) (l .r)) _ (here (c .before .before .before .before .before .before)) one) n h);
+          sym (l .inv .4 (outcomeOf (d .last .1 .1 .1 .0) (d .last .1 .1 .1 .1 .0) q) (ends-with (machine (decode (a .kinds .now) (a .operands .now)) (a .caller) (length (a .work .now))) (l .r .gas) (q .code) (q .note) (q .gas) (frameOf (l .stack) (l .work) (l .r)) _ (here (c .before .before .before .before .before .before)) one) n h);
       held = rw (l .inv .2) at (d .ensures .held);
       over = one;
       gas = le-trans (d .ensures .gas) (l .inv .3);

@@ -18,8 +18,8 @@ returns : tie.Need-returns
 returns c =
     let a = c .before .before .before .args in
     λ w h.
-        fails-by 47 0 (c .stop .ensures) (omega arith) (omega arith) (omega arith) h
-        (no-item (λ (s : List ℕ). dupOf s (take (a .r .used) w)) (a .r .items) (a .stack .now) (c .before .if1 .taken))
+    fails-by 47 0 (c .stop .ensures) (omega arith) (omega arith) (omega arith) h
+    (no-item (λ (s : List ℕ). dupOf s (take (a .r .used) w)) (a .r .items) (a .stack .now) (c .before .if1 .taken))
 
 mul-v : tie.Need-mul-v
 mul-v c = search needs

@@ -40,8 +40,8 @@ returns-2 c =
     let a = c .before .before .before .before .args in
     let n : a .r .items < length (a .stack .now) = omega arith in
     λ w h.
-        moves-by (a .r .items + 1) (a .r .used) (c .go-on .ensures) (omega arith) (omega arith) h
-        (simp (length-down, lt-ltb _ _ (c .before .before .if1 .left), down-push))
+    moves-by (a .r .items + 1) (a .r .used) (c .go-on .ensures) (omega arith) (omega arith) h
+    (simp (length-down, lt-ltb _ _ (c .before .before .if1 .left), down-push))
 
 pub push-spec : {M : Type 1} → statement M
 push-spec =

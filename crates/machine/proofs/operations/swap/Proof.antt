@@ -18,8 +18,8 @@ returns : tie.Need-returns
 returns c =
     let a = c .before .before .before .args in
     λ w h.
-        fails-by 47 0 (c .stop .ensures) (omega arith) (omega arith) (omega arith) h
-        (below-two (λ (s : List ℕ). swapOf s (take (a .r .used) w)) (a .r .items) (a .stack .now) (c .before .if1 .taken) (λ b. refl))
+    fails-by 47 0 (c .stop .ensures) (omega arith) (omega arith) (omega arith) h
+    (below-two (λ (s : List ℕ). swapOf s (take (a .r .used) w)) (a .r .items) (a .stack .now) (c .before .if1 .taken) (λ b. refl))
 
 sub-b : tie.Need-sub-b
 sub-b c = search needs
@@ -68,8 +68,8 @@ returns-2 c =
     let h : 2 ≤ n = c .before .before .before .before .if1 .left in
     let k : n ≤ length s = omega arith in
     λ w u.
-        moves-by n (a .r .used) (c .go-on .ensures) (omega arith) (omega arith) u
-        (rw (down-swap n (getD s (n - 2) 0) (getD s (n - 1) 0) s h k, down-two n s h))
+    moves-by n (a .r .used) (c .go-on .ensures) (omega arith) (omega arith) u
+    (rw (down-swap n (getD s (n - 2) 0) (getD s (n - 1) 0) s h k, down-two n s h))
 
 pub swap-spec : {M : Type 1} → statement M
 swap-spec =

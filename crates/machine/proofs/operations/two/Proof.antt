@@ -24,8 +24,8 @@ returns : tie.Need-returns
 returns c =
     let a = c .before .before .before .args in
     λ w h.
-        fails-by 47 0 (c .stop .ensures) (omega arith) (omega arith) (omega arith) h
-        (below-two (λ (s : List ℕ). twoOf (binaryOf (a .kind)) s (take (a .r .used) w)) (a .r .items) (a .stack .now) (c .before .if1 .taken) (λ b. refl))
+    fails-by 47 0 (c .stop .ensures) (omega arith) (omega arith) (omega arith) h
+    (below-two (λ (s : List ℕ). twoOf (binaryOf (a .kind)) s (take (a .r .used) w)) (a .r .items) (a .stack .now) (c .before .if1 .taken) (λ b. refl))
 
 sub-b : tie.Need-sub-b
 sub-b c = search needs
@@ -49,8 +49,8 @@ returns-2 : tie.Need-returns-2
 returns-2 c =
     let a = c .before .before .before .before .before .before .before .args in
     λ w h.
-        fails-by 49 0 (c .stop2 .ensures) (omega arith) (omega arith) (omega arith) h
-        (rw (down-two (a .r .items) (a .stack .now) (c .before .before .before .before .before .if1 .left), c .before .before .if2 .taken, eq-eqb _ _ (c .before .if3 .taken)))
+    fails-by 49 0 (c .stop2 .ensures) (omega arith) (omega arith) (omega arith) h
+    (rw (down-two (a .r .items) (a .stack .now) (c .before .before .before .before .before .if1 .left), c .before .before .if2 .taken, eq-eqb _ _ (c .before .if3 .taken)))
 
 apply-requires : tie.Need-apply-requires
 apply-requires c κs = λ e. ⊎-elim (λ w. positive _ (w .1 .left)) (λ w. absurd (w .left e)) (c .if2 .came)
@@ -79,8 +79,8 @@ returns-3 c =
     let h : 2 ≤ a .r .items = c .before .before .before .before .before .before .if1 .left in
     let k : a .r .items ≤ length (a .stack .now) = omega arith in
     λ w u.
-        moves-by (a .r .items - 1) (a .r .used) (c .go-on .ensures) (omega arith) (omega arith) u
-        (rw (down-two (a .r .items) (a .stack .now) h, ← c .before .before .apply .ensures, down-put))
+    moves-by (a .r .items - 1) (a .r .used) (c .go-on .ensures) (omega arith) (omega arith) u
+    (rw (down-two (a .r .items) (a .stack .now) h, ← c .before .before .apply .ensures, down-put))
 
 pub two-spec : {M : Type 1} → statement M
 two-spec =
