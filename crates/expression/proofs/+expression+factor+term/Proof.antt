@@ -1,0 +1,314 @@
+-- expression, term and factor meet their contracts: every call is at a later byte, or at the same byte and of a lower rank.
+use Prim.Native.Nat.{ℕ, suc, _+_, _-_, _*_, _<_}
+use mathlib.Core.Path.{_≡_, refl, sym, ap, subst, _∙_}
+use native.Mathlib.Omega.{arith}
+use lib.ListN.{length}
+use Rattle.expression.specs.Parse.{lone}
+use Rattle.expression.specs.Table.{columnsOf}
+use Rattle.expression.specs.Parts.{signAt, AllFit}
+use Rattle.token.proofs.Tokens.{Next, tokenFrom}
+use Rattle.expression.proofs.Signs.{none-of, next-of}
+use Rattle.expression.proofs.Reading.{carry, small, operator-next, Going, begins, begins-refused, finishes, goes-on, goes-refused}
+use Rattle.expression.proofs.Factors.{none-meets, deep-meets, inner-refused, inner-closed, literal-meets, name-meets}
+use borrow.Author.Needs.{needs}
+use borrow.Fn.Kinds.{In}
+use borrow.Fn.PlainCycle.{Measures, is, falls, and}
+use Rattle.expression.proofs.expression.Reads as expression
+use Rattle.expression.proofs.expression.Kinds as expression-kinds
+use Rattle.expression.proofs.+expression+factor+term.Lts-expression as expression-lts
+use Rattle.expression.proofs.factor.Reads as factor
+use Rattle.expression.proofs.factor.Kinds as factor-kinds
+use Rattle.expression.proofs.+expression+factor+term.Lts-factor as factor-lts
+use Rattle.expression.proofs.term.Reads as term
+use Rattle.expression.proofs.term.Kinds as term-kinds
+use Rattle.expression.proofs.+expression+factor+term.Lts-term as term-lts
+use Rattle.expression.proofs.parts.close.Reads as close-reads
+use Rattle.expression.proofs.figures.join.Reads as join-reads
+use Rattle.expression.proofs.parts.is_product.Reads as is-product-reads
+use Rattle.expression.proofs.parts.is_sum.Reads as is-sum-reads
+use Rattle.expression.proofs.parts.literal.Reads as literal-reads
+use Rattle.expression.proofs.parts.lone_byte.Reads as lone-byte-reads
+use Rattle.expression.proofs.parts.name.Reads as name-reads
+use Rattle.expression.proofs.parts.sign_at.Reads as sign-at-reads
+use Rattle.token.proofs.is_digit.Reads as is-digit-reads
+use Rattle.token.proofs.token_at.Reads as token-at-reads
+use Rattle.expression.proofs.+expression+factor+term.{statement}
+use Rattle.expression.proofs.+expression+factor+term.Tie.{close}
+
+abbrev μ-expression : Measures 1 expression-kinds.ps ℕ
+μ-expression κs a = 8 * (length (a .0 .now) - a .1 .0) + 3
+
+abbrev μ-factor : Measures 1 factor-kinds.ps ℕ
+μ-factor κs a = 8 * (length (a .0 .now) - a .1 .0) + 1
+
+abbrev μ-term : Measures 1 term-kinds.ps ℕ
+μ-term κs a = 8 * (length (a .0 .now) - a .1 .0) + 2
+
+abbrev expression-at : ℕ → In 1 expression-kinds.ps
+expression-at t =
+    and 1 expression-kinds.ps (is 1 expression-kinds.ps μ-expression t) expression.Pre
+
+abbrev expression-below : ℕ → In 1 expression-kinds.ps
+expression-below t =
+    and 1 expression-kinds.ps (falls 1 expression-kinds.ps _<_ μ-expression t) expression.Pre
+
+abbrev factor-at : ℕ → In 1 factor-kinds.ps
+factor-at t = and 1 factor-kinds.ps (is 1 factor-kinds.ps μ-factor t) factor.Pre
+
+abbrev factor-below : ℕ → In 1 factor-kinds.ps
+factor-below t = and 1 factor-kinds.ps (falls 1 factor-kinds.ps _<_ μ-factor t) factor.Pre
+
+abbrev term-at : ℕ → In 1 term-kinds.ps
+term-at t = and 1 term-kinds.ps (is 1 term-kinds.ps μ-term t) term.Pre
+
+abbrev term-below : ℕ → In 1 term-kinds.ps
+term-below t = and 1 term-kinds.ps (falls 1 term-kinds.ps _<_ μ-term t) term.Pre
+
+abbrev E : ℕ → expression-lts.Claims
+E t = (term-below t, term.Post, sign-at-reads.Asked, sign-at-reads.Learnt, is-sum-reads.Asked, is-sum-reads.Learnt, join-reads.Asked, join-reads.Learnt)
+
+abbrev F : ℕ → factor-lts.Claims
+F t = (token-at-reads.Asked, token-at-reads.Learnt, lone-byte-reads.Asked, lone-byte-reads.Learnt, expression-below t, expression.Post, close-reads.Asked, close-reads.Learnt, is-digit-reads.Asked, is-digit-reads.Learnt, literal-reads.Asked, literal-reads.Learnt, name-reads.Asked, name-reads.Learnt)
+
+abbrev T : ℕ → term-lts.Claims
+T t = (factor-below t, factor.Post, sign-at-reads.Asked, sign-at-reads.Learnt, is-product-reads.Asked, is-product-reads.Learnt, join-reads.Asked, join-reads.Learnt)
+
+abbrev expression-Inv-loop : expression-lts.InvT-loop
+expression-Inv-loop text at room count names lens ks ps values nones sizes left₀ sign₀ left sign = Going text at (columnsOf count names lens ks ps values nones sizes) 1 room left × (sign ≡ signAt text (left .next))
+
+abbrev expression-μ-loop : expression-lts.MeasureT-loop
+expression-μ-loop text at room count names lens ks ps values nones sizes left₀ sign₀ left sign = length text - left .next
+
+expression-term-requires : (t : ℕ) → expression-lts.Need-term-requires (E t) (expression-at t) expression.Post expression-Inv-loop expression-μ-loop
+expression-term-requires t c κs = search needs
+
+expression-enum-known-e : (t : ℕ) → expression-lts.Need-enum-known-e (E t) (expression-at t) expression.Post expression-Inv-loop expression-μ-loop
+expression-enum-known-e t c = search needs
+
+expression-enum-known-first : (t : ℕ) → expression-lts.Need-enum-known-first (E t) (expression-at t) expression.Post expression-Inv-loop expression-μ-loop
+expression-enum-known-first t c = search needs
+
+expression-sign-at-requires : (t : ℕ) → expression-lts.Need-sign-at-requires (E t) (expression-at t) expression.Post expression-Inv-loop expression-μ-loop
+expression-sign-at-requires t c κs = search needs
+
+expression-loop-holds : (t : ℕ) → expression-lts.Need-loop-holds (E t) (expression-at t) expression.Post expression-Inv-loop expression-μ-loop
+expression-loop-holds t c = (begins (carry (c .before .before .first .given .1) (c .before .before .before .before .term .ensures)), c .sign-at .ensures)
+
+expression-is-sum-requires : (t : ℕ) → expression-lts.Need-is-sum-requires (E t) (expression-at t) expression.Post expression-Inv-loop expression-μ-loop
+expression-is-sum-requires t c κs = search needs
+
+expression-term-requires-2 : (t : ℕ) → expression-lts.Need-term-requires-2 (E t) (expression-at t) expression.Post expression-Inv-loop expression-μ-loop
+expression-term-requires-2 t c κs = let o = operator-next (c .before .before .before .before .before .before .before .before .before .args .text .now) (c .before .before .loop .left .next) 2 (c .before .before .loop .sign) (c .before .before .loop .inv .1) (sym (c .before .is-sum .ensures) ∙ c .if1 .taken) in omega (arith, o .past, o .inside, c .before .before .loop .inv .0 .placed .past)
+
+expression-enum-known-e-2 : (t : ℕ) → expression-lts.Need-enum-known-e-2 (E t) (expression-at t) expression.Post expression-Inv-loop expression-μ-loop
+expression-enum-known-e-2 t c = search needs
+
+expression-returns : (t : ℕ) → expression-lts.Need-returns (E t) (expression-at t) expression.Post expression-Inv-loop expression-μ-loop
+expression-returns t c = goes-refused (c .before .before .before .before .before .before .loop .sign) (c .before .before .before .before .before .before .loop .inv .1) (sym (c .before .before .before .before .before .is-sum .ensures) ∙ c .before .before .before .before .if1 .taken) (c .before .before .before .before .before .before .loop .inv .0) (carry (c .before .e2 .given .1) (c .before .before .before .term2 .ensures))
+
+expression-enum-known-right : (t : ℕ) → expression-lts.Need-enum-known-right (E t) (expression-at t) expression.Post expression-Inv-loop expression-μ-loop
+expression-enum-known-right t c = search needs
+
+expression-join-requires : (t : ℕ) → expression-lts.Need-join-requires (E t) (expression-at t) expression.Post expression-Inv-loop expression-μ-loop
+expression-join-requires t c κs = (small (c .before .before .before .before .before .before .before .before .before .before .before .before .before .pre .1 .short) (c .before .before .before .before .before .before .loop .inv .0 .placed), small (c .before .before .before .before .before .before .before .before .before .before .before .before .before .pre .1 .short) (carry (c .before .right .given .1) (c .before .before .before .term2 .ensures) .fine))
+
+expression-sign-at-requires-2 : (t : ℕ) → expression-lts.Need-sign-at-requires-2 (E t) (expression-at t) expression.Post expression-Inv-loop expression-μ-loop
+expression-sign-at-requires-2 t c κs = search needs
+
+expression-loop-less : (t : ℕ) → expression-lts.Need-loop-less (E t) (expression-at t) expression.Post expression-Inv-loop expression-μ-loop
+expression-loop-less t c = let o = operator-next (c .before .before .before .before .before .before .before .before .before .before .before .before .before .before .before .args .text .now) (c .before .before .before .before .before .before .before .before .loop .left .next) 2 (c .before .before .before .before .before .before .before .before .loop .sign) (c .before .before .before .before .before .before .before .before .loop .inv .1) (sym (c .before .before .before .before .before .before .before .is-sum .ensures) ∙ c .before .before .before .before .before .before .if1 .taken) in let n = carry (c .before .before .before .right .given .1) (c .before .before .before .before .before .term2 .ensures) .fine in omega (arith, c .before .join .ensures .next, n .past, n .within, o .past)
+
+expression-loop-again : (t : ℕ) → expression-lts.Need-loop-again (E t) (expression-at t) expression.Post expression-Inv-loop expression-μ-loop
+expression-loop-again t c = (goes-on (c .before .before .before .before .before .before .before .before .loop .sign) (c .before .before .before .before .before .before .before .before .loop .inv .1) (sym (c .before .before .before .before .before .before .before .is-sum .ensures) ∙ c .before .before .before .before .before .before .if1 .taken) (c .before .before .before .before .before .before .before .before .loop .inv .0) (carry (c .before .before .before .right .given .1) (c .before .before .before .before .before .term2 .ensures)) (c .before .join .ensures), c .sign-at2 .ensures)
+
+expression-returns-2 : (t : ℕ) → expression-lts.Need-returns-2 (E t) (expression-at t) expression.Post expression-Inv-loop expression-μ-loop
+expression-returns-2 t c = begins-refused (carry (c .before .e .given .1) (c .before .before .before .term .ensures))
+
+expression-returns-3 : (t : ℕ) → expression-lts.Need-returns-3 (E t) (expression-at t) expression.Post expression-Inv-loop expression-μ-loop
+expression-returns-3 t c = finishes (c .before .before .loop .sign) (c .before .before .loop .inv .1) (sym (c .before .is-sum .ensures) ∙ c .if1 .left) (c .before .before .loop .inv .0)
+
+-- the token that factor reads, and whether it is `(`
+factor-token : (t : ℕ) (c : factor-lts.Else1 (F t) (factor-at t) factor.Post) →
+    let a = c .before .before .before .args in
+    Next (a .text .now) (a .at) (c .before .token-at .result .start) (c .before .token-at .result .end)
+factor-token t c = let a = c .before .before .before .args in next-of (a .text .now) (a .at) (c .before .token-at .result) (c .before .token-at .ensures) (c .if1 .left)
+
+factor-opens : (t : ℕ) (c : factor-lts.Then2 (F t) (factor-at t) factor.Post) →
+    lone (tokenFrom (c .before .before .before .before .before .args .text .now) (c .before .before .before .token-at .result .start)) ≡ 40
+factor-opens t c = sym (ap lone (factor-token t (c .before .before) .bytes)) ∙ sym (c .before .lone-byte .ensures) ∙ c .if2 .taken
+
+factor-no-opens : (t : ℕ) (c : factor-lts.Else2 (F t) (factor-at t) factor.Post) →
+    lone (tokenFrom (c .before .before .before .before .before .args .text .now) (c .before .before .before .token-at .result .start)) ≡ 40 → ⊥
+factor-no-opens t c e = c .if2 .left (c .before .lone-byte .ensures ∙ ap lone (factor-token t (c .before .before) .bytes) ∙ e)
+
+less-one : (n : ℕ) → (n ≡ 0 → ⊥) → n ≡ suc (n - 1)
+less-one n h = omega arith
+
+factor-token-at-requires : (t : ℕ) → factor-lts.Need-token-at-requires (F t) (factor-at t) factor.Post
+factor-token-at-requires t c κs = search needs
+
+factor-returns : (t : ℕ) → factor-lts.Need-returns (F t) (factor-at t) factor.Post
+factor-returns t c = let a = c .before .before .before .args in none-meets (a .text .now) (a .at) _ (a .room) (none-of (a .text .now) (a .at) (c .before .token-at .result) (c .before .token-at .ensures) (c .if1 .taken))
+
+factor-lone-byte-requires : (t : ℕ) → factor-lts.Need-lone-byte-requires (F t) (factor-at t) factor.Post
+factor-lone-byte-requires t c κs = let n = factor-token t c in (n .some, n .inside)
+
+factor-returns-2 : (t : ℕ) → factor-lts.Need-returns-2 (F t) (factor-at t) factor.Post
+factor-returns-2 t c = deep-meets _ (factor-token t (c .before .before .before)) (c .if3 .taken) (factor-opens t (c .before))
+
+factor-sub-expression : (t : ℕ) → factor-lts.Need-sub-expression (F t) (factor-at t) factor.Post
+factor-sub-expression t c = search needs
+
+factor-expression-requires : (t : ℕ) → factor-lts.Need-expression-requires (F t) (factor-at t) factor.Post
+factor-expression-requires t c κs = let n = factor-token t (c .before .before .before) in omega (arith, n .after, n .some, n .inside)
+
+factor-enum-known-e : (t : ℕ) → factor-lts.Need-enum-known-e (F t) (factor-at t) factor.Post
+factor-enum-known-e t c = search needs
+
+factor-enum-known-inner : (t : ℕ) → factor-lts.Need-enum-known-inner (F t) (factor-at t) factor.Post
+factor-enum-known-inner t c = search needs
+
+factor-close-requires : (t : ℕ) → factor-lts.Need-close-requires (F t) (factor-at t) factor.Post
+factor-close-requires t c κs = search needs
+
+factor-returns-3 : (t : ℕ) → factor-lts.Need-returns-3 (F t) (factor-at t) factor.Post
+factor-returns-3 t c = inner-refused _ (factor-token t (c .before .before .before .before .before .before .before)) (less-one _ (c .before .before .before .before .if3 .left)) (factor-opens t (c .before .before .before .before .before)) (carry (c .before .e .given .1) (c .before .before .before .expression .ensures))
+
+factor-returns-4 : (t : ℕ) → factor-lts.Need-returns-4 (F t) (factor-at t) factor.Post
+factor-returns-4 t c = carry (sym (c .close .ensures)) (inner-closed _ (factor-token t (c .before .before .before .before .before .before .before .before)) (less-one _ (c .before .before .before .before .before .if3 .left)) (factor-opens t (c .before .before .before .before .before .before)) (carry (c .before .before .inner .given .1) (c .before .before .before .before .expression .ensures)))
+
+factor-shared-slice-read-is-digit : (t : ℕ) → factor-lts.Need-shared-slice-read-is-digit (F t) (factor-at t) factor.Post
+factor-shared-slice-read-is-digit t c = let n = factor-token t (c .before .before .before) in omega (arith, n .some, n .inside)
+
+factor-is-digit-requires : (t : ℕ) → factor-lts.Need-is-digit-requires (F t) (factor-at t) factor.Post
+factor-is-digit-requires t c κs = search needs
+
+factor-literal-requires : (t : ℕ) → factor-lts.Need-literal-requires (F t) (factor-at t) factor.Post
+factor-literal-requires t c κs = let n = factor-token t (c .before .before .before .before .before) in omega (arith, n .some, n .inside)
+
+factor-returns-5 : (t : ℕ) → factor-lts.Need-returns-5 (F t) (factor-at t) factor.Post
+factor-returns-5 t c = carry (sym (c .literal .ensures)) (literal-meets _ (factor-token t (c .before .before .before .before .before .before)) _ (factor-no-opens t (c .before .before .before .before)) (sym (c .before .before .is-digit .ensures) ∙ c .before .if4 .taken))
+
+factor-name-requires : (t : ℕ) → factor-lts.Need-name-requires (F t) (factor-at t) factor.Post
+factor-name-requires t c κs = let n = factor-token t (c .before .before .before .before .before) in omega (arith, n .some, n .inside)
+
+factor-returns-6 : (t : ℕ) → factor-lts.Need-returns-6 (F t) (factor-at t) factor.Post
+factor-returns-6 t c = let e = c .name .ensures in carry (sym (e .1)) (name-meets _ (factor-token t (c .before .before .before .before .before .before)) _ (factor-no-opens t (c .before .before .before .before)) (sym (c .before .before .is-digit .ensures) ∙ c .before .if4 .left) _ refl (subst AllFit (e .1) (e .0)))
+
+abbrev term-Inv-loop : term-lts.InvT-loop
+term-Inv-loop text at room count names lens ks ps values nones sizes left₀ sign₀ left sign = Going text at (columnsOf count names lens ks ps values nones sizes) 0 room left × (sign ≡ signAt text (left .next))
+
+abbrev term-μ-loop : term-lts.MeasureT-loop
+term-μ-loop text at room count names lens ks ps values nones sizes left₀ sign₀ left sign = length text - left .next
+
+term-factor-requires : (t : ℕ) → term-lts.Need-factor-requires (T t) (term-at t) term.Post term-Inv-loop term-μ-loop
+term-factor-requires t c κs = search needs
+
+term-enum-known-e : (t : ℕ) → term-lts.Need-enum-known-e (T t) (term-at t) term.Post term-Inv-loop term-μ-loop
+term-enum-known-e t c = search needs
+
+term-enum-known-first : (t : ℕ) → term-lts.Need-enum-known-first (T t) (term-at t) term.Post term-Inv-loop term-μ-loop
+term-enum-known-first t c = search needs
+
+term-sign-at-requires : (t : ℕ) → term-lts.Need-sign-at-requires (T t) (term-at t) term.Post term-Inv-loop term-μ-loop
+term-sign-at-requires t c κs = search needs
+
+term-loop-holds : (t : ℕ) → term-lts.Need-loop-holds (T t) (term-at t) term.Post term-Inv-loop term-μ-loop
+term-loop-holds t c = (begins (carry (c .before .before .first .given .1) (c .before .before .before .before .factor .ensures)), c .sign-at .ensures)
+
+term-is-product-requires : (t : ℕ) → term-lts.Need-is-product-requires (T t) (term-at t) term.Post term-Inv-loop term-μ-loop
+term-is-product-requires t c κs = search needs
+
+term-factor-requires-2 : (t : ℕ) → term-lts.Need-factor-requires-2 (T t) (term-at t) term.Post term-Inv-loop term-μ-loop
+term-factor-requires-2 t c κs = let o = operator-next (c .before .before .before .before .before .before .before .before .before .args .text .now) (c .before .before .loop .left .next) 1 (c .before .before .loop .sign) (c .before .before .loop .inv .1) (sym (c .before .is-product .ensures) ∙ c .if1 .taken) in omega (arith, o .past, o .inside, c .before .before .loop .inv .0 .placed .past)
+
+term-enum-known-e-2 : (t : ℕ) → term-lts.Need-enum-known-e-2 (T t) (term-at t) term.Post term-Inv-loop term-μ-loop
+term-enum-known-e-2 t c = search needs
+
+term-returns : (t : ℕ) → term-lts.Need-returns (T t) (term-at t) term.Post term-Inv-loop term-μ-loop
+term-returns t c = goes-refused (c .before .before .before .before .before .before .loop .sign) (c .before .before .before .before .before .before .loop .inv .1) (sym (c .before .before .before .before .before .is-product .ensures) ∙ c .before .before .before .before .if1 .taken) (c .before .before .before .before .before .before .loop .inv .0) (carry (c .before .e2 .given .1) (c .before .before .before .factor2 .ensures))
+
+term-enum-known-right : (t : ℕ) → term-lts.Need-enum-known-right (T t) (term-at t) term.Post term-Inv-loop term-μ-loop
+term-enum-known-right t c = search needs
+
+term-join-requires : (t : ℕ) → term-lts.Need-join-requires (T t) (term-at t) term.Post term-Inv-loop term-μ-loop
+term-join-requires t c κs = (small (c .before .before .before .before .before .before .before .before .before .before .before .before .before .pre .1 .short) (c .before .before .before .before .before .before .loop .inv .0 .placed), small (c .before .before .before .before .before .before .before .before .before .before .before .before .before .pre .1 .short) (carry (c .before .right .given .1) (c .before .before .before .factor2 .ensures) .fine))
+
+term-sign-at-requires-2 : (t : ℕ) → term-lts.Need-sign-at-requires-2 (T t) (term-at t) term.Post term-Inv-loop term-μ-loop
+term-sign-at-requires-2 t c κs = search needs
+
+term-loop-less : (t : ℕ) → term-lts.Need-loop-less (T t) (term-at t) term.Post term-Inv-loop term-μ-loop
+term-loop-less t c = let o = operator-next (c .before .before .before .before .before .before .before .before .before .before .before .before .before .before .before .args .text .now) (c .before .before .before .before .before .before .before .before .loop .left .next) 1 (c .before .before .before .before .before .before .before .before .loop .sign) (c .before .before .before .before .before .before .before .before .loop .inv .1) (sym (c .before .before .before .before .before .before .before .is-product .ensures) ∙ c .before .before .before .before .before .before .if1 .taken) in let n = carry (c .before .before .before .right .given .1) (c .before .before .before .before .before .factor2 .ensures) .fine in omega (arith, c .before .join .ensures .next, n .past, n .within, o .past)
+
+term-loop-again : (t : ℕ) → term-lts.Need-loop-again (T t) (term-at t) term.Post term-Inv-loop term-μ-loop
+term-loop-again t c = (goes-on (c .before .before .before .before .before .before .before .before .loop .sign) (c .before .before .before .before .before .before .before .before .loop .inv .1) (sym (c .before .before .before .before .before .before .before .is-product .ensures) ∙ c .before .before .before .before .before .before .if1 .taken) (c .before .before .before .before .before .before .before .before .loop .inv .0) (carry (c .before .before .before .right .given .1) (c .before .before .before .before .before .factor2 .ensures)) (c .before .join .ensures), c .sign-at2 .ensures)
+
+term-returns-2 : (t : ℕ) → term-lts.Need-returns-2 (T t) (term-at t) term.Post term-Inv-loop term-μ-loop
+term-returns-2 t c = begins-refused (carry (c .before .e .given .1) (c .before .before .before .factor .ensures))
+
+term-returns-3 : (t : ℕ) → term-lts.Need-returns-3 (T t) (term-at t) term.Post term-Inv-loop term-μ-loop
+term-returns-3 t c = finishes (c .before .before .loop .sign) (c .before .before .loop .inv .1) (sym (c .before .is-product .ensures) ∙ c .if1 .left) (c .before .before .loop .inv .0)
+
+pub +expression+factor+term-spec : {M : Type 1} → statement M
++expression+factor+term-spec = close μ-expression μ-factor μ-term (λ t. expression-lts.spec (E t)
+    (expression-at t)
+    expression.Post
+    expression-Inv-loop
+    expression-μ-loop
+    (expression-term-requires t)
+    (expression-enum-known-e t)
+    (expression-enum-known-first t)
+    (expression-sign-at-requires t)
+    (expression-loop-holds t)
+    (expression-is-sum-requires t)
+    (expression-term-requires-2 t)
+    (expression-enum-known-e-2 t)
+    (expression-returns t)
+    (expression-enum-known-right t)
+    (expression-join-requires t)
+    (expression-sign-at-requires-2 t)
+    (expression-loop-less t)
+    (expression-loop-again t)
+    (expression-returns-2 t)
+    (expression-returns-3 t))
+    (λ t. factor-lts.spec (F t)
+    (factor-at t)
+    factor.Post
+    (factor-token-at-requires t)
+    (factor-returns t)
+    (factor-lone-byte-requires t)
+    (factor-returns-2 t)
+    (factor-sub-expression t)
+    (factor-expression-requires t)
+    (factor-enum-known-e t)
+    (factor-enum-known-inner t)
+    (factor-close-requires t)
+    (factor-returns-3 t)
+    (factor-returns-4 t)
+    (factor-shared-slice-read-is-digit t)
+    (factor-is-digit-requires t)
+    (factor-literal-requires t)
+    (factor-returns-5 t)
+    (factor-name-requires t)
+    (factor-returns-6 t))
+    λ t. term-lts.spec (T t)
+    (term-at t)
+    term.Post
+    term-Inv-loop
+    term-μ-loop
+    (term-factor-requires t)
+    (term-enum-known-e t)
+    (term-enum-known-first t)
+    (term-sign-at-requires t)
+    (term-loop-holds t)
+    (term-is-product-requires t)
+    (term-factor-requires-2 t)
+    (term-enum-known-e-2 t)
+    (term-returns t)
+    (term-enum-known-right t)
+    (term-join-requires t)
+    (term-sign-at-requires-2 t)
+    (term-loop-less t)
+    (term-loop-again t)
+    (term-returns-2 t)
+    (term-returns-3 t)

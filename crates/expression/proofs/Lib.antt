@@ -1,0 +1,11 @@
+pub mod Steps
+pub mod Grammar
+pub mod Lookup
+pub mod Holding
+pub mod Signs
+pub mod Atoms
+pub mod Reading
+pub mod Factors
+pub mod Meaning
+pub mod Examples
+pub mod Written

@@ -1,0 +1,51 @@
+-- The text of a tree: it is put together as the tree is, and its length and the number of its operations are those of the definitions.
+use Prim.Native.Nat.{ℕ, _+_, _*_}
+use mathlib.Core.Path.{_≡_, refl, sym, ap, _∙_}
+use mathlib.Core.List.{List, [], _∷_, _++_, append-nil, append-assoc}
+use native.Mathlib.Omega.{arith}
+use lib.ListN.{length, length-append}
+use Rattle.word.specs.Apply.{Binary, add, sub, mul, div, eq, lt}
+use Rattle.number.specs.Decimal.{decimal}
+use Rattle.ops.specs.Ops.{Operation}
+use Rattle.ops.specs.Written.{written, writtenAll}
+use Rattle.expression.specs.Tree.{Tree, num, bin, kOf, lineOf, lenOf}
+use Rattle.expression.specs.Written.{operatorOf, opsOf, textOf}
+
+written-append : (a b : List Operation) → writtenAll (a ++ b) ≡ writtenAll a ++ writtenAll b
+written-append [] b = refl
+written-append (o ∷ a) b = ap (λ (t : List ℕ). written o ++ t) (written-append a b) ∙ sym (append-assoc (written o) (writtenAll a) (writtenAll b))
+
+pub text-bin : (op : Binary) (l r : Tree) → textOf (bin op l r) ≡ textOf l ++ textOf r ++ written (operatorOf op)
+text-bin op l r =
+    written-append (opsOf l ++ opsOf r) (operatorOf op ∷ [])
+    ∙ ap (λ (t : List ℕ). t ++ writtenAll (operatorOf op ∷ [])) (written-append (opsOf l) (opsOf r))
+    ∙ ap (λ (t : List ℕ). textOf l ++ textOf r ++ t) (append-nil (written (operatorOf op)))
+
+line-length : (op : Binary) → length (written (operatorOf op)) ≡ lineOf op
+line-length add = refl
+line-length sub = refl
+line-length mul = refl
+line-length div = refl
+line-length eq = refl
+line-length lt = refl
+
+pub text-length : (t : Tree) → length (textOf t) ≡ lenOf t
+text-length (num n) = omega (arith, length-append (decimal n) (10 ∷ []), ap length (append-nil (written (record { kind = 0; operand = n }))))
+text-length (bin op l r) =
+    let a = text-length l in
+    let b = text-length r in
+    let c = line-length op in
+    let e = ap length (text-bin op l r) in
+    let f = length-append (textOf l ++ textOf r) (written (operatorOf op)) in
+    let g = length-append (textOf l) (textOf r) in
+    omega arith
+
+-- one operation less than twice k: k numbers, and an operator between each two
+pub ops-length : (t : Tree) → length (opsOf t) + 1 ≡ 2 * kOf t
+ops-length (num n) = refl
+ops-length (bin op l r) =
+    let a = ops-length l in
+    let b = ops-length r in
+    let f = length-append (opsOf l ++ opsOf r) (operatorOf op ∷ []) in
+    let g = length-append (opsOf l) (opsOf r) in
+    omega arith

@@ -1,0 +1,46 @@
+-- What an answer of the parser says: document 01's number of a refusal, or the figures of the tree that is read.
+use Prim.Native.Nat.{ℕ, _+_, _*_, _≤_}
+use mathlib.Core.Path.{_≡_}
+use mathlib.Core.List.{List}
+use lib.ListN.{drop}
+use mathlib.Core.Option.{Option}
+use Rattle.expression.specs.declared.ExprError.{ExprError}
+use Rattle.expression.specs.declared.ExprError.the-variants.{InvalidCharacter, UnexpectedEnd, UnbalancedParenthesis, InvalidLiteral, UnknownIdentifier, TooDeep, UnconsumedTokens}
+use Rattle.expression.specs.declared.Parsed.{Parsed}
+use Rattle.expression.specs.declared.Parsed.the-variants as Parsed
+use Rattle.expression.specs.Tree.{valueOf, kOf, pOf, lenOf}
+use Rattle.expression.specs.Figures.{optionOf}
+use Rattle.expression.specs.Parse.{Env, Meaning, tree, wrong, meaning}
+use Rattle.expression.specs.Table.{Columns, Holds}
+
+abbrev pub numberOf : ExprError → ℕ
+numberOf InvalidCharacter = 13
+numberOf UnexpectedEnd = 14
+numberOf UnbalancedParenthesis = 15
+numberOf InvalidLiteral = 16
+numberOf UnknownIdentifier = 17
+numberOf TooDeep = 18
+numberOf UnconsumedTokens = 19
+
+-- k, p, the value, the length of the text
+pub data Answer : Type 0 where
+  figures : ℕ → ℕ → Option ℕ → ℕ → Answer
+  refusal : ℕ → Answer
+
+abbrev pub said : Parsed → Answer
+said (Parsed.Done v) = figures (v .k) (v .p) (optionOf (v .value)) (v .len)
+said (Parsed.Refused e) = refusal (numberOf e)
+
+abbrev pub due : Meaning → Answer
+due (tree t) = figures (kOf t) (pOf t) (valueOf t) (lenOf t)
+due (wrong n) = refusal n
+
+-- a tree's text is short: a line has at most 26 bytes, and an operator's 4
+abbrev pub Short : Meaning → Type 0
+Short (tree t) = lenOf t + 4 ≤ 30 * kOf t
+Short (wrong n) = Unit {0}
+
+-- the answer to the expression from a place of a text on is what it means, in every environment that the table holds
+pub record Answers (s : List ℕ) (at : ℕ) (c : Columns) (r : Parsed) : Type 0 where
+  pub is : (env : Env) → Holds s c env → said r ≡ due (meaning env (drop at s))
+  pub short : (env : Env) → Holds s c env → Short (meaning env (drop at s))

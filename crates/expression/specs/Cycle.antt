@@ -1,0 +1,48 @@
+-- What expression, term and factor promise: at level l, from a place of a text on, with d parentheses more that may be open.
+use Prim.Native.Nat.{ℕ, _-_, _*_, _^_, _<_, _≤_}
+use mathlib.Core.Path.{_≡_}
+use mathlib.Core.List.{List}
+use lib.ListN.{length, drop}
+use Rattle.token.specs.Token.{tokens}
+use Rattle.expression.specs.declared.figures.Read.{Read}
+use Rattle.expression.specs.declared.Parsed.{Parsed}
+use Rattle.expression.specs.declared.Parsed.the-variants.{Done, Refused}
+use Rattle.expression.specs.Tree.{Tree}
+use Rattle.expression.specs.Parse.{Env, done, refused, parseF, enough}
+use Rattle.expression.specs.Answer.{numberOf}
+use Rattle.expression.specs.Table.{Columns, Holds}
+use Rattle.expression.specs.Figures.{Figures}
+
+module _ (env : Env) (l d : ℕ) (ts : List (List ℕ)) where
+  -- the parser reads the tree t and leaves rest, with every fuel that is enough
+  pub record Reads (t : Tree) (rest : List (List ℕ)) : Type 0 where
+    pub fewer : length rest < length ts
+    pub same : (f : ℕ) → enough l ts ≤ f → parseF f l env d ts ≡ done t rest
+
+  pub record Refuses (n : ℕ) : Type 0 where
+    pub same : (f : ℕ) → enough l ts ≤ f → parseF f l env d ts ≡ refused n
+
+-- what is read ends within the text; the bounds exclude that a sum overflows
+pub record Placed (s : List ℕ) (at : ℕ) (v : Read) : Type 0 where
+  pub past : at < v .next
+  pub within : v .next ≤ length s
+  pub k : v .k ≤ 65535 * (v .next - at)
+  pub p : v .p ≤ 65535 * (v .next - at)
+  pub len : v .len ≤ 2 ^ 32 * (v .next - at)
+
+abbrev pub Fine : List ℕ → ℕ → Parsed → Type 0
+Fine s at (Done v) = Placed s at v
+Fine s at (Refused e) = Unit {0}
+
+abbrev pub Means : List ℕ → ℕ → Env → ℕ → ℕ → Parsed → Type 0
+Means s at env l d (Done v) = (t : Tree) × (Reads env l d (tokens (drop at s)) t (tokens (drop (v .next) s)) × Figures t v)
+Means s at env l d (Refused e) = Refuses env l d (tokens (drop at s)) (numberOf e)
+
+-- in every environment that the table holds
+pub record Meets (s : List ℕ) (at : ℕ) (c : Columns) (l d : ℕ) (r : Parsed) : Type 0 where
+  pub fine : Fine s at r
+  pub means : (env : Env) → Holds s c env → Means s at env l d r
+
+pub record Ready (s : List ℕ) (count : ℕ) : Type 0 where
+  pub short : length s ≤ 65536
+  pub room : count ≤ 256

@@ -1,0 +1,9 @@
+pub mod Tree
+pub mod Parse
+pub mod Grammar
+pub mod Answer
+pub mod Table
+pub mod Figures
+pub mod Parts
+pub mod Cycle
+pub mod Written

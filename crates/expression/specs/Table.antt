@@ -1,0 +1,78 @@
+-- How a table of bindings holds an environment.
+use Prim.Native.Nat.{ℕ, zero, suc, _+_, _*_, _≤_}
+use mathlib.Core.Path.{_≡_}
+use mathlib.Core.List.{List, [], _∷_}
+use mathlib.Core.Bool.{Bool, true, false, _&&_}
+use mathlib.Core.Option.{Option, some, none}
+use lib.Dec.{leb}
+use lib.ListN.{length, getD, take, drop}
+use Rattle.expression.specs.declared.Bindings.{Bindings}
+use Rattle.expression.specs.declared.Values.{Values}
+use Rattle.expression.specs.declared.names.Found.{Found}
+use Rattle.expression.specs.declared.names.Found.the-variants.{At, Nothing}
+use Rattle.expression.specs.Tree.{valueOf, kOf, pOf, lenOf}
+use Rattle.expression.specs.Parse.{Binding, Env, sameText}
+
+-- what the parser reads of a table: a list for each of a binding's numbers, oldest first
+pub record Columns : Type 0 where
+  pub count : ℕ
+  pub names : List ℕ
+  pub lens : List ℕ
+  pub ks : List ℕ
+  pub ps : List ℕ
+  pub values : List ℕ
+  pub nones : List Bool
+  pub sizes : List ℕ
+
+abbrev pub columnsOf : ℕ → List ℕ → List ℕ → List ℕ → List ℕ → List ℕ → List Bool → List ℕ → Columns
+columnsOf n names lens ks ps values nones sizes = record { count = n; names = names; lens = lens; ks = ks; ps = ps; values = values; nones = nones; sizes = sizes }
+
+abbrev pub columns : Bindings → Values → Columns
+columns b v = columnsOf (b .count) (b .«name_start») (b .«name_len») (b .k) (b .p) (v .value) (v .none) (v .len)
+
+abbrev pub unless : Bool → ℕ → Option ℕ
+unless true n = none
+unless false n = some n
+
+-- what is told of one binding: where its name starts and its length, k, p, value, whether that is none, the length of its text
+pub record Entry : Type 0 where
+  pub start : ℕ
+  pub len : ℕ
+  pub k : ℕ
+  pub p : ℕ
+  pub value : ℕ
+  pub none : Bool
+  pub size : ℕ
+
+abbrev pub entryAt : Columns → ℕ → Entry
+entryAt c i = record { start = getD (c .names) i 0; len = getD (c .lens) i 0; k = getD (c .ks) i 0; p = getD (c .ps) i 0; value = getD (c .values) i 0; none = getD (c .nones) i false; size = getD (c .sizes) i 0 }
+
+-- an entry tells the binding b: its name stands in the text s, and its figures are those of its tree
+pub record Tells (s : List ℕ) (e : Entry) (b : Binding) : Type 0 where
+  pub inside : e .start + e .len ≤ length s
+  pub name : b .name ≡ take (e .len) (drop (e .start) s)
+  pub k : e .k ≡ kOf (b .tree)
+  pub p : e .p ≡ pOf (b .tree)
+  pub value : unless (e .none) (e .value) ≡ valueOf (b .tree)
+  pub len : e .size ≡ lenOf (b .tree)
+  pub short : lenOf (b .tree) + 4 ≤ 30 * kOf (b .tree)
+
+-- the first n bindings, the last of them being the newest
+abbrev pub Told : List ℕ → Columns → ℕ → Env → Type 0
+Told s c zero [] = Unit {0}
+Told s c zero (b ∷ env) = ⊥
+Told s c (suc n) [] = ⊥
+Told s c (suc n) (b ∷ env) = Tells s (entryAt c n) b × Told s c n env
+
+pub record Holds (s : List ℕ) (c : Columns) (env : Env) : Type 0 where
+  pub room : c .count ≤ 256
+  pub told : Told s c (c .count) env
+
+-- whether binding i has the name w
+abbrev pub called : List ℕ → List ℕ → List ℕ → ℕ → List ℕ → Bool
+called s names lens i w = leb (getD names i 0 + getD lens i 0) (length s) && sameText w (take (getD lens i 0) (drop (getD names i 0) s))
+
+-- the newest of the first n bindings that has the name w
+unfoldable pub found : ℕ → List ℕ → List ℕ → List ℕ → List ℕ → Found
+found zero s names lens w = Nothing
+found (suc n) s names lens w = elim (called s names lens n w) [ true ↦ At n | false ↦ found n s names lens w ]

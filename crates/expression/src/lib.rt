@@ -1,0 +1,280 @@
+// Expressions of a contract: what one means among the bindings made before it.
+ghost use mathlib.Core.Path.{_≡_};
+ghost use Prim.Native.Nat.{_≤_};
+ghost use lib.ListN.{length};
+ghost use Rattle.expression.specs.Parse.{factor, term, expression};
+ghost use Rattle.expression.specs.Answer.{Answers};
+ghost use Rattle.expression.specs.Table.{columnsOf, columns};
+ghost use Rattle.expression.specs.Cycle.{Ready, Meets};
+
+pub mod figures;
+pub mod names;
+pub mod parts;
+
+use figures::Read;
+use figures::join;
+use parts::close;
+use parts::is_product;
+use parts::is_sum;
+use parts::literal;
+use parts::lone_byte;
+use parts::name;
+use parts::sign_at;
+use parts::whole;
+use token::is_all_tokens;
+use token::is_digit;
+use token::token_at;
+
+pub struct Bindings {
+    pub name_start: [u16; 256],
+    pub name_len: [u16; 256],
+    pub expr_start: [u16; 256],
+    pub expr_len: [u16; 256],
+    pub k: [u16; 256],
+    pub p: [u16; 256],
+    pub count: usize,
+}
+
+// What a binding needs beside the table.
+pub struct Values {
+    pub value: [u64; 256],
+    pub none: [bool; 256],
+    pub len: [u32; 256],
+}
+
+pub enum ExprError {
+    InvalidCharacter,
+    UnexpectedEnd,
+    UnbalancedParenthesis,
+    InvalidLiteral,
+    UnknownIdentifier,
+    TooDeep,
+    UnconsumedTokens,
+}
+
+pub enum Parsed {
+    Done(Read),
+    Refused(ExprError),
+}
+
+// So many parentheses may be open at once.
+const DEPTH: usize = 64;
+
+// What the expression from a place of the text on means. Its names are those of the first bindings, which stand before it in the text.
+pub fn parse(text: &[u8], at: usize, table: Bindings, values: Values) -> Parsed
+    requires { ⌜ length (now text) ≤ 65536 ⌝ }
+    ensures { λ r. ⌜ Answers (now (text .entry)) at (columns table values) r ⌝ }
+{
+    if !is_all_tokens(text, at) {
+        return Parsed::Refused(ExprError::InvalidCharacter);
+    }
+    let count = at_most_256(table.count);
+    match expression(
+        text,
+        at,
+        DEPTH,
+        count,
+        &table.name_start,
+        &table.name_len,
+        &table.k,
+        &table.p,
+        &values.value,
+        &values.none,
+        &values.len,
+    ) {
+        Parsed::Refused(e) => Parsed::Refused(e),
+        Parsed::Done(read) => whole(text, read),
+    }
+}
+
+fn at_most_256(n: usize) -> usize
+    ensures { λ r. ⌜ (r ≤ 256) × (n ≤ 256 → r ≡ n) ⌝ }
+{
+    if n < 256 { n } else { 256 }
+}
+
+// Terms joined by + and -. Room is how many parentheses more may be open.
+fn expression<'a>(
+    text: &'a [u8],
+    at: usize,
+    room: usize,
+    count: usize,
+    names: &'a [u16; 256],
+    lens: &'a [u16; 256],
+    ks: &'a [u16; 256],
+    ps: &'a [u16; 256],
+    values: &'a [u64; 256],
+    nones: &'a [bool; 256],
+    sizes: &'a [u32; 256],
+) -> Parsed
+    requires { ⌜ Ready (now text) count ⌝ }
+    ensures { λ r. ⌜ Meets (now (text .entry)) at (columnsOf count (now (names .entry)) (now (lens .entry)) (now (ks .entry)) (now (ps .entry)) (now (values .entry)) (now (nones .entry)) (now (sizes .entry))) expression room r ⌝ }
+{
+    match term(
+        text,
+        at,
+        room,
+        count,
+        names,
+        lens,
+        ks,
+        ps,
+        values,
+        nones,
+        sizes,
+    ) {
+        Parsed::Refused(e) => Parsed::Refused(e),
+        Parsed::Done(first) => {
+            let mut left = first;
+            let mut sign = sign_at(text, left.next);
+            while is_sum(sign.byte) {
+                match term(
+                    text,
+                    sign.end,
+                    room,
+                    count,
+                    names,
+                    lens,
+                    ks,
+                    ps,
+                    values,
+                    nones,
+                    sizes,
+                ) {
+                    Parsed::Refused(e) => {
+                        return Parsed::Refused(e);
+                    }
+                    Parsed::Done(right) => {
+                        left = join(sign.byte, left, right);
+                        sign = sign_at(text, left.next);
+                    }
+                }
+            }
+            Parsed::Done(left)
+        }
+    }
+}
+
+// Factors joined by * and /.
+fn term<'a>(
+    text: &'a [u8],
+    at: usize,
+    room: usize,
+    count: usize,
+    names: &'a [u16; 256],
+    lens: &'a [u16; 256],
+    ks: &'a [u16; 256],
+    ps: &'a [u16; 256],
+    values: &'a [u64; 256],
+    nones: &'a [bool; 256],
+    sizes: &'a [u32; 256],
+) -> Parsed
+    requires { ⌜ Ready (now text) count ⌝ }
+    ensures { λ r. ⌜ Meets (now (text .entry)) at (columnsOf count (now (names .entry)) (now (lens .entry)) (now (ks .entry)) (now (ps .entry)) (now (values .entry)) (now (nones .entry)) (now (sizes .entry))) term room r ⌝ }
+{
+    match factor(
+        text,
+        at,
+        room,
+        count,
+        names,
+        lens,
+        ks,
+        ps,
+        values,
+        nones,
+        sizes,
+    ) {
+        Parsed::Refused(e) => Parsed::Refused(e),
+        Parsed::Done(first) => {
+            let mut left = first;
+            let mut sign = sign_at(text, left.next);
+            while is_product(sign.byte) {
+                match factor(
+                    text,
+                    sign.end,
+                    room,
+                    count,
+                    names,
+                    lens,
+                    ks,
+                    ps,
+                    values,
+                    nones,
+                    sizes,
+                ) {
+                    Parsed::Refused(e) => {
+                        return Parsed::Refused(e);
+                    }
+                    Parsed::Done(right) => {
+                        left = join(sign.byte, left, right);
+                        sign = sign_at(text, left.next);
+                    }
+                }
+            }
+            Parsed::Done(left)
+        }
+    }
+}
+
+// A literal, a name or an expression in parentheses.
+fn factor<'a>(
+    text: &'a [u8],
+    at: usize,
+    room: usize,
+    count: usize,
+    names: &'a [u16; 256],
+    lens: &'a [u16; 256],
+    ks: &'a [u16; 256],
+    ps: &'a [u16; 256],
+    values: &'a [u64; 256],
+    nones: &'a [bool; 256],
+    sizes: &'a [u32; 256],
+) -> Parsed
+    requires { ⌜ Ready (now text) count ⌝ }
+    ensures { λ r. ⌜ Meets (now (text .entry)) at (columnsOf count (now (names .entry)) (now (lens .entry)) (now (ks .entry)) (now (ps .entry)) (now (values .entry)) (now (nones .entry)) (now (sizes .entry))) factor room r ⌝ }
+{
+    let token = token_at(text, at);
+    let start = token.start;
+    let end = token.end;
+    if start == end {
+        return Parsed::Refused(ExprError::UnexpectedEnd);
+    }
+    if lone_byte(text, start, end) == b'(' {
+        if room == 0 {
+            return Parsed::Refused(ExprError::TooDeep);
+        }
+        return match expression(
+            text,
+            end,
+            room - 1,
+            count,
+            names,
+            lens,
+            ks,
+            ps,
+            values,
+            nones,
+            sizes,
+        ) {
+            Parsed::Refused(e) => Parsed::Refused(e),
+            Parsed::Done(inner) => close(text, inner),
+        };
+    }
+    if is_digit(text[start]) {
+        return literal(text, start);
+    }
+    name(
+        text,
+        start,
+        end,
+        count,
+        names,
+        lens,
+        ks,
+        ps,
+        values,
+        nones,
+        sizes,
+    )
+}
