@@ -19,9 +19,9 @@ pub enum NextParameter {
 }
 
 // Where a part of a text starts and ends.
-struct Span {
-    start: usize,
-    end: usize,
+pub struct Span {
+    pub start: usize,
+    pub end: usize,
 }
 
 // The next parameter of the text before end, from a place on.
@@ -82,7 +82,7 @@ fn name_of(piece: &[u8]) -> Span
 }
 
 // Where the trimmed text stands in a text.
-fn trimmed_span(s: &[u8]) -> Span
+pub fn trimmed_span(s: &[u8]) -> Span
     ensures { λ r. ⌜ r ≡ trimmedSpan (now (s .entry)) ⌝ }
 {
     let rest = trim::trim_start(s);

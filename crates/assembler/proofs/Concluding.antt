@@ -1,0 +1,152 @@
+-- Laws of the whole: the parameters, then the body, then the last return's value.
+use Prim.Native.Nat.{ℕ, _-_, _<_, _≤_}
+use mathlib.Core.Path.{_≡_, refl, sym, ap, subst, _∙_}
+use mathlib.Core.List.{List, []}
+use mathlib.Core.Bool.{Bool, true, false}
+use mathlib.Core.Option.{Option, some, none}
+use native.Mathlib.Omega.{arith}
+use borrow.Author.Tests.{eq-eqb, ne-eqb, leb-true, le-leb, lt-leb}
+use lib.Dec.{leb}
+use lib.ListN.{length, take}
+use Rattle.byte.proofs.Tests.{and-left}
+use Rattle.utf8.specs.Utf8.{utf8}
+use Rattle.source.specs.Function.{functionOf}
+use lib.Seq.{take-all}
+use Rattle.source.specs.declared.function.Places.{Places}
+use Rattle.source.specs.Parameters.{parameters}
+use Rattle.source.proofs.Places.{Ordered, ordered}
+use Rattle.lines.specs.Lines.{lines}
+use Rattle.expression.specs.declared.figures.Read.{Read}
+use Rattle.expression.specs.declared.figures.Value.the-variants.{Is, None}
+use Rattle.expression.specs.Tree.{Tree, valueOf}
+use Rattle.expression.specs.Figures.{optionOf}
+use Rattle.expression.specs.Table.{Told, columns}
+use Rattle.assembler.specs.declared.assembly.Assembly.{Assembly}
+use Rattle.assembler.specs.declared.refusal.Refusal.{Refusal}
+use Rattle.assembler.specs.declared.refusal.Refusal.the-variants.{NoReturn, NoValue, NotExpected}
+use Rattle.assembler.specs.declared.state.Last.{Last}
+use Rattle.assembler.specs.declared.state.Last.the-variants as Last
+use Rattle.assembler.specs.declared.state.Status.{Status}
+use Rattle.assembler.specs.declared.state.Status.the-variants.{Refused}
+use Rattle.assembler.specs.declared.state.State as Code
+use Rattle.assembler.specs.Part.{part}
+use Rattle.assembler.specs.Refusal.{plain}
+use Rattle.assembler.specs.State.{State, Outcome, goes, andThen, started}
+use Rattle.assembler.specs.Parameters.{parametersBound}
+use Rattle.assembler.specs.Body.{linesRead}
+use Rattle.assembler.specs.Numbers.{refusalOf}
+use Rattle.assembler.specs.Stored.{Started, refusedAs}
+use Rattle.assembler.specs.Held.{LastIs, Represents, Good, Leads, Follows, Within, isRefused}
+use Rattle.assembler.specs.Assembled.{Assembled, accepted, rejected, readable, bodyRead, compared, returned, concluded, functionRead, assembledTree}
+use Rattle.assembler.specs.Concluded.{ConcludesBy, Concludes, ConcludesAll, Located}
+use Rattle.assembler.proofs.Leading.{leads-off, by-leads, represents-later, leads-later}
+
+-- an answer that is refused
+pub concludes-off : {s : List ℕ} {o : Assembled} {r : Assembly} {why : Refusal} → r .state .status ≡ Refused why → o ≡ rejected (refusalOf why) → Concludes s o r
+concludes-off {s} {o} {r} f e = record { by = subst (λ (x : Status). ConcludesBy x s o r) (sym f) e }
+
+pub concludes-on : {s : List ℕ} {o : Assembled} {r : Assembly} {st : State} {t : Tree} → Represents s (r .state) st → st .last ≡ some t → o ≡ accepted (r .expected) t → Concludes s o r
+concludes-on {s} {o} {r} {st} {t} q l e = record { by = subst (λ (x : Status). ConcludesBy x s o r) (sym (q .going)) (st, (t, (q, (l, e)))) }
+
+pub started-represents : (s : List ℕ) (a : Code.State) → Started a → Represents s a started
+started-represents s a h = record {
+  holds = record { room = let e = h .count in omega arith; told = subst (λ (n : ℕ). Told s (columns (a .table) (a .values)) n []) (sym (h .count)) tt };
+  last = subst (λ (x : Last). LastIs x none) (sym (h .last)) tt;
+  going = h .status;
+}
+
+never : {P : Type 0} → _≡_ {A = Bool} true false → P
+never e = absurd (let z : _≡_ {A = ℕ} 0 1 = cc in omega arith)
+
+-- the function's parts
+module _ (s vector : List ℕ) (p : Places) (f : Located s p) where
+  order : Ordered s p
+  order = ordered s p (f .found)
+
+  pub params-within : Within s (p .«params_start») (p .«params_end»)
+  params-within = let o = order in record { short = f .short; ordered = o .params; fits = omega (arith, o .between, o .body, o .fits, f .short); inside = omega (arith, o .between, o .body, o .fits) }
+
+  pub body-within : Within s (p .«body_start») (p .«body_end»)
+  body-within = let o = order in record { short = f .short; ordered = o .body; fits = omega (arith, o .fits, f .short); inside = omega (arith, o .fits) }
+
+  module _ (first a : Code.State) (h : Started first) (g : Follows (take (p .«params_start») s) first (λ st. parametersBound vector st (parameters (part s (p .«params_start») (p .«params_end»)))) (take (p .«params_end») s) a) where
+    led : Leads (take (p .«params_end») s) a (parametersBound vector started (parameters (part s (p .«params_start») (p .«params_end»)))) goes
+    led = g .leads started (started-represents (take (p .«params_start») s) first h)
+
+    pub params-off : isRefused (a .status) ≡ true → Leads s a (bodyRead s vector p) goes
+    params-off b = by-leads led
+        (λ st q e. never (sym b ∙ ap isRefused (q .going)))
+        (λ why t e. leads-off t (ap (λ (u : Outcome). andThen u (λ st. linesRead st (lines (part s (p .«body_start») (p .«body_end»))))) e))
+
+    module _ (b : isRefused (a .status) ≡ false) where
+      pub params-good : Good (take (p .«body_start») s) a
+      params-good = let o = order in by-leads led
+          (λ st q e. record { st = st; represents = represents-later s (p .«params_end») (p .«body_start») (omega (arith, o .between)) (omega (arith, o .body, o .fits)) q })
+          (λ why t e. never (sym (ap isRefused t) ∙ b))
+
+      pub body-leads : {r : Code.State} → Follows (take (p .«body_start») s) a (λ st. linesRead st (lines (part s (p .«body_start») (p .«body_end»)))) (take (p .«body_end») s) r → Leads s r (bodyRead s vector p) goes
+      body-leads {r} k = let o = order in by-leads led
+          (λ st q e.
+          let x = k .leads st (represents-later s (p .«params_end») (p .«body_start») (omega (arith, o .between)) (omega (arith, o .body, o .fits)) q) in
+          let y = leads-later s (p .«body_end») (length s) (omega (arith, o .fits)) (omega arith) x in
+          let z = subst (λ (t : List ℕ). Leads t r (linesRead st (lines (part s (p .«body_start») (p .«body_end»)))) goes) (take-all (length s) s (omega arith)) y in
+          subst (λ (u : Outcome). Leads s r u goes) (sym (ap (λ (u : Outcome). andThen u (λ x. linesRead x (lines (part s (p .«body_start») (p .«body_end»))))) e)) z)
+          (λ why t e. never (sym (ap isRefused t) ∙ b))
+
+-- the end
+module _ (a : Code.State) (expected : ℕ) where
+  pub end-refused : isRefused (a .status) ≡ true → ConcludesAll a expected (record { state = a; expected = expected })
+  end-refused b = record { is = λ s whole l. by-leads l (λ st q e. never (sym b ∙ ap isRefused (q .going))) (λ why t e. concludes-off t (ap (concluded expected) e)) }
+
+  module _ (b : isRefused (a .status) ≡ false) where
+    -- in each state that a represents
+    by-states : {r : Assembly} → ((s : List ℕ) (st : State) → Represents s a st → Concludes s (returned expected (st .last)) r) → ConcludesAll a expected r
+    by-states {r} f = record { is = λ s whole l. by-leads l (λ st q e. subst (λ (o : Assembled). Concludes s o r) (sym (ap (concluded expected) e)) (f s st q)) (λ why t e. never (sym (ap isRefused t) ∙ b)) }
+
+    pub end-nothing : a .last ≡ Last.Nothing → ConcludesAll a expected (record { state = refusedAs a NoReturn; expected = expected })
+    end-nothing e = by-states (λ s st q. concludes-off refl (go (st .last) (subst (λ (x : Last). LastIs x (st .last)) e (q .last))))
+      where
+        go : (x : Option Tree) → LastIs Last.Nothing x → returned expected x ≡ rejected (refusalOf NoReturn)
+        go none h = refl
+        go (some t) h = absurd h
+
+    module _ (v : Read) (e : a .last ≡ Last.Is v) where
+      pub end-with : {r : Assembly} → ((s : List ℕ) (st : State) (t : Tree) → Represents s a st → st .last ≡ some t → optionOf (v .value) ≡ valueOf t → Concludes s (compared expected t (valueOf t)) r) → ConcludesAll a expected r
+      end-with {r} f = by-states (λ s st q. go s st q (st .last) refl (subst (λ (x : Last). LastIs x (st .last)) e (q .last)))
+        where
+          go : (s : List ℕ) (st : State) → Represents s a st → (x : Option Tree) → st .last ≡ x → LastIs (Last.Is v) (st .last) → Concludes s (returned expected (st .last)) r
+          go s st q none l h = absurd (subst (λ (x : Option Tree). LastIs (Last.Is v) x) l h)
+          go s st q (some t) l h = subst (λ (x : Option Tree). Concludes s (returned expected x) r) (sym l) (f s st t q l (subst (λ (x : Option Tree). LastIs (Last.Is v) x) l h .value))
+
+      pub end-no-value : v .value ≡ None → ConcludesAll a expected (record { state = refusedAs a NoValue; expected = expected })
+      end-no-value n = end-with (λ s st t q l k. concludes-off refl (ap (compared expected t) (sym k ∙ ap optionOf n)))
+
+      pub end-same : (n : ℕ) → v .value ≡ Is n → n ≡ expected → ConcludesAll a expected (record { state = a; expected = expected })
+      end-same n m h = end-with (λ s st t q l k. concludes-on q l (ap (compared expected t) (sym k ∙ ap optionOf m) ∙ (let b = eq-eqb n expected h in rw b)))
+
+      pub end-other : (n : ℕ) → v .value ≡ Is n → (n ≡ expected → ⊥) → ConcludesAll a expected (record { state = refusedAs a NotExpected; expected = expected })
+      end-other n m h = end-with (λ s st t q l k. concludes-off refl (ap (compared expected t) (sym k ∙ ap optionOf m) ∙ (let b = ne-eqb n expected h in rw b)))
+
+-- both texts are readable, or one is not
+module _ (s vector : List ℕ) where
+  pub no-contract : readable s ≡ false → assembledTree s vector ≡ rejected (plain 1)
+  unfolding assembledTree
+  no-contract e = rw e
+
+  module _ (e : readable s ≡ true) where
+    pub no-vector : readable vector ≡ false → assembledTree s vector ≡ rejected (plain 2)
+    unfolding assembledTree
+    no-vector f = rw (e, f)
+
+    pub both-readable : readable vector ≡ true → assembledTree s vector ≡ functionRead s vector (functionOf s)
+    unfolding assembledTree
+    both-readable f = rw (e, f)
+
+pub readable-short : (s : List ℕ) → readable s ≡ true → length s ≤ 65536
+readable-short s e = leb-true (length s) 65536 (and-left (leb (length s) 65536) (utf8 s) e)
+
+pub too-long : (s : List ℕ) → 65536 < length s → false ≡ readable s
+too-long s l = let b = lt-leb (length s) 65536 l in rw b
+
+pub short-enough : (s : List ℕ) → length s ≤ 65536 → utf8 s ≡ readable s
+short-enough s l = let b = le-leb (length s) 65536 l in rw b

@@ -1,0 +1,65 @@
+-- Laws of what a state leads to.
+use Prim.Native.Nat.{ℕ, _-_, _≤_}
+use mathlib.Core.Path.{_≡_, refl, sym, ap, subst, _∙_}
+use mathlib.Core.List.{List}
+use native.Mathlib.Omega.{arith}
+use borrow.Author.Tests.{lt-ltb, le-ltb}
+use lib.ListN.{length, take}
+use Rattle.byte.proofs.Tests.{by-leb}
+use Rattle.source.specs.declared.parameters.Span.{Span}
+use Rattle.expression.specs.declared.figures.Read.{Read}
+use Rattle.expression.specs.Tree.{Tree}
+use Rattle.expression.specs.Figures.{Figures}
+use Rattle.assembler.specs.declared.refusal.Refusal.{Refusal}
+use Rattle.assembler.specs.declared.state.Last.{Last}
+use Rattle.assembler.specs.declared.state.Status.{Status}
+use Rattle.assembler.specs.declared.state.Status.the-variants.{Going, Refused}
+use Rattle.assembler.specs.declared.state.State as Code
+use Rattle.assembler.specs.Part.{part}
+use Rattle.assembler.specs.State.{State, Outcome, goes, refused, bound}
+use Rattle.assembler.specs.Numbers.{refusalOf}
+use Rattle.assembler.specs.Stored.{Bound}
+use Rattle.assembler.specs.Held.{LastIs, Represents, LeadsBy, Leads}
+use Rattle.assembler.proofs.Holding.{holds-length, holds-later, holds-more}
+
+module _ {s : List ℕ} {a : Code.State} {whole : Outcome} {rest : State → Outcome} where
+  pub leads-on : {st : State} → Represents s a st → whole ≡ rest st → Leads s a whole rest
+  leads-on {st} r e = record { by = subst (λ (x : Status). LeadsBy x s a whole rest) (sym (r .going)) (st, (r, e)) }
+
+  pub leads-off : {why : Refusal} → a .status ≡ Refused why → whole ≡ refused (refusalOf why) → Leads s a whole rest
+  leads-off f e = record { by = subst (λ (x : Status). LeadsBy x s a whole rest) (sym f) e }
+
+pub by-leads : {P : Type 0} {s : List ℕ} {a : Code.State} {whole : Outcome} {rest : State → Outcome} → Leads s a whole rest
+    → ((st : State) → Represents s a st → whole ≡ rest st → P)
+    → ((why : Refusal) → a .status ≡ Refused why → whole ≡ refused (refusalOf why) → P)
+    → P
+by-leads {P} {s} {a} {whole} {rest} l on off = go (a .status) refl (l .by)
+  where
+    go : (x : Status) → a .status ≡ x → LeadsBy x s a whole rest → P
+    go Going e h = on (h .0) (h .1 .0) (h .1 .1)
+    go (Refused why) e h = off why e h
+
+module _ (s : List ℕ) (i e : ℕ) (h : i ≤ e) (k : e ≤ length s) where
+  pub represents-later : {a : Code.State} {st : State} → Represents (take i s) a st → Represents (take e s) a st
+  represents-later r = record { holds = holds-later s i e h k (r .holds); last = r .last; going = r .going }
+
+  pub leads-later : {a : Code.State} {whole : Outcome} {rest : State → Outcome} → Leads (take i s) a whole rest → Leads (take e s) a whole rest
+  leads-later l = by-leads l (λ st r w. leads-on (represents-later r) w) (λ why f w. leads-off f w)
+
+-- one binding more
+module _ (s : List ℕ) (a r : Code.State) (name expr : Span) (v : Read) (b : Bound a name expr v r) (o : name .start ≤ name .end) (k : name .end ≤ length s) where
+  pub bound-leads : {st : State} {t : Tree} → Represents s a st → Figures t v → Leads s r (bound st (part s (name .start) (name .end)) t) goes
+  bound-leads {st} {t} q f =
+      let n = holds-length (q .holds) in
+      by-leb 256 (a .table .count)
+      (λ l. leads-off (ap (λ (x : Code.State). x .status) (b .full l)) (let e = le-ltb (length (st .env)) 256 (omega arith) in rw e))
+      (λ l.
+      let m = b .more l in
+      let e = lt-ltb (length (st .env)) 256 (omega arith) in
+      leads-on
+      (record {
+        holds = holds-more s m o k f l (q .holds);
+        last = subst (λ (x : Last). LastIs x (st .last)) (sym (m .last)) (q .last);
+        going = m .status ∙ q .going;
+      })
+      (rw e))

@@ -1,0 +1,11 @@
+pub mod Examples
+pub mod Places
+pub mod Stored
+pub mod Holding
+pub mod Leading
+pub mod Checking
+pub mod Lines
+pub mod Coming
+pub mod BodyLines
+pub mod Naming
+pub mod Concluding

@@ -1,0 +1,130 @@
+-- Laws of a body's line: what its statement makes of a state.
+use Prim.Native.Nat.{ℕ, _-_, _≤_}
+use mathlib.Core.Path.{_≡_, refl, sym, ap, subst, _∙_}
+use mathlib.Core.List.{List}
+use native.Mathlib.Omega.{arith}
+use borrow.Author.Tests.{le-leb}
+use lib.ListN.{take}
+use lib.Seq.{length-take-le}
+use Rattle.source.specs.declared.parameters.Span.{Span}
+use Rattle.expression.specs.declared.figures.Read.{Read}
+use Rattle.expression.specs.Tree.{Tree, kOf}
+use Rattle.expression.specs.Parse.{Meaning, tree, meaning}
+use Rattle.expression.specs.Table.{columns}
+use Rattle.trim.specs.Trim.{trimmed}
+use Rattle.assembler.specs.declared.body.Checked.{Checked}
+use Rattle.assembler.specs.declared.body.Checked.the-variants.{Is, Refused}
+use Rattle.assembler.specs.declared.refusal.Refusal.{Refusal}
+use Rattle.assembler.specs.declared.refusal.Refusal.the-variants.{NoEquals}
+use Rattle.assembler.specs.declared.state.State as Code
+use Rattle.assembler.specs.declared.statement.Statement.{Statement}
+use Rattle.assembler.specs.declared.statement.Statement.the-variants as Stmt
+use Rattle.assembler.specs.Part.{part}
+use Rattle.assembler.specs.State.{State, Outcome, goes, bound}
+use Rattle.assembler.specs.Statement.{binds, returns}
+use Rattle.assembler.specs.Body.{treeOr, performed, lineRead}
+use Rattle.assembler.specs.Places.{Inside, AllInside, Stands, statementAt, texts}
+use Rattle.assembler.specs.Stored.{refusedAs, returning, Small, Bound}
+use Rattle.assembler.specs.Held.{Represents, Good, Leads, Follows, ChecksAll, Within, LetWithin}
+use Rattle.assembler.proofs.Places.{stands}
+use Rattle.assembler.proofs.Holding.{part-take}
+use Rattle.assembler.proofs.Leading.{leads-on, leads-off, represents-later, leads-later, bound-leads}
+use Rattle.assembler.proofs.Checking.{figures-small}
+
+tree-found : {m : Meaning} {t : Tree} (line : ℕ) (f : Tree → Outcome) → m ≡ tree t → kOf t ≤ 32768 → treeOr m line f ≡ f t
+tree-found {t = t} line f e l = let b = le-leb (kOf t) 32768 l in rw (e, b)
+
+-- an expression from start to end of the contract s, on a line
+module _ (s : List ℕ) (a : Code.State) (expr : Span) (w : Within s (expr .start) (expr .end)) (line : ℕ) where
+  abbrev text : List ℕ
+  text = part s (expr .start) (expr .end)
+
+  abbrev before : List ℕ
+  before = take (expr .start) s
+
+  abbrev behind : List ℕ
+  behind = take (expr .end) s
+
+  later : {st : State} → Represents before a st → Represents behind a st
+  later q = represents-later s (expr .start) (expr .end) (w .ordered) (w .inside) q
+
+  pub carry : {x y : Checked} → x ≡ y → ChecksAll behind (columns (a .table) (a .values)) line text x → ChecksAll behind (columns (a .table) (a .values)) line text y
+  carry e k = subst (λ (z : Checked). ChecksAll behind (columns (a .table) (a .values)) line text z) e k
+
+  pub expression-refused : {why : Refusal} → ChecksAll behind (columns (a .table) (a .values)) line text (Refused why)
+      → (f : State → Tree → Outcome) → Follows before a (λ st. treeOr (meaning (st .env) text) line (f st)) behind (refusedAs a why)
+  expression-refused k f = record { leads = λ st q. leads-off refl (k .is (st .env) (later q .holds) (f st)) }
+
+  module _ {v : Read} (k : ChecksAll behind (columns (a .table) (a .values)) line text (Is v)) where
+    pub small : Good before a → Small v
+    small g = let x = k .is (g .st .env) (later (g .represents) .holds) in figures-small (x .1 .1 .0) (x .1 .1 .1)
+
+    pub return-read : Follows before a (λ st. performed line st (returns text)) behind (returning a v)
+    return-read = record {
+      leads = λ st q.
+          let x = k .is (st .env) (later q .holds) in
+          leads-on (record { holds = later q .holds; last = x .1 .1 .1; going = q .going }) (tree-found line _ (x .1 .0) (x .1 .1 .0));
+    }
+
+    pub let-read : (name : Span) (r : Code.State) → name .start ≤ name .end → name .end ≤ expr .start → Bound a name expr v r
+        → Follows before a (λ st. performed line st (binds (part s (name .start) (name .end)) text)) behind r
+    let-read name r o h b = record {
+      leads = λ st q.
+          let x = k .is (st .env) (later q .holds) in
+          let n = length-take-le (expr .end) s (w .inside) in
+          let e : part behind (name .start) (name .end) ≡ part s (name .start) (name .end) = part-take s (expr .end) (expr .end) (omega arith) (w .inside) (name .start) (name .end - name .start) (let y = w .ordered in omega arith) in
+          let z = tree-found line (bound st (part s (name .start) (name .end))) (x .1 .0) (x .1 .1 .0) in
+          subst (λ (u : Outcome). Leads behind r u goes) (ap (λ (u : List ℕ). bound st u (x .0)) e ∙ sym z) (bound-leads behind a r name expr v b o (let y = w .ordered in omega arith) (later q) (x .1 .1 .1));
+    }
+
+-- the line from start to end of the contract
+module _ (s : List ℕ) (a : Code.State) (start end : ℕ) (w : Within s start end) (line : ℕ) where
+  abbrev read : State → Outcome
+  read st = lineRead line st (part s start end)
+
+  module _ (r : Statement) (e : r ≡ statementAt s start end) where
+    here : Stands s start end (trimmed (part s start end)) r
+    here = rw e (stands s start end (w .ordered) (w .inside))
+
+    says : (st : State) → read st ≡ performed line st (texts s r)
+    says st = ap (performed line st) (sym (here .says))
+
+  pub line-skipped : Stmt.Skipped ≡ statementAt s start end → Follows (take start s) a read (take end s) a
+  line-skipped e = record { leads = λ st q. leads-on (represents-later s start end (w .ordered) (w .inside) q) (says _ e st) }
+
+  pub line-no-equals : Stmt.NoEquals ≡ statementAt s start end → Follows (take start s) a read (take end s) (refusedAs a (NoEquals line))
+  line-no-equals e = record { leads = λ st q. leads-off refl (says _ e st) }
+
+  within : (p : Span) → Inside start end p → Within s (p .start) (p .end)
+  within p i = record { short = w .short; ordered = i .ordered; fits = let x = i .high in let y = w .fits in omega arith; inside = let x = i .high in let y = w .inside in omega arith }
+
+  -- what a part of the line makes of a state is what the line does
+  wider : {f : State → Outcome} {r : Code.State} (p : Span) → Inside start end p → Follows (take (p .start) s) a f (take (p .end) s) r → ((st : State) → read st ≡ f st) → Follows (take start s) a read (take end s) r
+  wider {f} {r} p i g e = record {
+    leads = λ st q.
+        let x = g .leads st (represents-later s start (p .start) (i .low) (let y = w .inside in omega (arith, i .ordered, i .high)) q) in
+        leads-later s (p .end) end (i .high) (w .inside) (subst (λ (u : Outcome). Leads (take (p .end) s) r u goes) (sym (e st)) x);
+  }
+
+  pub good-within : (p : Span) → Inside start end p → Good (take start s) a → Good (take (p .start) s) a
+  good-within p i g = record { st = g .st; represents = represents-later s start (p .start) (i .low) (let y = w .inside in omega (arith, i .ordered, i .high)) (g .represents) }
+
+  module _ (name expr : Span) (e : Stmt.Let name expr ≡ statementAt s start end) where
+    pub let-inside : AllInside start end (Stmt.Let name expr)
+    let-inside = here _ e .inside
+
+    pub let-within : LetWithin s name expr
+    let-within = let i = let-inside in record { ordered = i .0 .ordered; between = i .1 .1; within = within expr (i .1 .0) }
+
+    pub line-let : {r : Code.State} → Follows (take (expr .start) s) a (λ st. performed line st (binds (part s (name .start) (name .end)) (part s (expr .start) (expr .end)))) (take (expr .end) s) r → Follows (take start s) a read (take end s) r
+    line-let g = wider expr (let-inside .1 .0) g (says _ e)
+
+  module _ (expr : Span) (e : Stmt.Return expr ≡ statementAt s start end) where
+    pub return-inside : Inside start end expr
+    return-inside = here _ e .inside
+
+    pub return-within : Within s (expr .start) (expr .end)
+    return-within = within expr return-inside
+
+    pub line-return : {r : Code.State} → Follows (take (expr .start) s) a (λ st. performed line st (returns (part s (expr .start) (expr .end)))) (take (expr .end) s) r → Follows (take start s) a read (take end s) r
+    line-return g = wider expr return-inside g (says _ e)

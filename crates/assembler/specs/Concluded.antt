@@ -1,0 +1,35 @@
+-- What the code's answer says: the tree that is accepted, or the refusal.
+use Prim.Native.Nat.{ℕ, _≤_}
+use mathlib.Core.Path.{_≡_}
+use mathlib.Core.List.{List}
+use mathlib.Core.Option.{some}
+use lib.ListN.{length}
+use Rattle.source.specs.declared.function.Places.{Places}
+use Rattle.source.specs.declared.function.Function.the-variants.{Found}
+use Rattle.source.specs.Function.{functionOf}
+use Rattle.expression.specs.Tree.{Tree}
+use Rattle.assembler.specs.declared.assembly.Assembly.{Assembly}
+use Rattle.assembler.specs.declared.state.Status.{Status}
+use Rattle.assembler.specs.declared.state.Status.the-variants.{Going, Refused}
+use Rattle.assembler.specs.declared.state.State as Code
+use Rattle.assembler.specs.State.{State, Outcome, goes}
+use Rattle.assembler.specs.Numbers.{refusalOf}
+use Rattle.assembler.specs.Held.{Represents, Leads}
+use Rattle.assembler.specs.Assembled.{Assembled, accepted, rejected, concluded}
+
+abbrev pub ConcludesBy : Status → List ℕ → Assembled → Assembly → Type 0
+ConcludesBy Going s o r = (st : State) × ((t : Tree) × (Represents s (r .state) st × ((st .last ≡ some t) × (o ≡ accepted (r .expected) t))))
+ConcludesBy (Refused why) s o r = o ≡ rejected (refusalOf why)
+
+-- the answer r says o of the contract s: its state holds the tree that is accepted, or the refusal
+pub record Concludes (s : List ℕ) (o : Assembled) (r : Assembly) : Type 0 where
+  pub by : ConcludesBy (r .state .status) s o r
+
+-- what is made of a state and the expected value, wherever the state leads to
+pub record ConcludesAll (a : Code.State) (expected : ℕ) (r : Assembly) : Type 0 where
+  pub is : (s : List ℕ) (whole : Outcome) → Leads s a whole goes → Concludes s (concluded expected whole) r
+
+-- where the contract's function stands
+pub record Located (s : List ℕ) (p : Places) : Type 0 where
+  pub short : length s ≤ 65536
+  pub found : functionOf s ≡ Found p

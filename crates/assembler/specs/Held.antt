@@ -1,0 +1,83 @@
+-- What the code's state says of an assembly. The names of its bindings stand in the text s.
+use Prim.Native.Nat.{ℕ, _<_, _≤_}
+use mathlib.Core.Path.{_≡_}
+use mathlib.Core.List.{List}
+use mathlib.Core.Bool.{Bool, true, false}
+use mathlib.Core.Option.{Option, some, none}
+use lib.ListN.{length}
+use Rattle.source.specs.declared.parameters.Span.{Span}
+use Rattle.expression.specs.Tree.{Tree, kOf}
+use Rattle.expression.specs.Parse.{Env, Meaning, tree, meaning}
+use Rattle.expression.specs.Figures.{Figures}
+use Rattle.expression.specs.Table.{Columns, columns, Holds}
+use Rattle.assembler.specs.declared.body.Checked.{Checked}
+use Rattle.assembler.specs.declared.body.Checked.the-variants as Checked
+use Rattle.assembler.specs.declared.state.Last.{Last}
+use Rattle.assembler.specs.declared.state.Last.the-variants as Last
+use Rattle.assembler.specs.declared.state.Status.{Status}
+use Rattle.assembler.specs.declared.state.Status.the-variants.{Going, Refused}
+use Rattle.assembler.specs.declared.state.State as Code
+use Rattle.assembler.specs.declared.parameters.Number.{Number}
+use Rattle.assembler.specs.declared.parameters.Number.the-variants as Number
+use Rattle.assembler.specs.Parameters.{Keyed, is, lacks}
+use Rattle.assembler.specs.State.{State, Outcome, goes, refused}
+use Rattle.assembler.specs.Body.{treeOr}
+use Rattle.assembler.specs.Numbers.{refusalOf}
+
+abbrev pub LastIs : Last → Option Tree → Type 0
+LastIs Last.Nothing none = Unit {0}
+LastIs Last.Nothing (some t) = ⊥
+LastIs (Last.Is v) none = ⊥
+LastIs (Last.Is v) (some t) = Figures t v
+
+pub record Represents (s : List ℕ) (a : Code.State) (st : State) : Type 0 where
+  pub holds : Holds s (columns (a .table) (a .values)) (st .env)
+  pub last : LastIs (a .last) (st .last)
+  pub going : a .status ≡ Going
+
+abbrev pub isRefused : Status → Bool
+isRefused Going = false
+isRefused (Refused why) = true
+
+-- the assembly has not been refused
+pub record Good (s : List ℕ) (a : Code.State) : Type 0 where
+  pub st : State
+  pub represents : Represents s a st
+
+abbrev pub LeadsBy : Status → List ℕ → Code.State → Outcome → (State → Outcome) → Type 0
+LeadsBy Going s a whole rest = (st : State) × (Represents s a st × (whole ≡ rest st))
+LeadsBy (Refused why) s a whole rest = whole ≡ refused (refusalOf why)
+
+-- the whole has come to a, and what is left to do of it is the rest; or a is its refusal
+pub record Leads (s : List ℕ) (a : Code.State) (whole : Outcome) (rest : State → Outcome) : Type 0 where
+  pub by : LeadsBy (a .status) s a whole rest
+
+-- r is what f makes of a
+pub record Follows (s : List ℕ) (a : Code.State) (f : State → Outcome) (t : List ℕ) (r : Code.State) : Type 0 where
+  pub leads : (st : State) → Represents s a st → Leads t r (f st) goes
+
+-- the figures of an expression on a line, whose k is 32,768 at most; or its refusal
+abbrev pub Checks : Meaning → ℕ → Checked → Type 0
+Checks m line (Checked.Is v) = (t : Tree) × ((m ≡ tree t) × ((kOf t ≤ 32768) × Figures t v))
+Checks m line (Checked.Refused why) = (follows : Tree → Outcome) → treeOr m line follows ≡ refused (refusalOf why)
+
+-- in every environment that the table holds
+pub record ChecksAll (s : List ℕ) (c : Columns) (line : ℕ) (t : List ℕ) (r : Checked) : Type 0 where
+  pub is : (env : Env) → Holds s c env → Checks (meaning env t) line r
+
+-- a part of a contract, whose places fit the table
+pub record Within (s : List ℕ) (start end : ℕ) : Type 0 where
+  pub short : length s ≤ 65536
+  pub ordered : start ≤ end
+  pub fits : end < 65536
+  pub inside : end ≤ length s
+
+-- a name and an expression behind it
+pub record LetWithin (s : List ℕ) (name expr : Span) : Type 0 where
+  pub ordered : name .start ≤ name .end
+  pub between : name .end ≤ expr .start
+  pub within : Within s (expr .start) (expr .end)
+
+abbrev pub keyedAs : Number → Keyed
+keyedAs (Number.Is n) = is n
+keyedAs (Number.Refused why) = lacks (refusalOf why)

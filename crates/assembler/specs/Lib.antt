@@ -1,0 +1,12 @@
+pub mod Part
+pub mod Refusal
+pub mod Statement
+pub mod State
+pub mod Parameters
+pub mod Body
+pub mod Assembled
+pub mod Places
+pub mod Stored
+pub mod Numbers
+pub mod Held
+pub mod Concluded

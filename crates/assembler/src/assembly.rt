@@ -1,0 +1,128 @@
+// What assembly makes of a contract and a vector, before anything is written.
+ghost use mathlib.Core.Path.{_≡_};
+ghost use Rattle.source.specs.Vector.{vectorNumber};
+ghost use Rattle.assembler.specs.declared.state.Status.the-variants.{Refused};
+ghost use Rattle.assembler.specs.State.{goes};
+ghost use Rattle.assembler.specs.Parameters.{keyed};
+ghost use Rattle.assembler.specs.Held.{Leads};
+ghost use Rattle.assembler.specs.Assembled.{readable, bodyRead, expectedKey, expectedRead, assembledTree};
+ghost use Rattle.assembler.specs.Concluded.{Concludes, ConcludesAll, Located};
+use crate::body::read_body;
+use crate::parameters::Number;
+use crate::parameters::bind_parameters;
+use crate::parameters::number_for;
+use crate::refusal::Refusal;
+use crate::state::Last;
+use crate::state::State;
+use crate::state::is_refused;
+use crate::state::refuse;
+use crate::state::started;
+use expression::figures::Value;
+use source::function::Function;
+use source::function::Places;
+use source::function::find_function;
+use utf8::is_utf8;
+
+// The bindings and the last return, which has the expected value; or the refusal.
+pub struct Assembly {
+    pub state: State,
+    pub expected: u64,
+}
+
+pub fn checked(contract: &[u8], vector: &[u8]) -> Assembly
+    ensures { λ r. ⌜ Concludes (now (contract .entry)) (assembledTree (now (contract .entry)) (now (vector .entry))) r ⌝ }
+{
+    if !is_readable(contract) {
+        return rejected(Refusal::Contract);
+    }
+    if !is_readable(vector) {
+        return rejected(Refusal::Vector);
+    }
+    let function = find_function(contract);
+    match function {
+        Function::Refused(e) => rejected(Refusal::Function(e)),
+        Function::Found(places) => read_function(contract, vector, places),
+    }
+}
+
+fn is_readable(s: &[u8]) -> bool
+    ensures { λ r. ⌜ r ≡ readable (now (s .entry)) ⌝ }
+{
+    if 65536 < s.len() {
+        return false;
+    }
+    is_utf8(s)
+}
+
+fn rejected(refusal: Refusal) -> Assembly
+    ensures { λ r. ⌜ r .state .status ≡ Refused refusal ⌝ }
+{
+    Assembly {
+        state: refuse(started(), refusal),
+        expected: 0,
+    }
+}
+
+fn read_function(contract: &[u8], vector: &[u8], places: Places) -> Assembly
+    requires { ⌜ Located (now contract) places ⌝ }
+    ensures { λ r. ⌜ Concludes (now (contract .entry)) (expectedRead (now (contract .entry)) (now (vector .entry)) places (keyed (vectorNumber (now (vector .entry)) expectedKey) 0)) r ⌝ }
+{
+    let number = number_for(vector, b"expected", 0);
+    match number {
+        Number::Refused(why) => rejected(why),
+        Number::Is(expected) => conclude(read_places(contract, vector, places), expected),
+    }
+}
+
+// The parameters are bound, then the body is read.
+fn read_places(contract: &[u8], vector: &[u8], places: Places) -> State
+    requires { ⌜ Located (now contract) places ⌝ }
+    ensures { λ r. ⌜ Leads (now (contract .entry)) r (bodyRead (now (contract .entry)) (now (vector .entry)) places) goes ⌝ }
+{
+    let bound = bind_parameters(
+        contract,
+        vector,
+        places.params_start,
+        places.params_end,
+        started(),
+    );
+    let status = bound.status;
+    if is_refused(status) {
+        return bound;
+    }
+    read_body(contract, places.body_start, places.body_end, bound)
+}
+
+fn conclude(a: State, expected: u64) -> Assembly
+    ensures { λ r. ⌜ ConcludesAll a expected r ⌝ }
+{
+    let status = a.status;
+    let last = a.last;
+    if is_refused(status) {
+        return Assembly { state: a, expected };
+    }
+    match last {
+        Last::Nothing => Assembly {
+            state: refuse(a, Refusal::NoReturn),
+            expected,
+        },
+        Last::Is(read) => {
+            let value = read.value;
+            match value {
+                Value::None => Assembly {
+                    state: refuse(a, Refusal::NoValue),
+                    expected,
+                },
+                Value::Is(n) => {
+                    if n == expected {
+                        return Assembly { state: a, expected };
+                    }
+                    Assembly {
+                        state: refuse(a, Refusal::NotExpected),
+                        expected,
+                    }
+                }
+            }
+        }
+    }
+}

@@ -1,0 +1,104 @@
+// The parameters of the function, bound to the vector's numbers.
+ghost use mathlib.Core.Path.{_≡_};
+ghost use lib.ListN.{take};
+ghost use Rattle.source.specs.Vector.{vectorNumber};
+ghost use Rattle.source.specs.Parameters.{parameters};
+ghost use Rattle.expression.specs.Tree.{num};
+ghost use Rattle.expression.specs.Figures.{Figures};
+ghost use Rattle.assembler.specs.Part.{part};
+ghost use Rattle.assembler.specs.Parameters.{keyed, parameterBound, parametersBound};
+ghost use Rattle.assembler.specs.Stored.{Small};
+ghost use Rattle.assembler.specs.Held.{Follows, Within, keyedAs};
+use crate::refusal::Refusal;
+use crate::state::State;
+use crate::state::bind;
+use crate::state::is_refused;
+use crate::state::refuse;
+use expression::figures::Read;
+use expression::figures::Value;
+use number::decimal_len;
+use source::parameters::NextParameter;
+use source::parameters::Span;
+use source::parameters::next_parameter;
+use source::vector::KeyValue;
+use source::vector::json_u64_for_key;
+
+// A key's number, or why it is refused.
+pub enum Number {
+    Is(u64),
+    Refused(Refusal),
+}
+
+// The parameters from start to end of the contract.
+pub fn bind_parameters(contract: &[u8], vector: &[u8], start: usize, end: usize, a: State) -> State
+    requires { ⌜ Within (now contract) start end ⌝ }
+    ensures { λ r. ⌜ Follows (take start (now (contract .entry))) a (λ st. parametersBound (now (vector .entry)) st (parameters (part (now (contract .entry)) start end))) (take end (now (contract .entry))) r ⌝ }
+{
+    let mut state = a;
+    let mut at = start;
+    let mut place: usize = 1;
+    while at < end {
+        let next = next_parameter(contract, at, end);
+        let NextParameter::Is(p) = next else {
+            return state;
+        };
+        state = bind_parameter(contract, vector, p.start, p.end, place, state);
+        let status = state.status;
+        if is_refused(status) {
+            return state;
+        }
+        at = p.next;
+        place += 1;
+    }
+    state
+}
+
+// One parameter, whose name stands from start to end of the contract.
+fn bind_parameter(
+    contract: &[u8],
+    vector: &[u8],
+    start: usize,
+    end: usize,
+    place: usize,
+    a: State,
+) -> State
+    requires { ⌜ Within (now contract) start end ⌝ }
+    ensures { λ r. ⌜ Follows (take start (now (contract .entry))) a (λ st. parameterBound (now (vector .entry)) place st (part (now (contract .entry)) start end)) (take end (now (contract .entry))) r ⌝ }
+{
+    let number = number_for(vector, &contract[start..end], place);
+    match number {
+        Number::Refused(why) => refuse(a, why),
+        Number::Is(n) => {
+            let name = Span { start, end };
+            let expr = Span { start: end, end };
+            bind(a, name, expr, literal(n))
+        }
+    }
+}
+
+// The number that the vector has for a key with a place.
+pub fn number_for(vector: &[u8], key: &[u8], place: usize) -> Number
+    ensures { λ r. ⌜ keyedAs r ≡ keyed (vectorNumber (now (vector .entry)) (now (key .entry))) place ⌝ }
+{
+    let value = json_u64_for_key(vector, key);
+    match value {
+        KeyValue::Is(n) => Number::Is(n),
+        KeyValue::NoKey => Number::Refused(Refusal::NoKey(place)),
+        KeyValue::NoColon => Number::Refused(Refusal::NoColon(place)),
+        KeyValue::NoDigit => Number::Refused(Refusal::NoDigit(place)),
+        KeyValue::TooLarge => Number::Refused(Refusal::TooLarge(place)),
+    }
+}
+
+// The figures of a number.
+fn literal(n: u64) -> Read
+    ensures { λ r. ⌜ Figures (num n) r × Small r ⌝ }
+{
+    Read {
+        next: 0,
+        k: 1,
+        p: 1,
+        len: 6 + decimal_len(n) as u64,
+        value: Value::Is(n),
+    }
+}

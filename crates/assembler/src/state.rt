@@ -1,0 +1,158 @@
+// How far an assembly has come: the bindings made and the last return, or why it is refused.
+ghost use mathlib.Core.Path.{_≡_};
+ghost use Prim.Native.Nat.{_<_};
+ghost use Rattle.assembler.specs.Held.{isRefused};
+ghost use Rattle.assembler.specs.Stored.{Started, Small, Placed, Put, PutValue, Bound, numberIn, isNone, refusedAs, returning};
+use crate::refusal::Refusal;
+use expression::Bindings;
+use expression::Values;
+use expression::figures::Read;
+use expression::figures::Value;
+use source::parameters::Span;
+
+// The figures of the last return.
+pub enum Last {
+    Is(Read),
+    Nothing,
+}
+
+pub enum Status {
+    Going,
+    Refused(Refusal),
+}
+
+pub struct State {
+    pub table: Bindings,
+    pub values: Values,
+    pub last: Last,
+    pub status: Status,
+}
+
+pub fn started() -> State
+    ensures { λ r. ⌜ Started r ⌝ }
+{
+    let table = Bindings {
+        name_start: [0; 256],
+        name_len: [0; 256],
+        expr_start: [0; 256],
+        expr_len: [0; 256],
+        k: [0; 256],
+        p: [0; 256],
+        count: 0,
+    };
+    let values = Values {
+        value: [0; 256],
+        none: [false; 256],
+        len: [0; 256],
+    };
+    State {
+        table,
+        values,
+        last: Last::Nothing,
+        status: Status::Going,
+    }
+}
+
+pub fn is_refused(status: Status) -> bool
+    ensures { λ r. ⌜ r ≡ isRefused status ⌝ }
+{
+    match status {
+        Status::Going => false,
+        Status::Refused(_) => true,
+    }
+}
+
+pub fn refuse(a: State, refusal: Refusal) -> State
+    ensures { λ r. ⌜ r ≡ refusedAs a refusal ⌝ }
+{
+    let table = a.table;
+    let values = a.values;
+    let last = a.last;
+    State {
+        table,
+        values,
+        last,
+        status: Status::Refused(refusal),
+    }
+}
+
+pub fn returned(a: State, read: Read) -> State
+    ensures { λ r. ⌜ r ≡ returning a read ⌝ }
+{
+    let table = a.table;
+    let values = a.values;
+    let status = a.status;
+    State {
+        table,
+        values,
+        last: Last::Is(read),
+        status,
+    }
+}
+
+// One binding more, unless there are 256.
+pub fn bind(a: State, name: Span, expr: Span, read: Read) -> State
+    requires { ⌜ Placed name × (Placed expr × Small read) ⌝ }
+    ensures { λ r. ⌜ Bound a name expr read r ⌝ }
+{
+    let table = a.table;
+    let count = table.count;
+    if 256 <= count {
+        return refuse(a, Refusal::TooManyBindings);
+    }
+    let values = a.values;
+    let last = a.last;
+    let status = a.status;
+    State {
+        table: put(table, name, expr, read.k, read.p),
+        values: put_value(values, count, read),
+        last,
+        status,
+    }
+}
+
+fn put(table: Bindings, name: Span, expr: Span, k: u64, p: u64) -> Bindings
+    requires { ⌜ (table .count < 256) × (Placed name × (Placed expr × ((k < 65536) × (p < 65536)))) ⌝ }
+    ensures { λ r. ⌜ Put table name expr k p r ⌝ }
+{
+    let mut t = table;
+    let i = t.count;
+    t.name_start[i] = name.start as u16;
+    t.name_len[i] = (name.end - name.start) as u16;
+    t.expr_start[i] = expr.start as u16;
+    t.expr_len[i] = (expr.end - expr.start) as u16;
+    t.k[i] = k as u16;
+    t.p[i] = p as u16;
+    t.count = i + 1;
+    t
+}
+
+fn put_value(values: Values, i: usize, read: Read) -> Values
+    requires { ⌜ (i < 256) × Small read ⌝ }
+    ensures { λ r. ⌜ PutValue values i read r ⌝ }
+{
+    let mut v = values;
+    let value = read.value;
+    v.value[i] = number(value);
+    v.none[i] = is_none(value);
+    v.len[i] = read.len as u32;
+    v
+}
+
+fn number(value: Value) -> u64
+    ensures { λ r. ⌜ r ≡ numberIn value ⌝ }
+{
+    match value {
+        Value::Is(n) => n,
+        Value::None => 0,
+    }
+}
+
+fn is_none(value: Value) -> bool
+    ensures { λ r. ⌜ r ≡ isNone value ⌝ }
+{
+    match value {
+        Value::Is(_) => false,
+        Value::None => true,
+    }
+}
