@@ -12,8 +12,7 @@ use Rattle.search.specs.declared.Found.the-variants.{At, Nothing}
 use Rattle.search.specs.First.{prefixOf, firstAt}
 use Rattle.search.proofs.Prefix.{fits}
 use Rattle.source.proofs.Found.{by-found, in-text}
-use Rattle.trim.specs.Trim.{trimmed}
-use Rattle.source.specs.Cursor.{passed}
+use Rattle.trim.specs.Trim.{passed, trimmed}
 use Rattle.source.proofs.Trimmed.{trimmed-place, trimmed-fits}
 use Rattle.source.specs.declared.parameters.Span.{Span}
 use Rattle.assembler.specs.Part.{part}

@@ -90,7 +90,7 @@ pub fn returned(a: State, read: Read) -> State
     }
 }
 
-// One binding more, unless there are 256.
+// One binding more, unless there are 256. Its places lie within the contract, and its k is 32,768 at most (20).
 pub fn bind(a: State, name: Span, expr: Span, read: Read) -> State
     requires { ⌜ Placed name × (Placed expr × Small read) ⌝ }
     ensures { λ r. ⌜ Bound a name expr read r ⌝ }

@@ -23,7 +23,8 @@ pub struct Read {
     pub value: Value,
 }
 
-// Two expressions joined by an operator, which is written as a word of three letters and a line feed.
+// Two expressions joined by an operator, which is written as a word of three letters and a line feed. The figures of what is read
+// from at most 65,536 bytes are small.
 pub fn join(sign: u8, left: Read, right: Read) -> Read
     requires { ⌜ Small left × Small right ⌝ }
     ensures { λ r. ⌜ Joined sign left right r ⌝ }

@@ -8,8 +8,8 @@ ghost use Rattle.expression.specs.Table.{columnsOf, columns};
 ghost use Rattle.expression.specs.Cycle.{Ready, Meets};
 
 pub mod figures;
-pub mod names;
-pub mod parts;
+mod names;
+mod parts;
 
 use figures::Read;
 use figures::join;
@@ -60,7 +60,8 @@ pub enum Parsed {
 // So many parentheses may be open at once.
 const DEPTH: usize = 64;
 
-// What the expression from a place of the text on means. Its names are those of the first bindings, which stand before it in the text.
+// What the expression from a place of the text on means. Its names are those of the first bindings, which stand before it in the
+// text. The assembler calls it with a part of a contract that has at most 65,536 bytes (1).
 pub fn parse(text: &[u8], at: usize, table: Bindings, values: Values) -> Parsed
     requires { ⌜ length (now text) ≤ 65536 ⌝ }
     ensures { λ r. ⌜ Answers (now (text .entry)) at (columns table values) r ⌝ }

@@ -1,4 +1,5 @@
-// What each operation does once its price is taken.
+// What each operation does once its price is taken. The loop of crate `metered` calls these, and its registers
+// are always ready for one operation more.
 ghost use mathlib.Core.Path.{_≡_};
 ghost use mathlib.Core.List.{List, _++_};
 ghost use mathlib.Core.Option.{some};

@@ -1,4 +1,5 @@
-// The registers after a payment, and after an operation that goes on, ends or is refused.
+// The registers after a payment, and after an operation that goes on, ends or is refused. A price is paid only
+// where the gas is enough.
 ghost use mathlib.Core.Path.{_≡_};
 ghost use Prim.Native.Nat.{_+_, _≤_, _<_, _^_};
 ghost use Rattle.machine.specs.Registers.{goneOn, ended, stopped, paid};

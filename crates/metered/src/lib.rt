@@ -9,7 +9,8 @@ mod step;
 use machine::Regs;
 use machine::registers;
 
-// Operations until the program ends or is refused, from any registers that run.
+// Operations until the program ends or is refused, from any registers that run. Crate `vm` calls it behind its
+// test of the buffers' lengths (34).
 pub fn run(
     kinds: &[u8],
     operands: &[u64],

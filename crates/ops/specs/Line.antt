@@ -1,10 +1,10 @@
 -- What one line says.
-use Prim.Native.Nat.{ℕ, _+_, _-_}
+use Prim.Native.Nat.{ℕ, _+_}
 use mathlib.Core.List.{List, [], _∷_}
 use mathlib.Core.Bool.{Bool, true, cond, _||_}
 use lib.Dec.{eqb}
 use lib.ListN.{length, drop}
-use Rattle.trim.specs.Trim.{startTrimmed, trimmed}
+use Rattle.trim.specs.Trim.{trimmed, passed}
 use Rattle.number.specs.Decimal.{numberOf}
 use Rattle.number.specs.declared.Number.{Number}
 use Rattle.number.specs.declared.Number.the-variants.{Is, Invalid}
@@ -15,10 +15,6 @@ use Rattle.ops.specs.declared.OpsError.{OpsError}
 use Rattle.ops.specs.declared.OpsError.the-variants.{BadPush, BadSlot, UnknownOp, BadTarget}
 use Rattle.ops.specs.declared.line.LineRead.{LineRead}
 use Rattle.ops.specs.declared.line.LineRead.the-variants.{Skip, Op, Bad}
-
--- how many bytes the White_Space takes that a text starts with
-abbrev pub passed : List ℕ → ℕ
-passed s = length s - length (startTrimmed s)
 
 -- the refusal where what follows a kind's word is no number: of Push; of Load and Store; of the jumps
 abbrev pub badNumber : ℕ → ℕ → ℕ → ℕ → OpsError

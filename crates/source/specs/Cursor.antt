@@ -3,16 +3,12 @@ use Prim.Native.Nat.{ℕ, zero, suc, _+_, _-_, _<_, _≤_}
 use mathlib.Core.Path.{_≡_}
 use mathlib.Core.List.{List, [], _∷_}
 use lib.ListN.{length, take, drop}
-use Rattle.trim.specs.Trim.{startTrimmed, trimmed}
+use Rattle.trim.specs.Trim.{trimmed, passed}
 use Rattle.source.specs.Parameters.{before, pieces, name, parameters}
 use Rattle.source.specs.declared.parameters.Span.{Span}
 use Rattle.source.specs.declared.parameters.Parameter.{Parameter}
 use Rattle.source.specs.declared.parameters.NextParameter.{NextParameter}
 use Rattle.source.specs.declared.parameters.NextParameter.the-variants.{Is, Done}
-
--- how many bytes the White_Space takes that a text starts with
-abbrev pub passed : List ℕ → ℕ
-passed s = length s - length (startTrimmed s)
 
 -- where the trimmed text stands in a text
 abbrev pub trimmedSpan : List ℕ → Span

@@ -57,6 +57,10 @@ endTrimmed s = reverse (back (reverse s))
 abbrev pub trimmed : List ℕ → List ℕ
 trimmed s = endTrimmed (startTrimmed s)
 
+-- how many bytes the White_Space takes that a text starts with
+abbrev pub passed : List ℕ → ℕ
+passed s = length s - length (startTrimmed s)
+
 -- what trim_start gives, and where it stands
 pub record TrimStart (s r : List ℕ) : Type 0 where
   pub text : r ≡ startTrimmed s
@@ -70,4 +74,4 @@ pub record TrimEnd (s r : List ℕ) : Type 0 where
 -- what trim gives, and where it stands
 pub record Trim (s r : List ℕ) : Type 0 where
   pub text : r ≡ trimmed s
-  pub place : r ≡ take (length r) (drop (length s - length (startTrimmed s)) s)
+  pub place : r ≡ take (length r) (drop (passed s) s)

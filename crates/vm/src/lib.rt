@@ -1,10 +1,7 @@
 // A state transition: the lent buffers' lengths, the chain gate, the verifier, the metered run.
-ghost use mathlib.Core.Path.{_≡_};
-ghost use lib.ListN.{length};
 ghost use Rattle.context.specs.Gate.{gateOf};
 ghost use Rattle.context.specs.declared.Gate.the-variants as gate;
-ghost use Rattle.vm.specs.Verify.{buffersFit, gateCheck, verifyOf, andThen};
-ghost use Rattle.vm.specs.Transition.{Meets, Lent, transitionOf, performed, afterCheck, untouched, ofRun};
+ghost use Rattle.vm.specs.Transition.{Meets, transitionOf};
 
 mod buffers;
 mod perform;
