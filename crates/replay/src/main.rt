@@ -1,13 +1,14 @@
 // Replays answers of the Rust: each line of standard input is a call, by a letter, with its arguments in
 // hexadecimal; what the call gives is written on a line of its own.
 mod contract;
+mod gate;
 mod hex;
 mod text;
 
 use lines::Step;
 
 fn main() {
-    let mut text = [0u8; 262144];
+    let mut text = [0u8; 524288];
     let n = io::read_full(0, &mut text);
     replay(&text[..n]);
 }
@@ -38,5 +39,6 @@ fn case(line: &[u8]) {
     let m = hex::decode(line, gap, &mut b);
     text::print(line[0], &a[..n], &b[..m]);
     contract::print(line[0], &a[..n], &b[..m]);
+    gate::print(line[0], &a[..n]);
     io::write_all(1, b"\n");
 }

@@ -1,0 +1,83 @@
+// What the chain gate gives for eight texts that stand in one, parted by a byte that no UTF-8 text has.
+ghost use mathlib.Core.Path.{_≡_};
+ghost use Prim.Native.Nat.{_≤_};
+ghost use lib.ListN.{length};
+ghost use Rattle.context.specs.Gate.{gateNumber, errorNumber};
+use context::ContextError;
+use context::Gate;
+use search::Found;
+
+pub fn print(call: u8, a: &[u8]) {
+    if call != b'G' {
+        return;
+    }
+    let gate = context::execution_gate(
+        piece(a, 0),
+        piece(a, 1),
+        piece(a, 2),
+        piece(a, 3),
+        piece(a, 4),
+        piece(a, 5),
+        piece(a, 6),
+        piece(a, 7),
+    );
+    io::print_decimal(1, number(gate));
+}
+
+// The text that has n before it; empty where there are fewer.
+fn piece<'a>(s: &'a [u8], n: usize) -> &'a [u8] {
+    let start = skip(s, n);
+    let end = stop(s, start);
+    &s[start..end]
+}
+
+// Where the text starts that has n before it.
+fn skip(s: &[u8], n: usize) -> usize
+    ensures { λ r. ⌜ r ≤ length (now (s .entry)) ⌝ }
+{
+    let mut at: usize = 0;
+    let mut left = n;
+    while 0 < left {
+        let end = stop(s, at);
+        if end == s.len() {
+            return end;
+        }
+        at = end + 1;
+        left -= 1;
+    }
+    at
+}
+
+// Where the text that starts at a place ends.
+fn stop(s: &[u8], at: usize) -> usize
+    requires { ⌜ at ≤ length (now s) ⌝ }
+    ensures { λ r. ⌜ (at ≤ r) × (r ≤ length (now (s .entry))) ⌝ }
+{
+    let found = search::find_byte(s, 0xFF, at);
+    match found {
+        Found::At(i) => i,
+        Found::Nothing => s.len(),
+    }
+}
+
+fn number(gate: Gate) -> u64
+    ensures { λ r. ⌜ r ≡ gateNumber gate ⌝ }
+{
+    match gate {
+        Gate::Passed => 0,
+        Gate::Refused(e) => refusal(e),
+    }
+}
+
+fn refusal(e: ContextError) -> u64
+    ensures { λ r. ⌜ r ≡ errorNumber e ⌝ }
+{
+    match e {
+        ContextError::InvalidChainId => 35,
+        ContextError::InvalidNetworkId => 36,
+        ContextError::InvalidGenesisId => 37,
+        ContextError::ProtocolMismatch => 38,
+        ContextError::VmMismatch => 39,
+        ContextError::GenesisMismatch => 40,
+    }
+}

@@ -1,0 +1,78 @@
+// The cases of crates/replay that call the chain gate: what the original's `execution_gate` answers for eight texts, which
+// stand in one, parted by the byte FF (oracle/make).
+#[path = "../../shared/docs/src/src/context.rs"]
+#[allow(dead_code)]
+mod context;
+use context::{execution_gate, ChainContext, ContextError};
+use std::fmt::Write;
+
+fn number(t: &[String; 8]) -> u32 {
+    let context = ChainContext {
+        chain_id: t[0].clone(),
+        network_id: t[1].clone(),
+        genesis_id: t[2].clone(),
+        protocol_version: t[3].clone(),
+        vm_version: t[4].clone(),
+    };
+    match execution_gate(&context, &t[5], &t[6], &t[7]) {
+        Ok(()) => 0,
+        Err(ContextError::InvalidChainId) => 35,
+        Err(ContextError::InvalidNetworkId) => 36,
+        Err(ContextError::InvalidGenesisId) => 37,
+        Err(ContextError::ProtocolMismatch) => 38,
+        Err(ContextError::VmMismatch) => 39,
+        Err(ContextError::GenesisMismatch) => 40,
+    }
+}
+
+// Texts near a good one: shorter, longer, in another case, with a space, with a letter changed, empty.
+fn near(good: &str) -> Vec<String> {
+    let mut all = vec![good.to_string(), String::new(), good.to_uppercase(), format!("{good} "), format!(" {good}"), format!("{good}0")];
+    if let Some(c) = good.chars().last() {
+        all.push(good[..good.len() - c.len_utf8()].to_string());
+        all.push(format!("{}g", &good[..good.len() - c.len_utf8()]));
+        all.push(format!("é{}", &good[1..]));
+    }
+    all
+}
+
+fn main() {
+    let folder = std::env::args().nth(1).expect("a folder for stdin and stdout");
+    let genesis = "0123456789abcdef".repeat(4);
+    let good = ["atc", "devnet", &genesis, "p1", "v1", &genesis, "p1", "v1"];
+    let mut cases: Vec<[String; 8]> = Vec::new();
+    for network in ["devnet", "testnet", "mainnet", "net", "mainne", "testnetx"] {
+        let mut base = good.map(String::from);
+        base[1] = network.into();
+        for i in 0..8 {
+            for text in near(&base[i]) {
+                let mut one = base.clone();
+                one[i] = text;
+                cases.push(one.clone());
+                // a second fault behind the first: the first that applies is given
+                for j in i + 1..if network == "devnet" { 8 } else { 0 } {
+                    let mut two = one.clone();
+                    two[j] = "x".into();
+                    cases.push(two);
+                }
+            }
+        }
+    }
+    for hex in ["A", "F", "G", "/", ":", "@", "`", "g", "f", "0", "9"] {
+        let mut one = good.map(String::from);
+        one[2] = hex.repeat(64);
+        one[5] = hex.to_lowercase().repeat(64);
+        cases.push(one.clone());
+        one[5] = hex.repeat(64);
+        cases.push(one);
+    }
+    let (mut input, mut output) = (String::new(), String::new());
+    for case in &cases {
+        let joined: Vec<u8> = case.iter().map(|t| t.as_bytes()).collect::<Vec<_>>().join(&0xFFu8);
+        let hex: String = joined.iter().map(|b| format!("{b:02x}")).collect();
+        writeln!(input, "G {hex} ").unwrap();
+        writeln!(output, "{}", number(case)).unwrap();
+    }
+    std::fs::write(format!("{folder}/stdin"), input).unwrap();
+    std::fs::write(format!("{folder}/stdout"), output).unwrap();
+}
