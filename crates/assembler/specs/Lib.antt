@@ -10,3 +10,4 @@ pub mod Stored
 pub mod Numbers
 pub mod Held
 pub mod Concluded
+pub mod Output

@@ -47,8 +47,7 @@ fn step_of(
     }
 }
 
-// The same, with the kind found by a tree of tests: at a literal kind the price and the match fold
-// away, which makes the loop about twice as fast.
+// The same, with the kind found by a tree of tests: at a literal kind the price and the match fold away.
 pub fn step(
     kind: u8,
     operand: u64,
