@@ -16,14 +16,15 @@ use Rattle.source.specs.declared.function.Places.{Places}
 use Rattle.source.specs.Parameters.{parameters}
 use Rattle.source.proofs.Places.{Ordered, ordered}
 use Rattle.lines.specs.Lines.{lines}
-use Rattle.expression.specs.declared.figures.Read.{Read}
 use Rattle.expression.specs.declared.figures.Value.the-variants.{Is, None}
 use Rattle.expression.specs.Tree.{Tree, valueOf}
 use Rattle.expression.specs.Figures.{optionOf}
 use Rattle.expression.specs.Table.{Told, columns}
+use Rattle.expression.specs.Source.{sources}
 use Rattle.assembler.specs.declared.assembly.Assembly.{Assembly}
 use Rattle.assembler.specs.declared.refusal.Refusal.{Refusal}
 use Rattle.assembler.specs.declared.refusal.Refusal.the-variants.{NoReturn, NoValue, NotExpected}
+use Rattle.assembler.specs.declared.state.Returned.{Returned}
 use Rattle.assembler.specs.declared.state.Last.{Last}
 use Rattle.assembler.specs.declared.state.Last.the-variants as Last
 use Rattle.assembler.specs.declared.state.Status.{Status}
@@ -39,6 +40,7 @@ use Rattle.assembler.specs.Stored.{Started, refusedAs}
 use Rattle.assembler.specs.Held.{LastIs, Represents, Good, Leads, Follows, Within, isRefused}
 use Rattle.assembler.specs.Assembled.{Assembled, accepted, rejected, readable, bodyRead, compared, returned, concluded, functionRead, assembledTree}
 use Rattle.assembler.specs.Concluded.{ConcludesBy, Concludes, ConcludesAll, Located}
+use Rattle.assembler.proofs.Sourced.{env-none}
 use Rattle.assembler.proofs.Leading.{leads-off, by-leads, represents-later, leads-later}
 
 -- an answer that is refused
@@ -46,12 +48,14 @@ pub concludes-off : {s : List ℕ} {o : Assembled} {r : Assembly} {why : Refusal
 concludes-off {s} {o} {r} f e = record { by = subst (λ (x : Status). ConcludesBy x s o r) (sym f) e }
 
 pub concludes-on : {s : List ℕ} {o : Assembled} {r : Assembly} {st : State} {t : Tree} → Represents s (r .state) st → st .last ≡ some t → o ≡ accepted (r .expected) t → Concludes s o r
-concludes-on {s} {o} {r} {st} {t} q l e = record { by = subst (λ (x : Status). ConcludesBy x s o r) (sym (q .going)) (st, (t, (q, (l, e)))) }
+concludes-on {s} {o} {r} {st} {t} q l e = record { by = subst (λ (x : Status). ConcludesBy x s o r) (sym (q .going)) (record { st = st; t = t; represents = q; last = l; returned = subst (λ (x : Option Tree). LastIs s (r .state .table) (r .state .values) (r .state .last) x) l (q .last); accepts = e }) }
 
 pub started-represents : (s : List ℕ) (a : Code.State) → Started a → Represents s a started
 started-represents s a h = record {
   holds = record { room = let e = h .count in omega arith; told = subst (λ (n : ℕ). Told s (columns (a .table) (a .values)) n []) (sym (h .count)) tt };
-  last = subst (λ (x : Last). LastIs x none) (sym (h .last)) tt;
+  stand = λ i l. absurd (omega (arith, h .count));
+  sources = env-none s (sources (a .table) (a .values)) (a .table .count) (h .count);
+  last = subst (λ (x : Last). LastIs s (a .table) (a .values) x none) (sym (h .last)) tt;
   going = h .status;
 }
 
@@ -104,27 +108,27 @@ module _ (a : Code.State) (expected : ℕ) where
     by-states {r} f = record { is = λ s whole l. by-leads l (λ st q e. subst (λ (o : Assembled). Concludes s o r) (sym (ap (concluded expected) e)) (f s st q)) (λ why t e. never (sym (ap isRefused t) ∙ b)) }
 
     pub end-nothing : a .last ≡ Last.Nothing → ConcludesAll a expected (record { state = refusedAs a NoReturn; expected = expected })
-    end-nothing e = by-states (λ s st q. concludes-off refl (go (st .last) (subst (λ (x : Last). LastIs x (st .last)) e (q .last))))
+    end-nothing e = by-states (λ s st q. concludes-off refl (go s (st .last) (subst (λ (x : Last). LastIs s (a .table) (a .values) x (st .last)) e (q .last))))
       where
-        go : (x : Option Tree) → LastIs Last.Nothing x → returned expected x ≡ rejected (refusalOf NoReturn)
-        go none h = refl
-        go (some t) h = absurd h
+        go : (s : List ℕ) (x : Option Tree) → LastIs s (a .table) (a .values) Last.Nothing x → returned expected x ≡ rejected (refusalOf NoReturn)
+        go s none h = refl
+        go s (some t) h = absurd h
 
-    module _ (v : Read) (e : a .last ≡ Last.Is v) where
-      pub end-with : {r : Assembly} → ((s : List ℕ) (st : State) (t : Tree) → Represents s a st → st .last ≡ some t → optionOf (v .value) ≡ valueOf t → Concludes s (compared expected t (valueOf t)) r) → ConcludesAll a expected r
-      end-with {r} f = by-states (λ s st q. go s st q (st .last) refl (subst (λ (x : Last). LastIs x (st .last)) e (q .last)))
+    module _ (v : Returned) (e : a .last ≡ Last.Is v) where
+      pub end-with : {r : Assembly} → ((s : List ℕ) (st : State) (t : Tree) → Represents s a st → st .last ≡ some t → optionOf (v .read .value) ≡ valueOf t → Concludes s (compared expected t (valueOf t)) r) → ConcludesAll a expected r
+      end-with {r} f = by-states (λ s st q. go s st q (st .last) refl (subst (λ (x : Last). LastIs s (a .table) (a .values) x (st .last)) e (q .last)))
         where
-          go : (s : List ℕ) (st : State) → Represents s a st → (x : Option Tree) → st .last ≡ x → LastIs (Last.Is v) (st .last) → Concludes s (returned expected (st .last)) r
-          go s st q none l h = absurd (subst (λ (x : Option Tree). LastIs (Last.Is v) x) l h)
-          go s st q (some t) l h = subst (λ (x : Option Tree). Concludes s (returned expected x) r) (sym l) (f s st t q l (subst (λ (x : Option Tree). LastIs (Last.Is v) x) l h .value))
+          go : (s : List ℕ) (st : State) → Represents s a st → (x : Option Tree) → st .last ≡ x → LastIs s (a .table) (a .values) (Last.Is v) (st .last) → Concludes s (returned expected (st .last)) r
+          go s st q none l h = absurd (subst (λ (x : Option Tree). LastIs s (a .table) (a .values) (Last.Is v) x) l h)
+          go s st q (some t) l h = subst (λ (x : Option Tree). Concludes s (returned expected x) r) (sym l) (f s st t q l (subst (λ (x : Option Tree). LastIs s (a .table) (a .values) (Last.Is v) x) l h .figures .value))
 
-      pub end-no-value : v .value ≡ None → ConcludesAll a expected (record { state = refusedAs a NoValue; expected = expected })
+      pub end-no-value : v .read .value ≡ None → ConcludesAll a expected (record { state = refusedAs a NoValue; expected = expected })
       end-no-value n = end-with (λ s st t q l k. concludes-off refl (ap (compared expected t) (sym k ∙ ap optionOf n)))
 
-      pub end-same : (n : ℕ) → v .value ≡ Is n → n ≡ expected → ConcludesAll a expected (record { state = a; expected = expected })
+      pub end-same : (n : ℕ) → v .read .value ≡ Is n → n ≡ expected → ConcludesAll a expected (record { state = a; expected = expected })
       end-same n m h = end-with (λ s st t q l k. concludes-on q l (ap (compared expected t) (sym k ∙ ap optionOf m) ∙ (let b = eq-eqb n expected h in rw b)))
 
-      pub end-other : (n : ℕ) → v .value ≡ Is n → (n ≡ expected → ⊥) → ConcludesAll a expected (record { state = refusedAs a NotExpected; expected = expected })
+      pub end-other : (n : ℕ) → v .read .value ≡ Is n → (n ≡ expected → ⊥) → ConcludesAll a expected (record { state = refusedAs a NotExpected; expected = expected })
       end-other n m h = end-with (λ s st t q l k. concludes-off refl (ap (compared expected t) (sym k ∙ ap optionOf m) ∙ (let b = ne-eqb n expected h in rw b)))
 
 -- both texts are readable, or one is not

@@ -34,7 +34,7 @@ module _ (s : List ℕ) (i e : ℕ) (h : i ≤ e) (k : e ≤ length s) where
   pub part-take : (start len : ℕ) → start + len ≤ length (take i s) → take len (drop start (take i s)) ≡ take len (drop start s)
   part-take start len g = inner s (take i s) 0 i start len start refl g (omega arith)
 
-  later : (start len : ℕ) → start + len ≤ length (take i s) → take len (drop start (take i s)) ≡ take len (drop start (take e s))
+  pub later : (start len : ℕ) → start + len ≤ length (take i s) → take len (drop start (take i s)) ≡ take len (drop start (take e s))
   later start len g =
       let m = length-take-le i s (omega arith) in
       let n = length-take-le e s k in

@@ -1,7 +1,7 @@
 -- Laws of what a state leads to.
 use Prim.Native.Nat.{ℕ, _-_, _≤_}
 use mathlib.Core.Path.{_≡_, refl, sym, ap, subst, _∙_}
-use mathlib.Core.List.{List}
+use mathlib.Core.List.{List, _∷_}
 use native.Mathlib.Omega.{arith}
 use borrow.Author.Tests.{lt-ltb, le-ltb}
 use lib.ListN.{length, take}
@@ -9,6 +9,7 @@ use Rattle.byte.proofs.Tests.{by-leb}
 use Rattle.source.specs.declared.parameters.Span.{Span}
 use Rattle.expression.specs.declared.figures.Read.{Read}
 use Rattle.expression.specs.Tree.{Tree}
+use Rattle.expression.specs.Parse.{Env}
 use Rattle.expression.specs.Figures.{Figures}
 use Rattle.assembler.specs.declared.refusal.Refusal.{Refusal}
 use Rattle.assembler.specs.declared.state.Last.{Last}
@@ -18,9 +19,10 @@ use Rattle.assembler.specs.declared.state.State as Code
 use Rattle.assembler.specs.Part.{part}
 use Rattle.assembler.specs.State.{State, Outcome, goes, refused, bound}
 use Rattle.assembler.specs.Numbers.{refusalOf}
-use Rattle.assembler.specs.Stored.{Bound}
+use Rattle.assembler.specs.Stored.{numberIn, Bound}
 use Rattle.assembler.specs.Held.{LastIs, Represents, LeadsBy, Leads}
 use Rattle.assembler.proofs.Holding.{holds-length, holds-later, holds-more}
+use Rattle.assembler.proofs.Sourced.{env-later, stand-later, last-later, Gives, env-more, stand-more, last-more}
 
 module _ {s : List ℕ} {a : Code.State} {whole : Outcome} {rest : State → Outcome} where
   pub leads-on : {st : State} → Represents s a st → whole ≡ rest st → Leads s a whole rest
@@ -41,25 +43,34 @@ by-leads {P} {s} {a} {whole} {rest} l on off = go (a .status) refl (l .by)
 
 module _ (s : List ℕ) (i e : ℕ) (h : i ≤ e) (k : e ≤ length s) where
   pub represents-later : {a : Code.State} {st : State} → Represents (take i s) a st → Represents (take e s) a st
-  represents-later r = record { holds = holds-later s i e h k (r .holds); last = r .last; going = r .going }
+  represents-later {a} {st} r = record {
+    holds = holds-later s i e h k (r .holds);
+    stand = stand-later s i e h k (r .stand);
+    sources = r .sources ∙ env-later s i e h k (r .stand);
+    last = last-later s i e h k a (st .last) (r .stand) (r .last);
+    going = r .going;
+  }
 
   pub leads-later : {a : Code.State} {whole : Outcome} {rest : State → Outcome} → Leads (take i s) a whole rest → Leads (take e s) a whole rest
   leads-later l = by-leads l (λ st r w. leads-on (represents-later r) w) (λ why f w. leads-off f w)
 
 -- one binding more
 module _ (s : List ℕ) (a r : Code.State) (name expr : Span) (v : Read) (b : Bound a name expr v r) (o : name .start ≤ name .end) (k : name .end ≤ length s) where
-  pub bound-leads : {st : State} {t : Tree} → Represents s a st → Figures t v → Leads s r (bound st (part s (name .start) (name .end)) t) goes
-  bound-leads {st} {t} q f =
+  pub bound-leads : {st : State} {t : Tree} → Represents s a st → Figures t v → Gives s (st .env) expr (numberIn (v .value)) t → Leads s r (bound st (part s (name .start) (name .end)) t) goes
+  bound-leads {st} {t} q f g =
       let n = holds-length (q .holds) in
       by-leb 256 (a .table .count)
       (λ l. leads-off (ap (λ (x : Code.State). x .status) (b .full l)) (let e = le-ltb (length (st .env)) 256 (omega arith) in rw e))
       (λ l.
       let m = b .more l in
       let e = lt-ltb (length (st .env)) 256 (omega arith) in
+      let w = subst (λ (env : Env). Gives s env expr (numberIn (v .value)) t) (q .sources) g in
       leads-on
       (record {
         holds = holds-more s m o k f l (q .holds);
-        last = subst (λ (x : Last). LastIs x (st .last)) (sym (m .last)) (q .last);
+        stand = stand-more s m w o k (q .stand);
+        sources = ap (λ (env : Env). record { name = part s (name .start) (name .end); tree = t } ∷ env) (q .sources) ∙ sym (env-more s m w);
+        last = subst (λ (x : Last). LastIs s (r .table) (r .values) x (st .last)) (sym (m .last)) (last-more s m (a .last) (st .last) (q .last));
         going = m .status ∙ q .going;
       })
       (rw e))

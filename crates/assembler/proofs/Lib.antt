@@ -2,6 +2,7 @@ pub mod Examples
 pub mod Places
 pub mod Stored
 pub mod Holding
+pub mod Sourced
 pub mod Leading
 pub mod Checking
 pub mod Lines

@@ -4,13 +4,14 @@ use mathlib.Core.Path.{_≡_, refl, sym, ap, subst, _∙_}
 use mathlib.Core.List.{List}
 use native.Mathlib.Omega.{arith}
 use borrow.Author.Tests.{le-leb}
-use lib.ListN.{take}
+use lib.ListN.{take, drop}
 use lib.Seq.{length-take-le}
 use Rattle.source.specs.declared.parameters.Span.{Span}
 use Rattle.expression.specs.declared.figures.Read.{Read}
 use Rattle.expression.specs.Tree.{Tree, kOf}
-use Rattle.expression.specs.Parse.{Meaning, tree, meaning}
+use Rattle.expression.specs.Parse.{Env, Meaning, tree, wrong, meaning}
 use Rattle.expression.specs.Table.{columns}
+use Rattle.expression.proofs.Meaning.{meaning-empty}
 use Rattle.trim.specs.Trim.{trimmed}
 use Rattle.assembler.specs.declared.body.Checked.{Checked}
 use Rattle.assembler.specs.declared.body.Checked.the-variants.{Is, Refused}
@@ -24,10 +25,11 @@ use Rattle.assembler.specs.State.{State, Outcome, goes, bound}
 use Rattle.assembler.specs.Statement.{binds, returns}
 use Rattle.assembler.specs.Body.{treeOr, performed, lineRead}
 use Rattle.assembler.specs.Places.{Inside, AllInside, Stands, statementAt, texts}
-use Rattle.assembler.specs.Stored.{refusedAs, returning, Small, Bound}
+use Rattle.assembler.specs.Stored.{refusedAs, returning, numberIn, Small, Bound}
 use Rattle.assembler.specs.Held.{Represents, Good, Leads, Follows, ChecksAll, Within, LetWithin}
 use Rattle.assembler.proofs.Places.{stands}
 use Rattle.assembler.proofs.Holding.{part-take}
+use Rattle.assembler.proofs.Sourced.{Gives}
 use Rattle.assembler.proofs.Leading.{leads-on, leads-off, represents-later, leads-later, bound-leads}
 use Rattle.assembler.proofs.Checking.{figures-small}
 
@@ -48,6 +50,9 @@ module _ (s : List ℕ) (a : Code.State) (expr : Span) (w : Within s (expr .star
   later : {st : State} → Represents before a st → Represents behind a st
   later q = represents-later s (expr .start) (expr .end) (w .ordered) (w .inside) q
 
+  part-in : part behind (expr .start) (expr .end) ≡ text
+  part-in = part-take s (expr .end) (expr .end) (omega arith) (w .inside) (expr .start) (expr .end - expr .start) (omega (arith, w .ordered, length-take-le (expr .end) s (w .inside)))
+
   pub carry : {x y : Checked} → x ≡ y → ChecksAll behind (columns (a .table) (a .values)) line text x → ChecksAll behind (columns (a .table) (a .values)) line text y
   carry e k = subst (λ (z : Checked). ChecksAll behind (columns (a .table) (a .values)) line text z) e k
 
@@ -59,11 +64,37 @@ module _ (s : List ℕ) (a : Code.State) (expr : Span) (w : Within s (expr .star
     pub small : Good before a → Small v
     small g = let x = k .is (g .st .env) (later (g .represents) .holds) in figures-small (x .1 .1 .0) (x .1 .1 .1)
 
-    pub return-read : Follows before a (λ st. performed line st (returns text)) behind (returning a v)
+    pub return-read : Follows before a (λ st. performed line st (returns text)) behind (returning a expr v)
     return-read = record {
       leads = λ st q.
           let x = k .is (st .env) (later q .holds) in
-          leads-on (record { holds = later q .holds; last = x .1 .1 .1; going = q .going }) (tree-found line _ (x .1 .0) (x .1 .1 .0));
+          leads-on
+          (record {
+            holds = later q .holds;
+            stand = later q .stand;
+            sources = later q .sources;
+            last = record {
+              figures = x .1 .1 .1;
+              few = omega arith;
+              ordered = w .ordered;
+              inside = omega (arith, length-take-le (expr .end) s (w .inside));
+              means = rw (part-in, ← later q .sources) (x .1 .0);
+            };
+            going = q .going;
+          })
+          (tree-found line _ (x .1 .0) (x .1 .1 .0));
+    }
+
+    -- an expression that is empty means no tree
+    gives : {env : Env} {t : Tree} → meaning env text ≡ tree t → Gives behind env expr (numberIn (v .value)) t
+    gives {env} {t} e = record {
+      ordered = w .ordered;
+      inside = omega (arith, length-take-le (expr .end) s (w .inside));
+      number = λ z.
+          let y : expr .end - expr .start ≡ 0 = omega arith in
+          let u : wrong 14 ≡ tree t = sym (ap (λ (n : ℕ). meaning env (take n (drop (expr .start) s))) y ∙ meaning-empty env) ∙ e in
+          absurd (let c : _≡_ {A = ℕ} 0 1 = cc in omega arith);
+      means = λ l. rw part-in e;
     }
 
     pub let-read : (name : Span) (r : Code.State) → name .start ≤ name .end → name .end ≤ expr .start → Bound a name expr v r
@@ -74,7 +105,7 @@ module _ (s : List ℕ) (a : Code.State) (expr : Span) (w : Within s (expr .star
           let n = length-take-le (expr .end) s (w .inside) in
           let e : part behind (name .start) (name .end) ≡ part s (name .start) (name .end) = part-take s (expr .end) (expr .end) (omega arith) (w .inside) (name .start) (name .end - name .start) (let y = w .ordered in omega arith) in
           let z = tree-found line (bound st (part s (name .start) (name .end))) (x .1 .0) (x .1 .1 .0) in
-          subst (λ (u : Outcome). Leads behind r u goes) (ap (λ (u : List ℕ). bound st u (x .0)) e ∙ sym z) (bound-leads behind a r name expr v b o (let y = w .ordered in omega arith) (later q) (x .1 .1 .1));
+          subst (λ (u : Outcome). Leads behind r u goes) (ap (λ (u : List ℕ). bound st u (x .0)) e ∙ sym z) (bound-leads behind a r name expr v b o (let y = w .ordered in omega arith) (later q) (x .1 .1 .1) (gives (x .1 .0)));
     }
 
 -- the line from start to end of the contract

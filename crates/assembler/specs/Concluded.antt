@@ -14,11 +14,20 @@ use Rattle.assembler.specs.declared.state.Status.the-variants.{Going, Re
 use Rattle.assembler.specs.declared.state.State as Code
 use Rattle.assembler.specs.State.{State, Outcome, goes}
 use Rattle.assembler.specs.Numbers.{refusalOf}
-use Rattle.assembler.specs.Held.{Represents, Leads}
+use Rattle.assembler.specs.Held.{LastIs, Represents, Leads}
 use Rattle.assembler.specs.Assembled.{Assembled, accepted, rejected, concluded}
 
+-- the state's last return means the tree t, which is accepted
+pub record Accepts (s : List ℕ) (o : Assembled) (r : Assembly) : Type 0 where
+  pub st : State
+  pub t : Tree
+  pub represents : Represents s (r .state) st
+  pub last : st .last ≡ some t
+  pub returned : LastIs s (r .state .table) (r .state .values) (r .state .last) (some t)
+  pub accepts : o ≡ accepted (r .expected) t
+
 abbrev pub ConcludesBy : Status → List ℕ → Assembled → Assembly → Type 0
-ConcludesBy Going s o r = (st : State) × ((t : Tree) × (Represents s (r .state) st × ((st .last ≡ some t) × (o ≡ accepted (r .expected) t))))
+ConcludesBy Going s o r = Accepts s o r
 ConcludesBy (Refused why) s o r = o ≡ rejected (refusalOf why)
 
 -- the answer r says o of the contract s: its state holds the tree that is accepted, or the refusal

@@ -1,4 +1,4 @@
--- What the code's state says of an assembly. The names of its bindings stand in the text s.
+-- What the code's state says of an assembly. The names and expressions of its bindings stand in the text s.
 use Prim.Native.Nat.{ℕ, _<_, _≤_}
 use mathlib.Core.Path.{_≡_}
 use mathlib.Core.List.{List}
@@ -9,9 +9,13 @@ use Rattle.source.specs.declared.parameters.Span.{Span}
 use Rattle.expression.specs.Tree.{Tree, kOf}
 use Rattle.expression.specs.Parse.{Env, Meaning, tree, meaning}
 use Rattle.expression.specs.Figures.{Figures}
+use Rattle.expression.specs.declared.Bindings.{Bindings}
+use Rattle.expression.specs.declared.Values.{Values}
 use Rattle.expression.specs.Table.{Columns, columns, Holds}
+use Rattle.expression.specs.Source.{sources, envOf, AllStand}
 use Rattle.assembler.specs.declared.body.Checked.{Checked}
 use Rattle.assembler.specs.declared.body.Checked.the-variants as Checked
+use Rattle.assembler.specs.declared.state.Returned.{Returned}
 use Rattle.assembler.specs.declared.state.Last.{Last}
 use Rattle.assembler.specs.declared.state.Last.the-variants as Last
 use Rattle.assembler.specs.declared.state.Status.{Status}
@@ -19,20 +23,31 @@ use Rattle.assembler.specs.declared.state.Status.the-variants.{Going, Re
 use Rattle.assembler.specs.declared.state.State as Code
 use Rattle.assembler.specs.declared.parameters.Number.{Number}
 use Rattle.assembler.specs.declared.parameters.Number.the-variants as Number
+use Rattle.assembler.specs.Part.{part}
 use Rattle.assembler.specs.Parameters.{Keyed, is, lacks}
 use Rattle.assembler.specs.State.{State, Outcome, goes, refused}
 use Rattle.assembler.specs.Body.{treeOr}
 use Rattle.assembler.specs.Numbers.{refusalOf}
 
-abbrev pub LastIs : Last → Option Tree → Type 0
-LastIs Last.Nothing none = Unit {0}
-LastIs Last.Nothing (some t) = ⊥
-LastIs (Last.Is v) none = ⊥
-LastIs (Last.Is v) (some t) = Figures t v
+-- the last return's expression stands in the text, and means t among the bindings made before its line
+pub record ReturnIs (s : List ℕ) (table : Bindings) (values : Values) (l : Returned) (t : Tree) : Type 0 where
+  pub figures : Figures t (l .read)
+  pub few : l .count ≤ table .count
+  pub ordered : l .start ≤ l .end
+  pub inside : l .end ≤ length s
+  pub means : meaning (envOf s (sources table values) (l .count)) (part s (l .start) (l .end)) ≡ tree t
+
+abbrev pub LastIs : List ℕ → Bindings → Values → Last → Option Tree → Type 0
+LastIs s table values Last.Nothing none = Unit {0}
+LastIs s table values Last.Nothing (some t) = ⊥
+LastIs s table values (Last.Is l) none = ⊥
+LastIs s table values (Last.Is l) (some t) = ReturnIs s table values l t
 
 pub record Represents (s : List ℕ) (a : Code.State) (st : State) : Type 0 where
   pub holds : Holds s (columns (a .table) (a .values)) (st .env)
-  pub last : LastIs (a .last) (st .last)
+  pub stand : AllStand s (sources (a .table) (a .values)) (a .table .count)
+  pub sources : st .env ≡ envOf s (sources (a .table) (a .values)) (a .table .count)
+  pub last : LastIs s (a .table) (a .values) (a .last) (st .last)
   pub going : a .status ≡ Going
 
 abbrev pub isRefused : Status → Bool

@@ -24,8 +24,8 @@ pub record Started (a : State) : Type 0 where
 abbrev pub refusedAs : State → Refusal → State
 refusedAs a why = record { table = a .table; values = a .values; last = a .last; status = Status.Refused why }
 
-abbrev pub returning : State → Read → State
-returning a v = record { table = a .table; values = a .values; last = Last.Is v; status = a .status }
+abbrev pub returning : State → Span → Read → State
+returning a expr v = record { table = a .table; values = a .values; last = Last.Is (record { start = expr .start; end = expr .end; count = a .table .count; read = v }); status = a .status }
 
 -- places and figures that fit the table's types
 pub record Placed (p : Span) : Type 0 where

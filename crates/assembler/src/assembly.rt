@@ -106,7 +106,8 @@ fn conclude(a: State, expected: u64) -> Assembly
             state: refuse(a, Refusal::NoReturn),
             expected,
         },
-        Last::Is(read) => {
+        Last::Is(returned) => {
+            let read = returned.read;
             let value = read.value;
             match value {
                 Value::None => Assembly {

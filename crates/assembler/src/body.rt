@@ -11,8 +11,8 @@ use crate::refusal::Refusal;
 use crate::state::State;
 use crate::state::bind;
 use crate::state::is_refused;
+use crate::state::keep_return;
 use crate::state::refuse;
-use crate::state::returned;
 use crate::statement::Statement;
 use crate::statement::statement_at;
 use expression::Bindings;
@@ -90,7 +90,7 @@ fn read_return(contract: &[u8], expr: Span, line: usize, a: State) -> State
     let checked = check(contract, expr, line, table, values);
     match checked {
         Checked::Refused(why) => refuse(a, why),
-        Checked::Is(read) => returned(a, read),
+        Checked::Is(read) => keep_return(a, expr, read),
     }
 }
 

@@ -10,9 +10,16 @@ use expression::figures::Read;
 use expression::figures::Value;
 use source::parameters::Span;
 
-// The figures of the last return.
+// The last return: its expression stands from start to end of the contract, and count bindings were made before its line.
+pub struct Returned {
+    pub start: usize,
+    pub end: usize,
+    pub count: usize,
+    pub read: Read,
+}
+
 pub enum Last {
-    Is(Read),
+    Is(Returned),
     Nothing,
 }
 
@@ -76,16 +83,22 @@ pub fn refuse(a: State, refusal: Refusal) -> State
     }
 }
 
-pub fn returned(a: State, read: Read) -> State
-    ensures { λ r. ⌜ r ≡ returning a read ⌝ }
+pub fn keep_return(a: State, expr: Span, read: Read) -> State
+    ensures { λ r. ⌜ r ≡ returning a expr read ⌝ }
 {
     let table = a.table;
     let values = a.values;
     let status = a.status;
+    let last = Returned {
+        start: expr.start,
+        end: expr.end,
+        count: table.count,
+        read,
+    };
     State {
         table,
         values,
-        last: Last::Is(read),
+        last: Last::Is(last),
         status,
     }
 }

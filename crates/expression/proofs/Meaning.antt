@@ -5,7 +5,7 @@ use mathlib.Core.List.{List, [], _∷_}
 use mathlib.Core.Bool.{true, false}
 use native.Mathlib.Omega.{arith}
 use lib.ListN.{drop}
-use Rattle.token.specs.Token.{allowed, tokens, tokenAt}
+use Rattle.token.specs.Token.{allowed, scan, tokens, tokenAt}
 use Rattle.token.specs.declared.Token.{Token}
 use Rattle.expression.specs.declared.Bindings.{Bindings}
 use Rattle.expression.specs.declared.Values.{Values}
@@ -15,7 +15,7 @@ use Rattle.expression.specs.declared.ExprError.the-variants.{InvalidChar
 use Rattle.expression.specs.declared.Parsed.{Parsed}
 use Rattle.expression.specs.declared.Parsed.the-variants.{Done, Refused}
 use Rattle.expression.specs.Tree.{Tree}
-use Rattle.expression.specs.Parse.{Env, done, enough, Meaning, tree, wrong, whole, meaning, expression}
+use Rattle.expression.specs.Parse.{Env, done, enough, parseF, moreF, Meaning, tree, wrong, whole, meaning, expression}
 use Rattle.expression.specs.Figures.{Figures}
 use Rattle.expression.specs.Table.{Columns, columnsOf, columns, Holds}
 use Rattle.expression.specs.Answer.{refusal, numberOf, said, due, Short, Answers}
@@ -88,3 +88,8 @@ answer-refused {s} {at} {c} {x} a env h = go (meaning env (drop at s)) refl
     go : (m : Meaning) → meaning env (drop at s) ≡ m → meaning env (drop at s) ≡ wrong (numberOf x)
     go (wrong n) e = let q : refusal (numberOf x) ≡ refusal n = a .is env h ∙ ap due e in let r : n ≡ numberOf x = cc in e ∙ ap wrong r
     go (tree t) e = absurd (let q : said (Refused x) ≡ due (tree t) = a .is env h ∙ ap due e in let z : _≡_ {A = ℕ} 0 1 = cc in omega arith)
+
+-- an empty text is no expression
+pub meaning-empty : (env : Env) → meaning env [] ≡ wrong 14
+unfolding meaning scan parseF moreF
+meaning-empty env = refl

@@ -3,6 +3,7 @@ pub mod Parse
 pub mod Grammar
 pub mod Answer
 pub mod Table
+pub mod Source
 pub mod Figures
 pub mod Parts
 pub mod Cycle

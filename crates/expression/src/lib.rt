@@ -8,8 +8,8 @@ ghost use Rattle.expression.specs.Table.{columnsOf, columns};
 ghost use Rattle.expression.specs.Cycle.{Ready, Meets};
 
 pub mod figures;
-mod names;
-mod parts;
+pub mod names;
+pub mod parts;
 
 use figures::Read;
 use figures::join;

@@ -64,7 +64,7 @@ fn is_same(text: &[u8], a: usize, b: usize, len: usize) -> bool
     true
 }
 
-fn wide(x: u16) -> usize
+pub fn wide(x: u16) -> usize
     ensures { λ r. ⌜ (r ≡ x) × (r < 65536) ⌝ }
 {
     x as usize

@@ -31,7 +31,7 @@ enum-known-value : tie.Need-enum-known-value
 enum-known-value c = search needs
 
 returns-2 : tie.Need-returns-2
-returns-2 c = let a = c .before .before .before .before .before .before .before .before .before .args in let b = sym (c .before .before .before .before .before .before .before .before .is-refused .ensures) ∙ c .before .before .before .before .before .before .before .if1 .left in end-same (a .a) (a .expected) b _ (c .before .before .before .before .before .last .given .1) _ (c .before .before .value .given .1) (c .if2 .taken)
+returns-2 c = let a = c .before .before .before .before .before .before .before .before .before .before .args in let b = sym (c .before .before .before .before .before .before .before .before .before .is-refused .ensures) ∙ c .before .before .before .before .before .before .before .before .if1 .left in end-same (a .a) (a .expected) b _ (c .before .before .before .before .before .before .last .given .1) _ (c .before .before .value .given .1) (c .if2 .taken)
 
 refuse-requires-3 : tie.Need-refuse-requires-3
 refuse-requires-3 c κs = search needs
@@ -40,10 +40,10 @@ returns-3 : tie.Need-returns-3
 returns-3 c = let a = c .before .before .before .before .before .args in let b = sym (c .before .before .before .before .is-refused .ensures) ∙ c .before .before .before .if1 .left in rw (c .refuse .ensures) (end-nothing (a .a) (a .expected) b (c .before .enum-told .given .1))
 
 returns-4 : tie.Need-returns-4
-returns-4 c = let a = c .before .before .before .before .before .before .before .before .args in let b = sym (c .before .before .before .before .before .before .before .is-refused .ensures) ∙ c .before .before .before .before .before .before .if1 .left in rw (c .refuse2 .ensures) (end-no-value (a .a) (a .expected) b _ (c .before .before .before .before .last .given .1) (c .before .enum-told2 .given .1))
+returns-4 c = let a = c .before .before .before .before .before .before .before .before .before .args in let b = sym (c .before .before .before .before .before .before .before .before .is-refused .ensures) ∙ c .before .before .before .before .before .before .before .if1 .left in rw (c .refuse2 .ensures) (end-no-value (a .a) (a .expected) b _ (c .before .before .before .before .before .last .given .1) (c .before .enum-told2 .given .1))
 
 returns-5 : tie.Need-returns-5
-returns-5 c = let a = c .before .before .before .before .before .before .before .before .before .before .args in let b = sym (c .before .before .before .before .before .before .before .before .before .is-refused .ensures) ∙ c .before .before .before .before .before .before .before .before .if1 .left in rw (c .refuse3 .ensures) (end-other (a .a) (a .expected) b _ (c .before .before .before .before .before .before .last .given .1) _ (c .before .before .before .value .given .1) (c .before .if2 .left))
+returns-5 c = let a = c .before .before .before .before .before .before .before .before .before .before .before .args in let b = sym (c .before .before .before .before .before .before .before .before .before .before .is-refused .ensures) ∙ c .before .before .before .before .before .before .before .before .before .if1 .left in rw (c .refuse3 .ensures) (end-other (a .a) (a .expected) b _ (c .before .before .before .before .before .before .before .last .given .1) _ (c .before .before .before .value .given .1) (c .before .if2 .left))
 
 pub conclude-spec : {M : Type 1} → statement M
 conclude-spec =

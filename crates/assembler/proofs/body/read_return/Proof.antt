@@ -20,14 +20,14 @@ refuse-requires c κs = search needs
 enum-known-checked-2 : tie.Need-enum-known-checked-2
 enum-known-checked-2 c = search needs
 
-returned-requires : tie.Need-returned-requires
-returned-requires c κs = search needs
+keep-return-requires : tie.Need-keep-return-requires
+keep-return-requires c κs = search needs
 
 returns : tie.Need-returns
 returns c = let a = c .before .before .before .before .before .before .before .before in let s = now (a .args .contract) in let k = carry s (a .args .a) (a .args .expr) (a .pre) (a .args .line) (c .before .before .checked .given .1) (c .before .before .before .before .check .ensures) in rw (c .refuse .ensures) (expression-refused s (a .args .a) (a .args .expr) (a .pre) (a .args .line) k (λ st t. goes (record { env = st .env; last = some t })))
 
 returns-2 : tie.Need-returns-2
-returns-2 c = let a = c .before .before .before .before .before .before .before .before in let s = now (a .args .contract) in let k = carry s (a .args .a) (a .args .expr) (a .pre) (a .args .line) (c .before .before .checked2 .given .1) (c .before .before .before .before .check .ensures) in rw (c .returned .ensures) (return-read s (a .args .a) (a .args .expr) (a .pre) (a .args .line) k)
+returns-2 c = let a = c .before .before .before .before .before .before .before .before in let s = now (a .args .contract) in let k = carry s (a .args .a) (a .args .expr) (a .pre) (a .args .line) (c .before .before .checked2 .given .1) (c .before .before .before .before .check .ensures) in rw (c .keep-return .ensures) (return-read s (a .args .a) (a .args .expr) (a .pre) (a .args .line) k)
 
 pub read-return-spec : {M : Type 1} → statement M
 read-return-spec =
@@ -37,6 +37,6 @@ read-return-spec =
     enum-known-checked
     refuse-requires
     enum-known-checked-2
-    returned-requires
+    keep-return-requires
     returns
     returns-2)

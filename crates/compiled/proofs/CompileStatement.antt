@@ -1,0 +1,84 @@
+-- The compile statement.
+use Prim.Native.Nat.{ℕ, _*_, min}
+use native.Mathlib.Omega.{arith}
+use mathlib.Core.Path.{_≡_, sym, ap, _∙_}
+use mathlib.Core.List.{List}
+use mathlib.Core.Bool.{true}
+use lib.Dec.{leb}
+use lib.ListN.{length}
+use Rattle.byte.proofs.Tests.{by-bool}
+use Rattle.context.specs.declared.Gate.{Gate}
+use Rattle.ops.specs.Ops.{Reading, ops, readText, answerOf, kindsOf, operandsOf}
+use Rattle.ops.specs.declared.ParsedOps.the-variants.{Read}
+use Rattle.vm.specs.declared.State.{State}
+use Rattle.vm.specs.Verify.{buffersFit}
+use Rattle.expression.specs.Tree.{Tree, kOf, pOf}
+use Rattle.assembler.specs.Refusal.{Refusal, plain}
+use Rattle.assembler.specs.Assembled.{Assembled, accepted, rejected, assembledTree}
+use Rattle.assembler.specs.Output.{stemFits, operationsOf, output, success, refusal, named, assembled}
+use Rattle.compiled.specs.Statement.{read, kindsLeft, operandsLeft, Hypotheses, Statement}
+use Rattle.compiled.proofs.Accepted.{accepted-is}
+use Rattle.compiled.proofs.Operations.{operations-length}
+use Rattle.compiled.proofs.Reading.{reads-output, onto-full}
+use Rattle.compiled.proofs.Transition.{kinds-length, operands-length, transition}
+
+-- what a success of assembly says of its answer and its text
+record Written (stem : List ℕ) (x : Assembled) (text : List ℕ) (k p v : ℕ) : Type 0 where
+  pub tree : Tree
+  pub assembles : x ≡ accepted v tree
+  pub k-counts : k ≡ kOf tree
+  pub p-counts : p ≡ pOf tree
+  pub stem-fits : stemFits stem ≡ true
+  pub text-is : text ≡ output stem v tree
+
+module _ (stem : List ℕ) (room n k p v : ℕ) where
+  not-success : {A : Type 0} (r : Refusal) → refusal r ≡ success n k p v → A
+  not-success r e = absurd (let z : _≡_ {A = ℕ} 0 1 = cc in omega arith)
+
+  named-is : (x : Assembled) → named x stem room .answer ≡ success n k p v → Written stem x (named x stem room .text) k p v
+  named-is (rejected r) e = not-success r e
+  named-is (accepted expected t) e =
+      by-bool (stemFits stem)
+      (λ a. by-bool (leb (length (output stem expected t)) room)
+      (λ b.
+      let q : success (length (output stem expected t)) (kOf t) (pOf t) expected ≡ success n k p v = simp (a, b) at e in
+      let w : expected ≡ v = cc in
+      simp (a, b) (record { tree = t; assembles = ap (λ (i : ℕ). accepted i t) w; k-counts = cc; p-counts = cc; stem-fits = a; text-is = ap (λ (i : ℕ). output stem i t) w }))
+      (λ b. not-success (plain 26) (simp (a, b) at e)))
+      (λ a. not-success (plain 25) (simp a at e))
+
+pub compile-statement : (contract vector stem : List ℕ) (room n k p v : ℕ) (kinds operands : List ℕ) (context : Gate) (caller g : ℕ) (s w m : List ℕ) (state : State)
+    → Hypotheses contract vector stem room n k p v kinds operands context s w m state → Statement contract vector stem room k p v kinds operands context caller g s w m state
+unfolding assembled
+compile-statement contract vector stem room n k p v kinds operands context caller g s w m state a =
+    let d = named-is stem room n k p v (assembledTree contract vector) (a .accepts) in
+    let t = d .tree in
+    let x = accepted-is vector v t contract (d .assembles) in
+    let k-is = d .k-counts in
+    let ks-room = a .kindsRoom in
+    let vs-room = a .operandsRoom in
+    let ks-length = kinds-length t in
+    let vs-length = operands-length t in
+    let reading : read contract vector stem room kinds operands ≡ ops (operationsOf t) =
+    ap (λ (text : List ℕ). readText text (min (length kinds) (length operands))) (d .text-is) ∙ reads-output stem v t (d .stem-fits) (x .fits .0) (min (length kinds) (length operands)) (omega arith) in
+    let ks-full : kindsLeft (read contract vector stem room kinds operands) kinds ≡ kindsOf (operationsOf t) =
+    ap (λ (r : Reading). kindsLeft r kinds) reading ∙ onto-full (kindsOf (operationsOf t)) kinds (omega arith) in
+    let vs-full : operandsLeft (read contract vector stem room kinds operands) operands ≡ operandsOf (operationsOf t) =
+    ap (λ (r : Reading). operandsLeft r operands) reading ∙ onto-full (operandsOf (operationsOf t)) operands (omega arith) in
+    let count : length (operationsOf t) ≡ 2 * k = operations-length t ∙ ap (λ (i : ℕ). 2 * i) (sym k-is) in
+    let ks-is : length kinds ≡ 2 * kOf t = omega arith in
+    let vs-is : length operands ≡ 2 * kOf t = omega arith in
+    let fit : buffersFit (2 * kOf t) (2 * kOf t) (length s) (length w) (length m) (state .used) ≡ true = rw (ks-is, vs-is) at (a .lent) in
+    record {
+      tree = t;
+      assembles = d .assembles;
+      k-counts = k-is;
+      p-counts = d .p-counts;
+      value = x .value;
+      expected = x .expected;
+      reads = ap answerOf reading ∙ ap Read count;
+      kindsFilled = ks-full;
+      operandsFilled = vs-full;
+      operations = count;
+      transition = rw (ks-full, vs-full, a .passes) (transition t v (x .value) (x .fits .0) (x .fits .1) caller g s w m state fit (a .used));
+    }

@@ -1,0 +1,98 @@
+-- Where the run of a tree's program ends: with success, out of gas, or with the stack full.
+use Prim.Native.Nat.{ℕ, _+_, _-_, _≤_, _<_}
+use native.Mathlib.Omega.{arith}
+use native.Mathlib.Decide.{decLt}
+use mathlib.Core.Path.{_≡_}
+use mathlib.Core.List.{List}
+use mathlib.Core.Option.{some}
+use lib.ListN.{take}
+use Rattle.machine.specs.declared.Refusal.the-variants.{StackLimitExceeded}
+use Rattle.machine.specs.Operation.{Op, kindPrice}
+use Rattle.machine.specs.Machine.{done, stop, whole}
+use Rattle.expression.specs.Tree.{Tree, valueOf, pOf}
+use Rattle.compiled.specs.Counting.{program, cost, opAt, Short, Meets, Fills}
+use Rattle.compiled.specs.Statement.{gasOf, outOfGasAt}
+use Rattle.compiled.proofs.Trees.{last, decided, program-cost, program-sound, program-peak}
+use Rattle.compiled.proofs.Trace.{MeetsFrom, trace-fine, trace-short, trace-full, none-meets, first-full, first-short, short-paid, all-paid}
+
+-- the two ways to say that a push meets 4,096 items
+to-from : (l : List Op) (j : ℕ) → Meets l j → MeetsFrom 0 l j
+to-from l j m = (m .0, m .1, omega (arith, m .2))
+
+from-to : (l : List Op) (j : ℕ) → MeetsFrom 0 l j → Meets l j
+from-to l j m = (m .0, m .1, omega (arith, m .2))
+
+-- where p and the gas say so there is such a place, and else there is none
+fills : (t : Tree) → 4096 < pOf t → (j : ℕ) × Fills (program t) j
+fills t h =
+    let w = first-full (program t) 0 (program-sound t) (omega arith) (omega (arith, program-peak t)) in
+    (w .0, record { meets = from-to (program t) (w .0) (w .1); first = λ i a m. w .2 i a (to-from (program t) i m) })
+
+none-fills : (t : Tree) → pOf t ≤ 4096 → (j : ℕ) → ¬ (Meets (program t) j)
+none-fills t h j m = none-meets (program t) 0 (program-sound t) (omega (arith, program-peak t)) j (to-from (program t) j m)
+
+shorts : (t : Tree) (g : ℕ) → g < gasOf t → (i : ℕ) × Short (program t) g i
+shorts t g h = first-short (program t) g (omega (arith, program-cost t))
+
+none-shorts : (t : Tree) (g : ℕ) → gasOf t ≤ g → (i : ℕ) → ¬ (Short (program t) g i)
+none-shorts t g h i s = omega (arith, program-cost t, all-paid (program t) i (s .within), s .short)
+
+module _ (t : Tree) (v : ℕ) (e : valueOf t ≡ some v) (c room g : ℕ) (m : List ℕ) where
+  pub succeeds : gasOf t ≤ g → pOf t ≤ 4096 → whole (program t) c room g m ≡ done (g - gasOf t) (last t v m)
+  succeeds a b =
+      let d : g - cost (program t) ≡ g - gasOf t = omega (arith, program-cost t) in
+      rw (decided t v e c room g m, trace-fine (program t) g 0 (omega arith) (omega (arith, program-cost t)) (omega (arith, program-peak t)), d)
+
+  -- by index
+  short-at : (i : ℕ) → Short (program t) g i → ((j : ℕ) → Fills (program t) j → i ≤ j) → whole (program t) c room g m ≡ stop (outOfGasAt t g i)
+  short-at i s h =
+      rw (decided t v e c room g m, trace-short (program t) g 0 i (program-sound t) (omega arith) (s .within) (short-paid (program t) g i s) (s .short) (λ j a m. clash j a m (decLt 4096 (pOf t))))
+    where
+      clash : (j : ℕ) → j < i → MeetsFrom 0 (program t) j → Dec (4096 < pOf t) → ⊥
+      clash j a m (yes q) = let w = fills t q in before (w .0) (w .1) (h (w .0) (w .1)) (decLt j (w .0))
+        where
+          before : (j₀ : ℕ) → Fills (program t) j₀ → i ≤ j₀ → Dec (j < j₀) → ⊥
+          before j₀ f le (yes z) = f .first j z (from-to (program t) j m)
+          before j₀ f le (no z) = omega arith
+      clash j a m (no q) = none-fills t (omega arith) j (from-to (program t) j m)
+
+  full-at : (j : ℕ) → Fills (program t) j → ((i : ℕ) → Short (program t) g i → j < i) → whole (program t) c room g m ≡ stop StackLimitExceeded
+  full-at j f h =
+      rw (decided t v e c room g m, trace-full (program t) g 0 j (program-sound t) (omega arith) (to-from (program t) j (f .meets)) (λ i a m. f .first i a (from-to (program t) i m)) (paid (decLt g (gasOf t))))
+    where
+      paid : Dec (g < gasOf t) → cost (take j (program t)) + kindPrice (opAt (program t) j) ≤ g
+      paid (yes q) = let w = shorts t g q in w .1 .paid j (h (w .0) (w .1))
+      paid (no q) = omega (arith, program-cost t, all-paid (program t) j (f .meets .0))
+
+  -- by k and p
+  abbrev AtGas : ℕ → Type 0
+  AtGas i = whole (program t) c room g m ≡ stop (outOfGasAt t g i)
+
+  abbrev AtRoom : Type 0
+  AtRoom = whole (program t) c room g m ≡ stop StackLimitExceeded
+
+  pub less-gas : g < gasOf t → pOf t ≤ 4096 → (i : ℕ) × Short (program t) g i × AtGas i
+  less-gas a b = let w = shorts t g a in (w .0, w .1, short-at (w .0) (w .1) (λ j f. absurd (none-fills t b j (f .meets))))
+
+  pub less-room : gasOf t ≤ g → 4096 < pOf t → AtRoom
+  less-room a b = let w = fills t b in full-at (w .0) (w .1) (λ i s. absurd (none-shorts t g a i s))
+
+  pub less-both : g < gasOf t → 4096 < pOf t → (i : ℕ) × (j : ℕ) × Short (program t) g i × Fills (program t) j × (i ≤ j → AtGas i) × (j < i → AtRoom)
+  less-both a b =
+      let w = shorts t g a in
+      let u = fills t b in (
+        w .0,
+        u .0,
+        w .1,
+        u .1,
+        λ h. short-at (w .0) (w .1) (λ j f. later-full (w .0) (u .0) j h (u .1) f (decLt j (u .0))),
+        λ h. full-at (u .0) (u .1) (λ i s. later-short (u .0) (w .0) i h (w .1) s (decLt i (w .0))),
+      )
+    where
+      later-full : (i j₀ j : ℕ) → i ≤ j₀ → Fills (program t) j₀ → Fills (program t) j → Dec (j < j₀) → i ≤ j
+      later-full i j₀ j h f f′ (yes z) = absurd (f .first j z (f′ .meets))
+      later-full i j₀ j h f f′ (no z) = omega arith
+
+      later-short : (j i₀ i : ℕ) → j < i₀ → Short (program t) g i₀ → Short (program t) g i → Dec (i < i₀) → j < i
+      later-short j i₀ i h s s′ (yes z) = absurd (omega (arith, s .paid i z, s′ .short))
+      later-short j i₀ i h s s′ (no z) = omega arith

@@ -1,0 +1,106 @@
+-- Document 01's bench example through the compile statement; and the edges between success and the two refusals, at 1 + (1 + (.. 1)).
+use Prim.Native.Nat.{ℕ, zero, suc, _≤_}
+use native.Mathlib.Omega.{arith}
+use mathlib.Core.Path.{_≡_, refl}
+use mathlib.Core.List.{List, [], _∷_}
+use mathlib.Core.Option.{some}
+use lib.ListN.{replicate}
+use Rattle.word.specs.Apply.{add}
+use Rattle.number.specs.Decimal.{decimal}
+use Rattle.token.specs.Token.{scan}
+use Rattle.ops.specs.Ascii.{ascii}
+use Rattle.ops.specs.Ops.{Reading}
+use Rattle.context.specs.declared.Gate.the-variants as gate
+use Rattle.machine.specs.declared.Refusal.the-variants.{OutOfGas, StackLimitExceeded}
+use Rattle.machine.specs.Machine.{whole}
+use Rattle.vm.specs.declared.State.{State}
+use Rattle.vm.specs.declared.Answer.the-variants.{Success}
+use Rattle.vm.specs.Transition.{Result, ofRun, transitionOf}
+use Rattle.vm.specs.Numbers.{Numbered, plain, answerNumbered}
+use Rattle.expression.specs.Tree.{Tree, num, bin, valueOf, kOf, pOf}
+use Rattle.expression.specs.Parse.{parseF, meaning}
+use Rattle.assembler.specs.State.{each}
+use Rattle.assembler.specs.Assembled.{assembledTree}
+use Rattle.assembler.specs.Output.{output, assembled}
+use Rattle.compiled.specs.Counting.{program}
+use Rattle.compiled.specs.Statement.{gasOf, read, kindsLeft, operandsLeft, Hypotheses, Statement}
+use Rattle.compiled.proofs.CompileStatement.{compile-statement}
+use Rattle.compiled.proofs.Trees.{decided, meter, metered}
+use Rattle.compiled.proofs.Trace.{left, broke}
+
+tally : List ℕ
+tally = ascii "fn total (a, b) {\n  let s = a + b\n  return s * 2\n}\n"
+
+vector : List ℕ
+vector = ascii "{\"a\": 5, \"b\": 7, \"expected\": 24}"
+
+-- 67 bytes are written; the program buffers hold what they may, and no storage is lent
+abbrev lent : List ℕ
+lent = replicate 6 9
+
+abbrev unused : State
+unused = record { used = 0 }
+
+tally-accepted : Hypotheses tally vector (ascii "tally") 4096 67 3 2 24 lent lent gate.Passed (replicate 4096 9) [] [] unused
+unfolding assembled output decimal assembledTree each meaning parseF scan tally vector
+tally-accepted = record { accepts = refl; kindsRoom = refl; operandsRoom = refl; passes = refl; lent = refl; used = omega arith }
+
+tally-stated : (caller g : ℕ) → Statement tally vector (ascii "tally") 4096 3 2 24 lent lent gate.Passed caller g (replicate 4096 9) [] [] unused
+tally-stated caller g = compile-statement tally vector (ascii "tally") 4096 67 3 2 24 lent lent gate.Passed caller g (replicate 4096 9) [] [] unused tally-accepted
+
+-- the three calls in a row, with a limit of 7 or more: 24, for 7 gas and 6 operations
+abbrev reading : Reading
+reading = read tally vector (ascii "tally") 4096 lent lent
+
+abbrev result : ℕ → ℕ → Result
+result caller g = transitionOf gate.Passed (kindsLeft reading lent) (operandsLeft reading lent) caller g (replicate 4096 9) [] [] unused
+
+tally-runs : (caller g : ℕ) → 7 ≤ g → (result caller g .answer ≡ Success 7 6 1 unused) × (result caller g .stack ≡ 24 ∷ replicate 4095 0)
+tally-runs caller g h =
+    let stated = tally-stated caller g in
+    let k = stated .k-counts in
+    let p = stated .p-counts in
+    let x = stated .transition .success (omega arith) (omega arith) in
+    (rw (← k) at (x .answer), x .stack)
+
+-- n sums
+nest : ℕ → Tree
+nest zero = num 1
+nest (suc n) = bin add (num 1) (nest n)
+
+counts : (kOf (nest 4096) ≡ 4097) × (pOf (nest 4096) ≡ 4097) × (valueOf (nest 4096) ≡ some 4097)
+unfolding nest
+counts = (refl, refl, refl)
+
+at-4096 : meter (nest 4096) 4096 0 ≡ broke (OutOfGas 1 0)
+unfolding nest meter
+at-4096 = refl
+
+at-4097 : meter (nest 4096) 4097 0 ≡ broke StackLimitExceeded
+unfolding nest meter
+at-4097 = refl
+
+module _ (c room n : ℕ) (m used : List ℕ) (state : State) where
+  -- the number of the answer under the limit g, and what it carries
+  abbrev numbered : ℕ → Numbered
+  numbered g = answerNumbered (ofRun g state n m (whole (program (nest 4096)) c room g used) .answer)
+
+  -- with 4096 the push that would meet 4,096 items is not paid, with 4097 it is
+  short : numbered 4096 ≡ record { number = 46; carried = 1 ∷ 0 ∷ [] }
+  short = rw (decided (nest 4096) 4097 (counts .2) c room 4096 used, metered (nest 4096) 4096, at-4096)
+
+  full : numbered 4097 ≡ plain 48
+  full = rw (decided (nest 4096) 4097 (counts .2) c room 4097 used, metered (nest 4096) 4097, at-4097)
+
+-- one sum less fits the stack: the least limit that suffices, and one below it
+fits : (pOf (nest 4095) ≡ 4096) × (gasOf (nest 4095) ≡ 12286)
+unfolding nest
+fits = (refl, refl)
+
+at-12286 : meter (nest 4095) 12286 0 ≡ left 0
+unfolding nest meter
+at-12286 = refl
+
+at-12285 : meter (nest 4095) 12285 0 ≡ broke (OutOfGas 2 1)
+unfolding nest meter
+at-12285 = refl

@@ -1,0 +1,12 @@
+pub mod Words
+pub mod Accepted
+pub mod Straight
+pub mod Trace
+pub mod Trees
+pub mod Ends
+pub mod Run
+pub mod Operations
+pub mod Reading
+pub mod Transition
+pub mod CompileStatement
+pub mod Examples

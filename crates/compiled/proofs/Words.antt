@@ -1,0 +1,40 @@
+-- The numbers of a tree that an expression means are below 2^64 where those of its bindings are.
+use Prim.Native.Nat.{ℕ, _^_, _<_}
+use mathlib.Core.Path.{_≡_}
+use mathlib.Core.List.{List, [], _∷_}
+use mathlib.Core.Bool.{Bool, true, false, cond}
+use mathlib.Core.Option.{Option, some, none}
+use Rattle.expression.specs.Tree.{Tree, num, bin}
+use Rattle.expression.specs.Parse.{Env, sameText, lookup, meaning, tree}
+use Rattle.expression.specs.Grammar.{Derives, number, name, parentheses, alone, join}
+use Rattle.expression.proofs.Grammar.{grammar}
+
+abbrev pub Words : Tree → Type 0
+Words (num n) = n < 2 ^ 64
+Words (bin op l r) = Words l × Words r
+
+abbrev pub WordsIn : Env → Type 0
+WordsIn [] = Unit {0}
+WordsIn (b ∷ env) = Words (b .tree) × WordsIn env
+
+abbrev WordsOf : Option Tree → Type 0
+WordsOf none = Unit {0}
+WordsOf (some t) = Words t
+
+lookup-words : (w : List ℕ) (env : Env) → WordsIn env → WordsOf (lookup w env)
+lookup-words w [] h = tt
+lookup-words w (b ∷ env) h = go (sameText w (b .name)) (lookup-words w env (h .1))
+  where
+    go : (q : Bool) → WordsOf (lookup w env) → WordsOf (cond q (some (b .tree)) (lookup w env))
+    go true x = h .0
+    go false x = x
+
+derives-words : {env : Env} {l d : ℕ} {ts : List (List ℕ)} {t : Tree} → WordsIn env → Derives env l d ts t → Words t
+derives-words h (number a lt) = lt
+derives-words {env} h (name {w = w} o a e) = rw e at (lookup-words w env h)
+derives-words h (parentheses p) = derives-words h p
+derives-words h (alone p) = derives-words h p
+derives-words h (join w p j q) = (derives-words h p, derives-words h q)
+
+pub meaning-words : (env : Env) (s : List ℕ) (t : Tree) → WordsIn env → meaning env s ≡ tree t → Words t
+meaning-words env s t h e = derives-words h (grammar env s t .0 e .1)

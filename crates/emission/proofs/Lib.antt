@@ -1,0 +1,10 @@
+pub mod Stack
+pub mod Walk
+pub mod Postfix
+pub mod Popping
+pub mod Factors
+pub mod Turning
+pub mod Names
+pub mod Stepping
+pub mod Keeping
+pub mod Emitting

@@ -1,0 +1,38 @@
+-- A name that is found in the table has the tree of its binding.
+use Prim.Native.Nat.{ℕ, zero, suc, _+_, _<_}
+use mathlib.Core.Path.{_≡_, refl, sym, ap, subst, _∙_}
+use mathlib.Core.List.{List, []}
+use mathlib.Core.Bool.{true, false}
+use mathlib.Core.Option.{some, none}
+use native.Mathlib.Omega.{arith}
+use borrow.Author.Tests.{le-leb}
+use lib.ListN.{length}
+use Rattle.byte.proofs.Tests.{by-bool}
+use Rattle.expression.specs.declared.names.Found.{Found}
+use Rattle.expression.specs.declared.names.Found.the-variants.{At, Nothing}
+use Rattle.expression.specs.Parse.{lookup, sameText}
+use Rattle.expression.specs.Table.{called, found}
+use Rattle.expression.specs.Source.{Sources, nameOf, envOf, treeOf, AllStand}
+
+module _ (s : List ℕ) (c : Sources) (w : List ℕ) where
+  abbrev pub Looked : ℕ → Found → Type 0
+  Looked n (At i) = (i < n) × (lookup w (envOf s c n) ≡ some (treeOf s c i))
+  Looked n Nothing = lookup w (envOf s c n) ≡ none
+
+  older : (n : ℕ) (r : Found) → lookup w (envOf s c (suc n)) ≡ lookup w (envOf s c n) → Looked n r → Looked (suc n) r
+  older n (At i) e (l, q) = (omega arith, e ∙ q)
+  older n Nothing e q = e ∙ q
+
+  pub looked : (n : ℕ) → AllStand s c n → Looked n (found n s (c .names) (c .lens) w)
+  unfolding found envOf
+  looked zero a = refl
+  looked (suc n) a =
+      let more = looked n (λ i l. a i (omega arith)) in
+      let q : called s (c .names) (c .lens) n w ≡ sameText w (nameOf s c n) = simp (le-leb _ _ (a n (omega arith) .name)) in
+      by-bool (sameText w (nameOf s c n))
+      (λ e.
+      let f : found (suc n) s (c .names) (c .lens) w ≡ At n = rw (q ∙ e, found) in
+      subst (Looked (suc n)) (sym f) (omega arith, simp e))
+      (λ e.
+      let f : found (suc n) s (c .names) (c .lens) w ≡ found n s (c .names) (c .lens) w = rw (q ∙ e, found) in
+      subst (Looked (suc n)) (sym f) (older n (found n s (c .names) (c .lens) w) (simp e) more))

@@ -1,0 +1,139 @@
+-- Laws of the operators that wait, as a stack and as an array holds it.
+use Prim.Native.Nat.{ℕ, zero, suc, _+_, _-_, _*_, _<_, _≤_}
+use mathlib.Core.Path.{_≡_, refl, sym, ap, _∙_}
+use mathlib.Core.List.{List, [], _∷_, _++_, append-nil, append-assoc}
+use mathlib.Core.Bool.{true, false}
+use native.Mathlib.Numerals.{add-one, sub-one}
+use native.Mathlib.Omega.{arith}
+use borrow.Author.Tests.{le-leb, lt-leb}
+use lib.Dec.{eqb}
+use lib.ListN.{length, getD, set, length-append}
+use lib.Seq.{getD-set-same, getD-set-other}
+use Rattle.byte.proofs.Tests.{never, by-bool, by-leb}
+use Rattle.expression.specs.Parse.{joins}
+use Rattle.expression.specs.Tree.{num}
+use Rattle.expression.specs.Written.{textOf}
+use Rattle.expression.proofs.Steps.{looser}
+use Rattle.writer.specs.Pieces.{pushText, operatorText, operatorsText}
+use Rattle.emission.specs.Waiting.{levelOf, popped, left, stackOf}
+
+-- an operator's level is the one that it joins to
+
+pub joins-level : (l a : ℕ) → joins (suc l) a ≡ true → levelOf a ≡ suc l
+joins-level zero a e = simp e
+joins-level (suc zero) a e = let n = looser 1 a e in simp (n, e)
+joins-level (suc (suc l)) a e = never e
+
+pub level-joins : (l a : ℕ) → l < 2 → levelOf a ≡ suc l → joins (suc l) a ≡ true
+level-joins l a h e = by-bool (joins 1 a) (λ p. first l p h e) (λ p. by-bool (joins 2 a) (λ q. second l p q h e) (λ q. absurd (let z : 3 ≡ suc l = simp (p, q) at e in omega arith)))
+  where
+    first : (l : ℕ) → joins 1 a ≡ true → l < 2 → levelOf a ≡ suc l → joins (suc l) a ≡ true
+    first zero p h e = p
+    first (suc l) p h e = absurd (let z : 1 ≡ suc (suc l) = simp p at e in omega arith)
+
+    second : (l : ℕ) → joins 1 a ≡ false → joins 2 a ≡ true → l < 2 → levelOf a ≡ suc l → joins (suc l) a ≡ true
+    second zero p q h e = absurd (let z : _≡_ {A = ℕ} 2 1 = simp (p, q) at e in omega arith)
+    second (suc zero) p q h e = q
+    second (suc (suc l)) p q h e = absurd (omega arith)
+
+-- one operator on top of a stack
+
+module _ (p y : ℕ) (st : List ℕ) where
+  pub popped-one : levelOf y ≤ p → popped p (y ∷ st) ≡ y ∷ popped p st
+  unfolding popped
+  popped-one h = rw (le-leb (levelOf y) p h, popped)
+
+  pub popped-none : p < levelOf y → popped p (y ∷ st) ≡ []
+  unfolding popped
+  popped-none h = rw (lt-leb (levelOf y) p h, popped)
+
+  pub left-one : levelOf y ≤ p → left p (y ∷ st) ≡ left p st
+  unfolding left
+  left-one h = rw (le-leb (levelOf y) p h, left)
+
+  pub left-none : p < levelOf y → left p (y ∷ st) ≡ y ∷ st
+  unfolding left
+  left-none h = rw (lt-leb (levelOf y) p h, left)
+
+-- the stack that an array holds
+
+pub stack-length : (A : List ℕ) (n : ℕ) → length (stackOf A n) ≡ n
+unfolding stackOf
+stack-length A zero = refl
+stack-length A (suc n) = ap suc (stack-length A n)
+
+pub stack-set : (A : List ℕ) (i a n : ℕ) → n ≤ i → stackOf (set A i a) n ≡ stackOf A n
+unfolding stackOf
+stack-set A i a zero h = refl
+stack-set A i a (suc n) h = rw (getD-set-other A i n a 0 (λ e. omega arith), stack-set A i a n (omega arith))
+
+pub stack-more : (A : List ℕ) (n a : ℕ) → n < length A → stackOf (set A n a) (n + 1) ≡ a ∷ stackOf A n
+unfolding stackOf
+stack-more A n a h = rw add-one (rw (getD-set-same A n a 0 h, stack-set A n a n (omega arith)))
+
+pub stack-top : (A : List ℕ) (n : ℕ) → 0 < n → stackOf A n ≡ getD A (n - 1) 0 ∷ stackOf A (n - 1)
+unfolding stackOf
+stack-top A zero h = absurd (omega arith)
+stack-top A (suc n) h = rw sub-one refl
+
+-- a stack that is not empty, without its top
+pub stack-tail : (A : List ℕ) (n : ℕ) {y : ℕ} {st : List ℕ} → stackOf A n ≡ y ∷ st → (0 < n) × (stackOf A (n - 1) ≡ st)
+unfolding stackOf
+stack-tail A zero e = absurd (let z : _≡_ {A = ℕ} 0 1 = cc in omega arith)
+stack-tail A (suc n) e = (omega arith, rw sub-one (cc))
+
+-- what is left is the stack of so many elements fewer
+pub record Pops (A : List ℕ) (p n : ℕ) : Type 0 where
+  pub few : length (popped p (stackOf A n)) ≤ n
+  pub left : stackOf A (n - length (popped p (stackOf A n))) ≡ left p (stackOf A n)
+
+pops-none : (A : List ℕ) (p : ℕ) → Pops A p zero
+unfolding stackOf popped left
+pops-none A p = record { few = omega arith; left = refl }
+
+pub pops : (A : List ℕ) (p n : ℕ) → Pops A p n
+unfolding stackOf
+pops A p zero = pops-none A p
+pops A p (suc n) = let s = pops A p n in by-leb (levelOf (getD A n 0)) p (λ h. one s h) none
+  where
+    one : Pops A p n → levelOf (getD A n 0) ≤ p → Pops A p (suc n)
+    one s h =
+        let e = ap length (popped-one p (getD A n 0) (stackOf A n) h) in
+        let z : suc n - length (popped p (stackOf A (suc n))) ≡ n - length (popped p (stackOf A n)) = omega arith in
+        record { few = omega (arith, s .few); left = ap (stackOf A) z ∙ s .left ∙ sym (left-one p (getD A n 0) (stackOf A n) h) }
+
+    none : p < levelOf (getD A n 0) → Pops A p (suc n)
+    none h =
+        let e = ap length (popped-none p (getD A n 0) (stackOf A n) h) in
+        let z : suc n - length (popped p (stackOf A (suc n))) ≡ suc n = omega arith in
+        record { few = omega arith; left = ap (stackOf A) z ∙ sym (left-none p (getD A n 0) (stackOf A n) h) }
+
+pub popped-empty : (A : List ℕ) (p n : ℕ) → n ≤ 0 → popped p (stackOf A n) ≡ []
+unfolding popped stackOf
+popped-empty A p zero h = refl
+popped-empty A p (suc n) h = absurd (omega arith)
+
+pub popped-shut : (A : List ℕ) (p n : ℕ) → 0 < n → p < levelOf (getD A (n - 1) 0) → popped p (stackOf A n) ≡ []
+popped-shut A p n h l = ap (popped p) (stack-top A n h) ∙ popped-none p (getD A (n - 1) 0) (stackOf A (n - 1)) l
+
+pub popped-more : (A : List ℕ) (p n : ℕ) → 0 < n → levelOf (getD A (n - 1) 0) ≤ p → popped p (stackOf A n) ≡ getD A (n - 1) 0 ∷ popped p (stackOf A (n - 1))
+popped-more A p n h l = ap (popped p) (stack-top A n h) ∙ popped-one p (getD A (n - 1) 0) (stackOf A (n - 1)) l
+
+-- the text of operators
+
+pub text-num : (n : ℕ) → textOf (num n) ≡ pushText n
+text-num n = append-nil (pushText n)
+
+pub operator-length : (a : ℕ) → length (operatorText a) ≡ 4
+operator-length a =
+    by-bool (eqb a 43) (λ e. simp e)
+    (λ e. by-bool (eqb a 45) (λ f. simp (e, f))
+    (λ f. by-bool (eqb a 42) (λ g. simp (e, f, g)) (λ g. simp (e, f, g))))
+
+pub operators-length : (signs : List ℕ) → length (operatorsText signs) ≡ 4 * length signs
+operators-length [] = refl
+operators-length (a ∷ signs) = omega (arith, length-append (operatorText a) (operatorsText signs), operator-length a, operators-length signs)
+
+pub operators-append : (a b : List ℕ) → operatorsText (a ++ b) ≡ operatorsText a ++ operatorsText b
+operators-append [] b = refl
+operators-append (x ∷ a) b = ap (λ (t : List ℕ). operatorText x ++ t) (operators-append a b) ∙ sym (append-assoc (operatorText x) (operatorsText a) (operatorsText b))

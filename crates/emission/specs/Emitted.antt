@@ -1,0 +1,29 @@
+-- What is written for an expression among the bindings of a table, and what is kept of the bindings that were written before.
+use Prim.Native.Nat.{ℕ, _+_, _<_, _≤_}
+use mathlib.Core.Path.{_≡_}
+use mathlib.Core.List.{List}
+use lib.ListN.{length, getD, take, drop}
+use lib.Seq.{slice}
+use Rattle.expression.specs.Tree.{Tree}
+use Rattle.expression.specs.Parse.{tree, meaning}
+use Rattle.expression.specs.Source.{Sources, treeIn, envOf, treeOf, AllStand}
+use Rattle.expression.specs.Written.{textOf}
+
+-- from start to end of the text s, among the first count bindings
+module _ (s : List ℕ) (c : Sources) (count start end : ℕ) where
+  abbrev pub treeBetween : Tree
+  treeBetween = treeIn (meaning (envOf s c count) (drop start (take end s)))
+
+  -- the expression means a tree, and so do the bindings'
+  pub record Means : Type 0 where
+    pub few : count ≤ 256
+    pub stand : AllStand s c count
+    pub inside : end ≤ length s
+    pub is : meaning (envOf s c count) (drop start (take end s)) ≡ tree treeBetween
+
+-- what is marked as written, with a place and a length for each binding, stands before a place of the output
+pub record Kept (s : List ℕ) (c : Sources) (out : List ℕ) (to : ℕ) (places lengths : List ℕ) : Type 0 where
+  pub places-full : length places ≡ 256
+  pub lengths-full : length lengths ≡ 256
+  pub before : (i : ℕ) → 0 < getD lengths i 0 → getD places i 0 + getD lengths i 0 ≤ to
+  pub holds : (i : ℕ) → 0 < getD lengths i 0 → slice (getD places i 0) (getD places i 0 + getD lengths i 0) out ≡ textOf (treeOf s c i)

@@ -1,0 +1,31 @@
+-- A factor as its first token says it: `(`, a literal, or a name of one of the bindings.
+use Prim.Native.Nat.{ℕ, _^_}
+use mathlib.Core.List.{List, [], _∷_}
+use mathlib.Core.Bool.{cond}
+use lib.Dec.{eqb, ltb}
+use lib.ListN.{take, drop}
+use Rattle.number.specs.Decimal.{allDigits, value}
+use Rattle.token.specs.Token.{tokens, tokenAt}
+use Rattle.expression.specs.declared.names.Found.{Found}
+use Rattle.expression.specs.declared.names.Found.the-variants as Found
+use Rattle.expression.specs.Parse.{lone}
+use Rattle.expression.specs.Table.{found}
+use Rattle.emission.specs.declared.factor.Factor.{Factor}
+use Rattle.emission.specs.declared.factor.Factor.the-variants.{Open, Literal, Name, Nothing}
+use Rattle.emission.specs.declared.factor.FactorAt.{FactorAt}
+
+abbrev pub literalOf : List ℕ → Factor
+literalOf w = cond (ltb (value w) (2 ^ 64)) (Literal (value w)) Nothing
+
+abbrev pub namedBy : Found → Factor
+namedBy (Found.At i) = Name i
+namedBy Found.Nothing = Nothing
+
+-- the names of the first count bindings stand in the text s
+abbrev pub factorOf : (s : List ℕ) (count : ℕ) (names lens : List ℕ) → List (List ℕ) → Factor
+factorOf s count names lens [] = Nothing
+factorOf s count names lens (w ∷ ts) = cond (eqb (lone w) 40) Open (cond (allDigits w) (literalOf w) (namedBy (found count s names lens w)))
+
+-- from a place on, in an expression that ends at a place of the text
+abbrev pub factorAt : (s : List ℕ) (end at count : ℕ) (names lens : List ℕ) → FactorAt
+factorAt s end at count names lens = record { factor = factorOf s count names lens (tokens (drop at (take end s))); end = tokenAt (take end s) at .end }

@@ -1,0 +1,34 @@
+-- The operators that wait on a stack, top first, with a mark `(` for each open parenthesis.
+use Prim.Native.Nat.{ℕ, zero, suc, _≤_}
+use mathlib.Core.Path.{_≡_}
+use mathlib.Core.List.{List, [], _∷_}
+use mathlib.Core.Bool.{true, false, cond}
+use lib.Dec.{leb}
+use lib.ListN.{getD}
+use Rattle.expression.specs.Parse.{joins, term, expression}
+use Rattle.writer.specs.Pieces.{Put, operatorsText}
+use Rattle.emission.specs.declared.waiting.Popped.{Popped}
+
+-- the level that an operator joins to: 1 for `*` and `/`, 2 for `+` and `-`; 3 for every other byte, the mark among them
+abbrev pub levelOf : ℕ → ℕ
+levelOf a = cond (joins term a) term (cond (joins expression a) expression 3)
+
+-- the operators on top of a stack that bind at least as tightly as a level, and the stack without them
+unfoldable pub popped : ℕ → List ℕ → List ℕ
+popped p [] = []
+popped p (y ∷ st) = elim (leb (levelOf y) p) [ true ↦ y ∷ popped p st | false ↦ [] ]
+
+unfoldable pub left : ℕ → List ℕ → List ℕ
+left p [] = []
+left p (y ∷ st) = elim (leb (levelOf y) p) [ true ↦ left p st | false ↦ y ∷ st ]
+
+-- an array's first n elements, the last first
+unfoldable pub stackOf : List ℕ → ℕ → List ℕ
+stackOf A zero = []
+stackOf A (suc n) = getD A n 0 ∷ stackOf A n
+
+-- the operators of a level on top of n elements of an array are written, and so many are left
+pub record Pops (out : List ℕ) (at : ℕ) (A : List ℕ) (n level : ℕ) (after : List ℕ) (r : Popped) : Type 0 where
+  pub put : Put out at (operatorsText (popped level (stackOf A n))) after (r .to)
+  pub rest : stackOf A (r .left) ≡ left level (stackOf A n)
+  pub fewer : r .left ≤ n

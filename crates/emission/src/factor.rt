@@ -1,0 +1,88 @@
+// A factor of an expression, as its first token says it.
+ghost use mathlib.Core.Path.{_≡_};
+ghost use Prim.Native.Nat.{_≤_};
+ghost use lib.ListN.{length, drop};
+ghost use Rattle.number.specs.Decimal.{digits};
+ghost use Rattle.emission.specs.Factor.{literalOf, namedBy, factorAt};
+use expression::names::Found;
+use expression::names::lookup;
+use expression::parts::lone_byte;
+use number::Value;
+use number::digits_at;
+use token::is_digit;
+use token::token_at;
+
+pub enum Factor {
+    Open,
+    Literal(u64),
+    Name(usize),
+    Nothing,
+}
+
+// A factor, and where its first token ends.
+pub struct FactorAt {
+    pub factor: Factor,
+    pub end: usize,
+}
+
+// The factor from a place on, in an expression that ends at a place of the text. A name is the newest of the first count bindings.
+pub fn factor_at<'a>(
+    text: &'a [u8],
+    end: usize,
+    at: usize,
+    count: usize,
+    names: &'a [u16; 256],
+    lens: &'a [u16; 256],
+) -> FactorAt
+    requires { ⌜ (end ≤ length (now text)) × (count ≤ 256) ⌝ }
+    ensures { λ r. ⌜ r ≡ factorAt (now (text .entry)) end at count (now (names .entry)) (now (lens .entry)) ⌝ }
+{
+    let expression = &text[..end];
+    let token = token_at(expression, at);
+    let first = token.start;
+    let behind = token.end;
+    if first == behind {
+        return FactorAt {
+            factor: Factor::Nothing,
+            end: behind,
+        };
+    }
+    if lone_byte(expression, first, behind) == b'(' {
+        return FactorAt {
+            factor: Factor::Open,
+            end: behind,
+        };
+    }
+    if is_digit(text[first]) {
+        return FactorAt {
+            factor: literal(expression, first),
+            end: behind,
+        };
+    }
+    let found = lookup(text, first, behind - first, count, names, lens);
+    FactorAt {
+        factor: named(found),
+        end: behind,
+    }
+}
+
+// The number that the digits from a place on write.
+fn literal(expression: &[u8], first: usize) -> Factor
+    ensures { λ r. ⌜ r ≡ literalOf (digits (drop first (now (expression .entry)))) ⌝ }
+{
+    let run = digits_at(expression, first);
+    let value = run.value;
+    match value {
+        Value::Is(n) => Factor::Literal(n),
+        Value::TooLarge => Factor::Nothing,
+    }
+}
+
+fn named(found: Found) -> Factor
+    ensures { λ r. ⌜ r ≡ namedBy found ⌝ }
+{
+    match found {
+        Found::At(i) => Factor::Name(i),
+        Found::Nothing => Factor::Nothing,
+    }
+}

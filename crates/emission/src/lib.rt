@@ -1,0 +1,179 @@
+// Emission: the operations of an expression as text, left side, right side, operator. A name is written out by writing out its binding's
+// expression; what a binding wrote once is copied from the output.
+ghost use Prim.Native.Nat.{_+_, _<_, _≤_};
+ghost use lib.ListN.{length};
+ghost use Rattle.expression.specs.Source.{sourcesOf, sources, treeOf, AllStand};
+ghost use Rattle.expression.specs.Written.{textOf};
+ghost use Rattle.writer.specs.Pieces.{Put};
+ghost use Rattle.emission.specs.Emitted.{treeBetween, Means, Kept};
+
+mod factor;
+mod operator;
+mod waiting;
+
+use expression::Bindings;
+use expression::Values;
+use expression::names::wide;
+use factor::Factor;
+use factor::factor_at;
+use operator::operate;
+use waiting::pop;
+use writer::put_again;
+use writer::put_push;
+
+// Writes the expression from start to end of the text at a place of the output, where there is room for it. Its names mean the first
+// count bindings. Returns the place behind it.
+pub fn emit(
+    text: &[u8],
+    start: usize,
+    end: usize,
+    count: usize,
+    table: Bindings,
+    values: Values,
+    out: &mut [u8],
+    at: usize,
+) -> usize
+    requires { ⌜ Means (now text) (sources table values) count start end ⌝ }
+    requires { ⌜ at + length (textOf (treeBetween (now text) (sources table values) count start end)) ≤ length (now out) ⌝ }
+    ensures { λ r. ⌜ Put (now (out .entry)) at (textOf (treeBetween (now (text .entry)) (sources table values) count start end)) (now (out .exit)) r ⌝ }
+{
+    let mut places = [0usize; 256];
+    let mut lengths = [0usize; 256];
+    expression(
+        text,
+        start,
+        end,
+        count,
+        &table.name_start,
+        &table.name_len,
+        &table.expr_start,
+        &table.expr_len,
+        &values.value,
+        out,
+        at,
+        &mut places,
+        &mut lengths,
+    )
+}
+
+// Parentheses are no recursion: the operators wait on one flat stack.
+fn expression<'a>(
+    text: &'a [u8],
+    start: usize,
+    end: usize,
+    count: usize,
+    names: &'a [u16; 256],
+    lens: &'a [u16; 256],
+    starts: &'a [u16; 256],
+    sizes: &'a [u16; 256],
+    values: &'a [u64; 256],
+    out: &mut [u8],
+    at: usize,
+    places: &mut [usize; 256],
+    lengths: &mut [usize; 256],
+) -> usize
+    requires { ⌜ Means (now text) (sourcesOf (now names) (now lens) (now starts) (now sizes) (now values)) count start end ⌝ }
+    requires { ⌜ at + length (textOf (treeBetween (now text) (sourcesOf (now names) (now lens) (now starts) (now sizes) (now values)) count start end)) ≤ length (now out) ⌝ }
+    requires { ⌜ Kept (now text) (sourcesOf (now names) (now lens) (now starts) (now sizes) (now values)) (now out) at (now places) (now lengths) ⌝ }
+    ensures wrote { λ r. ⌜ Put (now (out .entry)) at (textOf (treeBetween (now (text .entry)) (sourcesOf (now (names .entry)) (now (lens .entry)) (now (starts .entry)) (now (sizes .entry)) (now (values .entry))) count start end)) (now (out .exit)) r ⌝ }
+    ensures keeps { λ r. ⌜ Kept (now (text .entry)) (sourcesOf (now (names .entry)) (now (lens .entry)) (now (starts .entry)) (now (sizes .entry)) (now (values .entry))) (now (out .exit)) r (now (places .exit)) (now (lengths .exit)) ⌝ }
+{
+    let mut waiting = [0u8; 194];
+    let mut n: usize = 0;
+    let mut due = true;
+    let mut i = start;
+    let mut to = at;
+    while i < end {
+        if due {
+            let next = factor_at(text, end, i, count, names, lens);
+            let factor = next.factor;
+            i = next.end;
+            match factor {
+                Factor::Open => {
+                    waiting[n] = b'(';
+                    n += 1;
+                }
+                Factor::Literal(value) => {
+                    to = put_push(out, to, value);
+                    due = false;
+                }
+                Factor::Name(b) => {
+                    to = binding(
+                        text,
+                        b,
+                        names,
+                        lens,
+                        starts,
+                        sizes,
+                        values,
+                        out,
+                        to,
+                        places,
+                        lengths,
+                    );
+                    due = false;
+                }
+                Factor::Nothing => {
+                    return to;
+                }
+            }
+        } else {
+            let next = operate(text, end, i, out, to, &mut waiting, n);
+            i = next.at;
+            to = next.to;
+            n = next.waiting;
+            due = next.due;
+        }
+    }
+    let last = pop(out, to, &waiting, n, 2);
+    last.to
+}
+
+// The binding b: once more, where it was written before; a parameter; or its expression, whose names mean the bindings before it.
+fn binding<'a>(
+    text: &'a [u8],
+    b: usize,
+    names: &'a [u16; 256],
+    lens: &'a [u16; 256],
+    starts: &'a [u16; 256],
+    sizes: &'a [u16; 256],
+    values: &'a [u64; 256],
+    out: &mut [u8],
+    at: usize,
+    places: &mut [usize; 256],
+    lengths: &mut [usize; 256],
+) -> usize
+    requires { ⌜ (b < 256) × AllStand (now text) (sourcesOf (now names) (now lens) (now starts) (now sizes) (now values)) (b + 1) ⌝ }
+    requires { ⌜ at + length (textOf (treeOf (now text) (sourcesOf (now names) (now lens) (now starts) (now sizes) (now values)) b)) ≤ length (now out) ⌝ }
+    requires { ⌜ Kept (now text) (sourcesOf (now names) (now lens) (now starts) (now sizes) (now values)) (now out) at (now places) (now lengths) ⌝ }
+    ensures wrote { λ r. ⌜ Put (now (out .entry)) at (textOf (treeOf (now (text .entry)) (sourcesOf (now (names .entry)) (now (lens .entry)) (now (starts .entry)) (now (sizes .entry)) (now (values .entry))) b)) (now (out .exit)) r ⌝ }
+    ensures keeps { λ r. ⌜ Kept (now (text .entry)) (sourcesOf (now (names .entry)) (now (lens .entry)) (now (starts .entry)) (now (sizes .entry)) (now (values .entry))) (now (out .exit)) r (now (places .exit)) (now (lengths .exit)) ⌝ }
+{
+    let length = lengths[b];
+    if 0 < length {
+        return put_again(out, at, places[b], length);
+    }
+    let size = wide(sizes[b]);
+    if size == 0 {
+        return put_push(out, at, values[b]);
+    }
+    let start = wide(starts[b]);
+    let behind = expression(
+        text,
+        start,
+        start + size,
+        b,
+        names,
+        lens,
+        starts,
+        sizes,
+        values,
+        out,
+        at,
+        places,
+        lengths,
+    );
+    places[b] = at;
+    lengths[b] = behind - at;
+    behind
+}
