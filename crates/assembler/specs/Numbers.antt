@@ -4,7 +4,7 @@ use Rattle.source.specs.Function.{functionRefusal}
 use Rattle.source.specs.Vector.{keyRefusal}
 use Rattle.expression.specs.Answer.{numberOf}
 use Rattle.assembler.specs.declared.refusal.Refusal as Code
-use Rattle.assembler.specs.declared.refusal.Refusal.the-variants.{Contract, Vector, Function, NoKey, NoColon, NoDigit, TooLarge, NoEquals, Expression, TooLong, TooManyBindings, NoReturn, NoValue, NotExpected}
+use Rattle.assembler.specs.declared.refusal.Refusal.the-variants.{Contract, Vector, Function, NoKey, NoColon, NoDigit, TooLarge, NoEquals, Expression, TooLong, TooManyBindings, NoReturn, NoValue, NotExpected, BadStem, OutputTooLong}
 use Rattle.assembler.specs.Refusal.{Refusal, plain, carrying}
 
 abbrev pub refusalOf : Code.Refusal → Refusal
@@ -22,3 +22,5 @@ refusalOf TooManyBindings = plain 21
 refusalOf NoReturn = plain 22
 refusalOf NoValue = plain 23
 refusalOf NotExpected = plain 24
+refusalOf BadStem = plain 25
+refusalOf OutputTooLong = plain 26

@@ -18,4 +18,6 @@ pub enum Refusal {
     NoReturn,
     NoValue,
     NotExpected,
+    BadStem,
+    OutputTooLong,
 }

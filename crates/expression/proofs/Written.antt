@@ -11,7 +11,7 @@ use Rattle.ops.specs.Written.{written, writtenAll}
 use Rattle.expression.specs.Tree.{Tree, num, bin, kOf, lineOf, lenOf}
 use Rattle.expression.specs.Written.{operatorOf, opsOf, textOf}
 
-written-append : (a b : List Operation) → writtenAll (a ++ b) ≡ writtenAll a ++ writtenAll b
+pub written-append : (a b : List Operation) → writtenAll (a ++ b) ≡ writtenAll a ++ writtenAll b
 written-append [] b = refl
 written-append (o ∷ a) b = ap (λ (t : List ℕ). written o ++ t) (written-append a b) ∙ sym (append-assoc (written o) (writtenAll a) (writtenAll b))
 

@@ -1,0 +1,27 @@
+// The two remarks that the output starts with.
+ghost use mathlib.Core.Path.{_≡_};
+ghost use Prim.Native.Nat.{_≤_};
+ghost use lib.ListN.{length};
+ghost use Rattle.assembler.specs.Output.{header};
+ghost use Rattle.writer.specs.Pieces.{Put};
+use number::decimal_len;
+use writer::put_bytes;
+use writer::put_decimal;
+
+pub fn header_len(stem: &[u8], expected: u64) -> usize
+    requires { ⌜ length (now stem) ≤ 255 ⌝ }
+    ensures { λ r. ⌜ r ≡ length (header (now (stem .entry)) expected) ⌝ }
+{
+    26 + stem.len() + decimal_len(expected)
+}
+
+pub fn put_header(out: &mut [u8], stem: &[u8], expected: u64) -> usize
+    requires { ⌜ length (header (now stem) expected) ≤ length (now out) ⌝ }
+    ensures { λ r. ⌜ Put (now (out .entry)) 0 (header (now (stem .entry)) expected) (now (out .exit)) r ⌝ }
+{
+    let name = put_bytes(out, 0, b"# contract: ");
+    let line = put_bytes(out, name, stem);
+    let value = put_bytes(out, line, b"\n# expected: ");
+    let end = put_decimal(out, value, expected);
+    put_bytes(out, end, b"\n")
+}

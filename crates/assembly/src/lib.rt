@@ -1,0 +1,43 @@
+// Assembly: a contract and its vector to ops text in a lent buffer.
+ghost use lib.ListN.{length};
+ghost use Rattle.assembler.specs.Output.{assembled};
+ghost use Rattle.assembly.specs.Answers.{Assembles};
+
+mod header;
+mod output;
+mod stem;
+
+use assembler::assembly::checked;
+use assembler::refusal::Refusal;
+use assembler::state::Status;
+use output::write_output;
+use stem::stem_fits;
+
+// A success has the bytes written, k, p and the value.
+pub enum Answer {
+    Success {
+        written: usize,
+        k: u64,
+        p: u64,
+        value: u64,
+    },
+    Refused(Refusal),
+}
+
+// Nothing is written unless all of it fits.
+pub fn assemble(contract: &[u8], vector: &[u8], stem: &[u8], out: &mut [u8]) -> Answer
+    ensures { λ r. ⌜ Assembles (assembled (now (contract .entry)) (now (vector .entry)) (now (stem .entry)) (length (now (out .entry)))) (now (out .entry)) (now (out .exit)) r ⌝ }
+{
+    let assembly = checked(contract, vector);
+    let state = assembly.state;
+    let status = state.status;
+    match status {
+        Status::Refused(why) => Answer::Refused(why),
+        Status::Going => {
+            if !stem_fits(stem) {
+                return Answer::Refused(Refusal::BadStem);
+            }
+            write_output(contract, stem, assembly, out)
+        }
+    }
+}
