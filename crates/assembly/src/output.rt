@@ -28,19 +28,13 @@ pub fn write_output(contract: &[u8], stem: &[u8], assembly: Assembly, out: &mut 
     if ((room - frame) as u64) < read.len {
         return Answer::Refused(Refusal::OutputTooLong);
     }
-    let first = put_header(out, stem, expected);
     let table = state.table;
     let values = state.values;
-    let halt = emit(
-        contract,
-        returned.start,
-        returned.end,
-        returned.count,
-        table,
-        values,
-        out,
-        first,
-    );
+    let start = returned.start;
+    let end = returned.end;
+    let count = returned.count;
+    let first = put_header(out, stem, expected);
+    let halt = emit(contract, start, end, count, table, values, out, first);
     let written = put_bytes(out, halt, b"Halt\n");
     Answer::Success {
         written,

@@ -40,19 +40,19 @@ put-header-requires : tie.Need-put-header-requires
 put-header-requires c κs = search needs
 
 emit-requires : tie.Need-emit-requires
-emit-requires c κs = let a = c .before .before .before .before .before .before .before .before .before .before .before .before .before .before .before .before .before .before .before .args in let g = c .before .before .before .before .before .before .before .before .before .before .before .before .before .before .before .before .before .before .before .pre in let q = c .before .before .before .before .before .before .before .before .before .before .before .before .before .last .given .1 in let z = text-size (g .accepts) q in let e = c .before .before .before .before .before .before .before .before .before .before .header-len .ensures in let i = c .before .before .before .before .before .before .before .before .before .if1 .left in let j = c .before .before .before .before .before .before .before .if2 .left in let w = c .before .before .before .before .before .put-header .ensures in (means (g .accepts) q, omega (arith, z, e, i, j, w .next, put-length w (omega (arith, e, i))))
+emit-requires c κs = let a = c .before .before .before .before .before .before .before .before .before .before .before .before .before .before .before .before .before .before .before .args in let g = c .before .before .before .before .before .before .before .before .before .before .before .before .before .before .before .before .before .before .before .pre in let q = c .before .before .before .before .before .before .before .before .before .before .before .before .before .last .given .1 in let z = text-size (g .accepts) q in let e = c .before .before .before .before .before .before .before .before .before .before .header-len .ensures in let i = c .before .before .before .before .before .before .before .before .before .if1 .left in let j = c .before .before .before .before .before .before .before .if2 .left in let w = c .before .before .before .put-header .ensures in (means (g .accepts) q, omega (arith, z, e, i, j, w .next, put-length w (omega (arith, e, i))))
 
 slice-aggregate-put-bytes : tie.Need-slice-aggregate-put-bytes
 slice-aggregate-put-bytes c = search needs
 
 put-bytes-requires : tie.Need-put-bytes-requires
-put-bytes-requires c κs = let a = c .before .before .before .before .before .before .before .before .before .before .before .before .before .before .before .before .before .before .before .before .before .before .before .before .args in let g = c .before .before .before .before .before .before .before .before .before .before .before .before .before .before .before .before .before .before .before .before .before .before .before .before .pre in let q = c .before .before .before .before .before .before .before .before .before .before .before .before .before .before .before .before .before .before .last .given .1 in let z = text-size (g .accepts) q in let e = c .before .before .before .before .before .before .before .before .before .before .before .before .before .before .before .header-len .ensures in let i = c .before .before .before .before .before .before .before .before .before .before .before .before .before .before .if1 .left in let j = c .before .before .before .before .before .before .before .before .before .before .before .before .if2 .left in let w = c .before .before .before .before .before .before .before .before .before .before .put-header .ensures in let l = put-length w (omega (arith, e, i)) in let v = c .before .before .before .before .emit .ensures in omega (arith, z, e, i, j, w .next, l, v .next, put-length v (omega (arith, z, e, i, j, w .next, l)))
+put-bytes-requires c κs = let a = c .before .before .before .before .before .before .before .before .before .before .before .before .before .before .before .before .before .before .before .before .before .before .before .before .args in let g = c .before .before .before .before .before .before .before .before .before .before .before .before .before .before .before .before .before .before .before .before .before .before .before .before .pre in let q = c .before .before .before .before .before .before .before .before .before .before .before .before .before .before .before .before .before .before .last .given .1 in let z = text-size (g .accepts) q in let e = c .before .before .before .before .before .before .before .before .before .before .before .before .before .before .before .header-len .ensures in let i = c .before .before .before .before .before .before .before .before .before .before .before .before .before .before .if1 .left in let j = c .before .before .before .before .before .before .before .before .before .before .before .before .if2 .left in let w = c .before .before .before .before .before .before .before .before .put-header .ensures in let l = put-length w (omega (arith, e, i)) in let v = c .before .before .before .before .emit .ensures in omega (arith, z, e, i, j, w .next, l, v .next, put-length v (omega (arith, z, e, i, j, w .next, l)))
 
 same-length : tie.Need-same-length
 same-length c = search needs
 
 returns-4 : tie.Need-returns-4
-returns-4 c = let a = c .before .before .before .before .before .before .before .before .before .before .before .before .before .before .before .before .before .before .before .before .before .before .before .before .before .before .before .args in let g = c .before .before .before .before .before .before .before .before .before .before .before .before .before .before .before .before .before .before .before .before .before .before .before .before .before .before .before .pre in let q = c .before .before .before .before .before .before .before .before .before .before .before .before .before .before .before .before .before .before .before .before .before .last .given .1 in let z = text-size (g .accepts) q in let e = c .before .before .before .before .before .before .before .before .before .before .before .before .before .before .before .before .before .before .header-len .ensures in let i = c .before .before .before .before .before .before .before .before .before .before .before .before .before .before .before .before .before .if1 .left in let j = c .before .before .before .before .before .before .before .before .before .before .before .before .before .before .before .if2 .left in let w = c .before .before .before .before .before .before .before .before .before .before .before .before .before .put-header .ensures in let v = c .before .before .before .before .before .before .before .emit .ensures in record { is = λ o acc f. written-whole acc q (now (a .stem)) (a .out .now) f (omega (arith, e, i, j)) (put-then w (omega (arith, e, i)) v) (c .before .before .put-bytes .ensures) }
+returns-4 c = let a = c .before .before .before .before .before .before .before .before .before .before .before .before .before .before .before .before .before .before .before .before .before .before .before .before .before .before .before .args in let g = c .before .before .before .before .before .before .before .before .before .before .before .before .before .before .before .before .before .before .before .before .before .before .before .before .before .before .before .pre in let q = c .before .before .before .before .before .before .before .before .before .before .before .before .before .before .before .before .before .before .before .before .before .last .given .1 in let z = text-size (g .accepts) q in let e = c .before .before .before .before .before .before .before .before .before .before .before .before .before .before .before .before .before .before .header-len .ensures in let i = c .before .before .before .before .before .before .before .before .before .before .before .before .before .before .before .before .before .if1 .left in let j = c .before .before .before .before .before .before .before .before .before .before .before .before .before .before .before .if2 .left in let w = c .before .before .before .before .before .before .before .before .before .before .before .put-header .ensures in let v = c .before .before .before .before .before .before .before .emit .ensures in record { is = λ o acc f. written-whole acc q (now (a .stem)) (a .out .now) f (omega (arith, e, i, j)) (put-then w (omega (arith, e, i)) v) (c .before .before .put-bytes .ensures) }
 
 pub write-output-spec : {M : Type 1} → statement M
 write-output-spec =

@@ -1,0 +1,48 @@
+-- Stems of paths, computed.
+use mathlib.Core.Path.{_≡_, refl}
+use mathlib.Core.List.{[], _∷_}
+use Rattle.path.specs.Stem.{fileStem}
+
+-- `dir/tally.rule`: `tally`
+stem : fileStem (0x64 ∷ 0x69 ∷ 0x72 ∷ 0x2F ∷ 0x74 ∷ 0x61 ∷ 0x6C ∷ 0x6C ∷ 0x79 ∷ 0x2E ∷ 0x72 ∷ 0x75 ∷ 0x6C ∷ 0x65 ∷ []) ≡ 0x74 ∷ 0x61 ∷ 0x6C ∷ 0x6C ∷ 0x79 ∷ []
+stem = refl
+
+-- `.hidden`: `.hidden`
+hidden : fileStem (0x2E ∷ 0x68 ∷ 0x69 ∷ 0x64 ∷ 0x64 ∷ 0x65 ∷ 0x6E ∷ []) ≡ 0x2E ∷ 0x68 ∷ 0x69 ∷ 0x64 ∷ 0x64 ∷ 0x65 ∷ 0x6E ∷ []
+hidden = refl
+
+-- `a.b.c`: `a.b`
+last-dot : fileStem (0x61 ∷ 0x2E ∷ 0x62 ∷ 0x2E ∷ 0x63 ∷ []) ≡ 0x61 ∷ 0x2E ∷ 0x62 ∷ []
+last-dot = refl
+
+-- `dir/`: `dir`
+trailing-slash : fileStem (0x64 ∷ 0x69 ∷ 0x72 ∷ 0x2F ∷ []) ≡ 0x64 ∷ 0x69 ∷ 0x72 ∷ []
+trailing-slash = refl
+
+-- `..`: none
+parent-of : fileStem (0x2E ∷ 0x2E ∷ []) ≡ []
+parent-of = refl
+
+-- `a/..`: none
+ends-in-parent : fileStem (0x61 ∷ 0x2F ∷ 0x2E ∷ 0x2E ∷ []) ≡ []
+ends-in-parent = refl
+
+-- `a/.`: `a`
+trailing-dot : fileStem (0x61 ∷ 0x2F ∷ 0x2E ∷ []) ≡ 0x61 ∷ []
+trailing-dot = refl
+
+-- `/`: none
+root : fileStem (0x2F ∷ []) ≡ []
+root = refl
+
+-- `.`: none
+current : fileStem (0x2E ∷ []) ≡ []
+current = refl
+
+-- `x/.a.b`: `.a`
+hidden-with-dot : fileStem (0x78 ∷ 0x2F ∷ 0x2E ∷ 0x61 ∷ 0x2E ∷ 0x62 ∷ []) ≡ 0x2E ∷ 0x61 ∷ []
+hidden-with-dot = refl
+
+-- `..a`: `.`
+two-dots : fileStem (0x2E ∷ 0x2E ∷ 0x61 ∷ []) ≡ 0x2E ∷ []
+two-dots = refl

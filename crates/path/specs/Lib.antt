@@ -1,0 +1,2 @@
+pub mod Stem
+pub mod Scan
