@@ -1,0 +1,140 @@
+-- `assembler_vectors::replay` is safe and ends: the three parts of a case lie within the input and the next case starts after them.
+-- Assumes nothing.
+use Prim.Native.Nat.{_-_}
+use lib.ListN.{length}
+use borrow.Author.Needs.{needs}
+use Rattle.assembler_vectors.proofs.replay.Statement.{statement}
+use Rattle.assembler_vectors.proofs.replay.Tie as tie
+
+abbrev Inv-loop : tie.InvT-loop
+Inv-loop input at₀ at = Unit {0}
+
+abbrev μ-loop : tie.MeasureT-loop
+μ-loop input at₀ at = length input - at
+
+loop-holds : tie.Need-loop-holds Inv-loop μ-loop
+loop-holds c = search needs
+
+sub-if1 : tie.Need-sub-if1 Inv-loop μ-loop
+sub-if1 c = search needs
+
+returns : tie.Need-returns Inv-loop μ-loop
+returns c = search needs
+
+add-contract : tie.Need-add-contract Inv-loop μ-loop
+add-contract c = search needs
+
+add-field : tie.Need-add-field Inv-loop μ-loop
+add-field c = search needs
+
+field-requires : tie.Need-field-requires Inv-loop μ-loop
+field-requires c κs = search needs
+
+end-of-requires : tie.Need-end-of-requires Inv-loop μ-loop
+end-of-requires c κs = search needs
+
+add-field-2 : tie.Need-add-field-2 Inv-loop μ-loop
+add-field-2 c = search needs
+
+add-field-3 : tie.Need-add-field-3 Inv-loop μ-loop
+add-field-3 c = search needs
+
+field-requires-2 : tie.Need-field-requires-2 Inv-loop μ-loop
+field-requires-2 c κs = search needs
+
+end-of-requires-2 : tie.Need-end-of-requires-2 Inv-loop μ-loop
+end-of-requires-2 c κs = search needs
+
+add-field-4 : tie.Need-add-field-4 Inv-loop μ-loop
+add-field-4 c = search needs
+
+add-field-5 : tie.Need-add-field-5 Inv-loop μ-loop
+add-field-5 c = search needs
+
+field-requires-3 : tie.Need-field-requires-3 Inv-loop μ-loop
+field-requires-3 c κs = search needs
+
+end-of-requires-3 : tie.Need-end-of-requires-3 Inv-loop μ-loop
+end-of-requires-3 c κs = search needs
+
+sub-case : tie.Need-sub-case Inv-loop μ-loop
+sub-case c = search needs
+
+part-case-start : tie.Need-part-case-start Inv-loop μ-loop
+part-case-start c = search needs
+
+part-case-end : tie.Need-part-case-end Inv-loop μ-loop
+part-case-end c = search needs
+
+sub-case-2 : tie.Need-sub-case-2 Inv-loop μ-loop
+sub-case-2 c = search needs
+
+part-case-start-2 : tie.Need-part-case-start-2 Inv-loop μ-loop
+part-case-start-2 c = search needs
+
+part-case-end-2 : tie.Need-part-case-end-2 Inv-loop μ-loop
+part-case-end-2 c = search needs
+
+sub-case-3 : tie.Need-sub-case-3 Inv-loop μ-loop
+sub-case-3 c = search needs
+
+part-case-start-3 : tie.Need-part-case-start-3 Inv-loop μ-loop
+part-case-start-3 c = search needs
+
+part-case-end-3 : tie.Need-part-case-end-3 Inv-loop μ-loop
+part-case-end-3 c = search needs
+
+case-requires : tie.Need-case-requires Inv-loop μ-loop
+case-requires c κs = search needs
+
+returns-2 : tie.Need-returns-2 Inv-loop μ-loop
+returns-2 c = search needs
+
+add-at : tie.Need-add-at Inv-loop μ-loop
+add-at c = search needs
+
+loop-less : tie.Need-loop-less Inv-loop μ-loop
+loop-less c = search needs
+
+loop-again : tie.Need-loop-again Inv-loop μ-loop
+loop-again c = search needs
+
+returns-3 : tie.Need-returns-3 Inv-loop μ-loop
+returns-3 c = search needs
+
+pub replay-spec : {M : Type 1} → statement M
+replay-spec =
+    tie.close
+    (tie.spec
+    Inv-loop
+    μ-loop
+    loop-holds
+    sub-if1
+    returns
+    add-contract
+    add-field
+    field-requires
+    end-of-requires
+    add-field-2
+    add-field-3
+    field-requires-2
+    end-of-requires-2
+    add-field-4
+    add-field-5
+    field-requires-3
+    end-of-requires-3
+    sub-case
+    part-case-start
+    part-case-end
+    sub-case-2
+    part-case-start-2
+    part-case-end-2
+    sub-case-3
+    part-case-start-3
+    part-case-end-3
+    case-requires
+    returns-2
+    add-at
+    loop-less
+    loop-again
+    returns-3)

@@ -1,0 +1,63 @@
+// Replays answers of the original assembler. A case on standard input is a line `CCCC VVVV SSS`, the lengths of the contract,
+// of the vector and of the stem, then these three and a line feed. Its answer is a line of document 01's number and values
+// and of what became of the lent buffer past the output (`kept` or `changed`), then on success the output.
+mod answer;
+
+use number::Number;
+ghost use Prim.Native.Nat.{_≤_};
+ghost use lib.ListN.{length};
+
+fn main() {
+    let mut input = [0u8; 524288];
+    let n = io::read_full(0, &mut input);
+    replay(&input[..n]);
+}
+
+fn replay(input: &[u8]) {
+    let mut at: usize = 0;
+    while at < input.len() {
+        if input.len() - at < 14 {
+            return;
+        }
+        let contract = at + 14;
+        let vector = end_of(input, contract, field(input, at, at + 4));
+        let stem = end_of(input, vector, field(input, at + 5, at + 9));
+        let end = end_of(input, stem, field(input, at + 10, at + 13));
+        case(
+            &input[contract..vector],
+            &input[vector..stem],
+            &input[stem..end],
+        );
+        if end == input.len() {
+            return;
+        }
+        at = end + 1;
+    }
+}
+
+fn field(input: &[u8], from: usize, to: usize) -> usize
+    requires { ⌜ (from ≤ to) × (to ≤ length (now input)) ⌝ }
+{
+    let number = number::from_str(&input[from..to]);
+    match number {
+        Number::Is(n) => n as usize,
+        Number::Invalid => 0,
+    }
+}
+
+// The place `len` bytes on, or the end of the input.
+fn end_of(input: &[u8], from: usize, len: usize) -> usize
+    requires { ⌜ from ≤ length (now input) ⌝ }
+    ensures { λ r. ⌜ (from ≤ r) × (r ≤ length (now (input .entry))) ⌝ }
+{
+    if input.len() - from < len {
+        return input.len();
+    }
+    from + len
+}
+
+fn case(contract: &[u8], vector: &[u8], stem: &[u8]) {
+    let mut out = [170u8; 16384];
+    let r = assembly::assemble(contract, vector, stem, &mut out);
+    answer::print(r, &out);
+}
