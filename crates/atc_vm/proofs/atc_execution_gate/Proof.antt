@@ -1,0 +1,21 @@
+use mathlib.Core.Path.{ap, _∙_}
+use Rattle.context.specs.Gate.{gateNumber}
+use borrow.Author.Needs.{needs}
+use Rattle.atc_vm.proofs.atc_execution_gate.Statement.{statement}
+use Rattle.atc_vm.proofs.atc_execution_gate.Tie as tie
+use Rattle.atc_vm.proofs.atc_execution_gate.Reads as reads
+use Rattle.atc_vm.proofs.atc_execution_gate.Lts as lts
+use Rattle.context.proofs.execution_gate.Reads as execution-gate-reads
+use Rattle.numbers.proofs.of_gate.Reads as of-gate-reads
+
+execution-gate-requires : tie.Need-execution-gate-requires
+execution-gate-requires c κs = search needs
+
+of-gate-requires : tie.Need-of-gate-requires
+of-gate-requires c κs = search needs
+
+returns : tie.Need-returns
+returns c = c .of-gate .ensures ∙ ap gateNumber (c .before .execution-gate .ensures)
+
+pub atc-execution-gate-spec : {M : Type 1} → statement M
+atc-execution-gate-spec = tie.close (tie.spec execution-gate-requires of-gate-requires returns)

@@ -1,0 +1,243 @@
+// The C ABI: each call of document 01, with its number as the result and what the answer carries in eight words.
+ghost use mathlib.Core.Path.{_≡_};
+ghost use lib.ListN.{length};
+ghost use Rattle.context.specs.Gate.{gateOf, gateNumber};
+ghost use Rattle.context.specs.declared.Gate.the-variants as gate;
+ghost use Rattle.assembler.specs.Output.{assembled};
+ghost use Rattle.vm.specs.Verify.{verifyOf};
+ghost use Rattle.vm.specs.Numbers.{checkNumbered};
+ghost use Rattle.vm.specs.Transition.{transitionOf};
+ghost use Rattle.numbers.specs.Numbered.{Says};
+ghost use Rattle.atc_vm.specs.Words.{Tells, eight};
+ghost use Rattle.atc_vm.specs.Calls.{Assembled, Read, Ran, placeOf};
+use lines::Step;
+use numbers::Numbered;
+use source::parameters::trimmed_span;
+use vm::State;
+
+// The number is the result, the values are the first of the eight words, and the others are 0.
+fn tell(answer: &mut [u64; 8], n: Numbered) -> u64
+    ensures { λ r. ⌜ Tells n (now (answer .exit)) r ⌝ }
+{
+    *answer = [n.first, n.second, n.third, n.fourth, 0, 0, 0, 0];
+    n.number
+}
+
+#[no_mangle]
+pub extern "C" fn atc_assemble(
+    contract: &[u8],
+    vector: &[u8],
+    stem: &[u8],
+    out: &mut [u8],
+    answer: &mut [u64; 8],
+) -> u64
+    ensures { λ r. ⌜ Assembled (assembled (now (contract .entry)) (now (vector .entry)) (now (stem .entry)) (length (now (out .entry)))) (now (out .entry)) (now (out .exit)) (now (answer .exit)) r ⌝ }
+{
+    let assembled = assembly::assemble(contract, vector, stem, out);
+    tell(answer, numbers::of_assembly(assembled))
+}
+
+#[no_mangle]
+pub extern "C" fn atc_parse_ops(
+    text: &[u8],
+    kinds: &mut [u8],
+    operands: &mut [u64],
+    answer: &mut [u64; 8],
+) -> u64
+    ensures { λ r. ⌜ Read (now (text .entry)) (now (kinds .entry)) (now (operands .entry)) (now (kinds .exit)) (now (operands .exit)) (now (answer .exit)) r ⌝ }
+{
+    let read = ops::parse_ops(text, kinds, operands);
+    tell(answer, numbers::of_reading(read))
+}
+
+// The place and the length of the trimmed line of a number from 1; 0 and 0 where there is none.
+#[no_mangle]
+pub extern "C" fn atc_trimmed_line(text: &[u8], line: u64, answer: &mut [u64; 8]) -> u64
+    ensures { λ r. ⌜ (r ≡ 0) × (now (answer .exit) ≡ eight (placeOf (now (text .entry)) line)) ⌝ }
+{
+    let step = ops::nth_line(text, line as usize);
+    match step {
+        Step::Done => tell(
+            answer,
+            Numbered {
+                number: 0,
+                first: 0,
+                second: 0,
+                third: 0,
+                fourth: 0,
+            },
+        ),
+        Step::Next(l) => {
+            let start = l.start;
+            let end = l.end;
+            let span = trimmed_span(&text[start..end]);
+            tell(
+                answer,
+                Numbered {
+                    number: 0,
+                    first: (start + span.start) as u64,
+                    second: (span.end - span.start) as u64,
+                    third: 0,
+                    fourth: 0,
+                },
+            )
+        }
+    }
+}
+
+#[no_mangle]
+pub extern "C" fn atc_execution_gate(
+    chain_id: &[u8],
+    network_id: &[u8],
+    genesis_id: &[u8],
+    protocol_version: &[u8],
+    vm_version: &[u8],
+    computed_genesis_id: &[u8],
+    expected_protocol: &[u8],
+    expected_vm: &[u8],
+) -> u64
+    ensures { λ r. ⌜ r ≡ gateNumber (gateOf (now («chain_id» .entry)) (now («network_id» .entry)) (now («genesis_id» .entry)) (now («protocol_version» .entry)) (now («vm_version» .entry)) (now («computed_genesis_id» .entry)) (now («expected_protocol» .entry)) (now («expected_vm» .entry))) ⌝ }
+{
+    let gate = context::execution_gate(
+        chain_id,
+        network_id,
+        genesis_id,
+        protocol_version,
+        vm_version,
+        computed_genesis_id,
+        expected_protocol,
+        expected_vm,
+    );
+    numbers::of_gate(gate)
+}
+
+#[no_mangle]
+pub extern "C" fn atc_verify(
+    kinds: &[u8],
+    operands: &[u64],
+    used: u64,
+    answer: &mut [u64; 8],
+) -> u64
+    ensures { λ r. ⌜ (r ≡ checkNumbered (verifyOf (now (kinds .entry)) (now (operands .entry)) used) .number) × (now (answer .exit) ≡ eight (checkNumbered (verifyOf (now (kinds .entry)) (now (operands .entry)) used) .carried)) ⌝ }
+{
+    let check = vm::verify::verify(kinds, operands, used as usize);
+    tell(answer, numbers::of_check(check))
+}
+
+#[no_mangle]
+pub extern "C" fn atc_run_with_gas(
+    kinds: &[u8],
+    operands: &[u64],
+    caller: u64,
+    gas_limit: u64,
+    stack: &mut [u64],
+    work: &mut [u64],
+    storage: &mut [u64],
+    used: u64,
+    answer: &mut [u64; 8],
+) -> u64
+    ensures { λ r. ⌜ Ran (transitionOf gate.Passed (now (kinds .entry)) (now (operands .entry)) caller «gas_limit» (now (stack .entry)) (now (work .entry)) (now (storage .entry)) (record { used = used })) (now (stack .exit)) (now (work .exit)) (now (storage .exit)) (now (answer .exit)) r ⌝ }
+{
+    let state = State {
+        used: used as usize,
+    };
+    let ran = vm::run_with_gas(
+        kinds,
+        operands,
+        caller,
+        gas_limit,
+        stack,
+        work,
+        storage,
+        state,
+    );
+    tell(answer, numbers::of_run(ran))
+}
+
+#[no_mangle]
+pub extern "C" fn atc_execute_state_transition_with_gas(
+    chain_id: &[u8],
+    network_id: &[u8],
+    genesis_id: &[u8],
+    protocol_version: &[u8],
+    vm_version: &[u8],
+    computed_genesis_id: &[u8],
+    expected_protocol: &[u8],
+    expected_vm: &[u8],
+    kinds: &[u8],
+    operands: &[u64],
+    caller: u64,
+    gas_limit: u64,
+    stack: &mut [u64],
+    work: &mut [u64],
+    storage: &mut [u64],
+    used: u64,
+    answer: &mut [u64; 8],
+) -> u64
+    ensures { λ r. ⌜ Ran (transitionOf (gateOf (now («chain_id» .entry)) (now («network_id» .entry)) (now («genesis_id» .entry)) (now («protocol_version» .entry)) (now («vm_version» .entry)) (now («computed_genesis_id» .entry)) (now («expected_protocol» .entry)) (now («expected_vm» .entry))) (now (kinds .entry)) (now (operands .entry)) caller «gas_limit» (now (stack .entry)) (now (work .entry)) (now (storage .entry)) (record { used = used })) (now (stack .exit)) (now (work .exit)) (now (storage .exit)) (now (answer .exit)) r ⌝ }
+{
+    let state = State {
+        used: used as usize,
+    };
+    let ran = vm::execute_state_transition_with_gas(
+        chain_id,
+        network_id,
+        genesis_id,
+        protocol_version,
+        vm_version,
+        computed_genesis_id,
+        expected_protocol,
+        expected_vm,
+        kinds,
+        operands,
+        caller,
+        gas_limit,
+        stack,
+        work,
+        storage,
+        state,
+    );
+    tell(answer, numbers::of_run(ran))
+}
+
+#[no_mangle]
+pub extern "C" fn atc_execute_state_transition(
+    chain_id: &[u8],
+    network_id: &[u8],
+    genesis_id: &[u8],
+    protocol_version: &[u8],
+    vm_version: &[u8],
+    computed_genesis_id: &[u8],
+    expected_protocol: &[u8],
+    expected_vm: &[u8],
+    kinds: &[u8],
+    operands: &[u64],
+    caller: u64,
+    stack: &mut [u64],
+    work: &mut [u64],
+    storage: &mut [u64],
+    used: u64,
+    answer: &mut [u64; 8],
+) -> u64
+    ensures { λ r. ⌜ Ran (transitionOf (gateOf (now («chain_id» .entry)) (now («network_id» .entry)) (now («genesis_id» .entry)) (now («protocol_version» .entry)) (now («vm_version» .entry)) (now («computed_genesis_id» .entry)) (now («expected_protocol» .entry)) (now («expected_vm» .entry))) (now (kinds .entry)) (now (operands .entry)) caller 0 (now (stack .entry)) (now (work .entry)) (now (storage .entry)) (record { used = used })) (now (stack .exit)) (now (work .exit)) (now (storage .exit)) (now (answer .exit)) r ⌝ }
+{
+    atc_execute_state_transition_with_gas(
+        chain_id,
+        network_id,
+        genesis_id,
+        protocol_version,
+        vm_version,
+        computed_genesis_id,
+        expected_protocol,
+        expected_vm,
+        kinds,
+        operands,
+        caller,
+        0,
+        stack,
+        work,
+        storage,
+        used,
+        answer,
+    )
+}

@@ -1,0 +1,103 @@
+-- The promises of the three calls, put together.
+use Prim.Native.Nat.{ℕ}
+use native.Mathlib.Omega.{arith}
+use mathlib.Core.Path.{_≡_, refl, sym, ap, subst, _∙_}
+use mathlib.Core.List.{List}
+use lib.ListN.{length, take, drop}
+use lib.Seq.{take-at}
+use Rattle.ops.specs.Ops.{Reading, ops, refused, answerOf, opsOf, kindsOf, operandsOf, onto, Parsed}
+use Rattle.ops.specs.declared.OpsError.{OpsError}
+use Rattle.ops.specs.declared.ParsedOps.{ParsedOps}
+use Rattle.ops.specs.declared.ParsedOps.the-variants as parsed
+use Rattle.vm.specs.declared.Answer.{Answer}
+use Rattle.vm.specs.Transition as Transition
+use Rattle.vm.specs.Transition.{transitionOf, Meets}
+use Rattle.assembler.specs.declared.refusal.Refusal.{Refusal}
+use Rattle.assembler.specs.Output as Output
+use Rattle.assembler.specs.Output.{success}
+use Rattle.assembly.specs.declared.Answer as assembly
+use Rattle.assembly.specs.declared.Answer.the-variants.{Success, Refused}
+use Rattle.assembly.specs.Answers.{Assembles}
+use Rattle.compile.specs.declared.Compiled.{Compiled}
+use Rattle.compile.specs.declared.Compiled.the-variants.{NotAssembled, NotRead, Ran}
+use Rattle.compile.specs.Compile.{Buffers, Call, ran, assemblyOf, readingOf, thenRun, thenRead, compileOf, Composes}
+use Rattle.compile.proofs.Assembled.{sized-as}
+
+abbrev buffers : (out kinds operands stack work storage : List ℕ) → Buffers
+buffers out kinds operands stack work storage = record { out = out; kinds = kinds; operands = operands; stack = stack; work = work; storage = storage }
+
+module _ (x : Call) where
+  -- the transition on two program buffers
+  abbrev run : (ks vs : List ℕ) → Transition.Result
+  run ks vs = transitionOf (x .context) ks vs (x .caller) (x .limit) (x .lent .stack) (x .lent .work) (x .lent .storage) (x .state)
+
+  -- a success of assembly, which leaves o in its buffer
+  pub record Written (o : List ℕ) (n k p v : ℕ) : Type 0 where
+    pub answer : success n k p v ≡ assemblyOf x .answer
+    pub buffer : o ≡ onto (assemblyOf x .text) (x .lent .out)
+    pub text : take n o ≡ assemblyOf x .text
+
+  -- a reading y that answers r and leaves ks and vs in its buffers
+  record Reads (y : Reading) (r : ParsedOps) (ks vs : List ℕ) : Type 0 where
+    pub answer : r ≡ answerOf y
+    pub kinds : ks ≡ onto (kindsOf (opsOf y)) (x .lent .kinds)
+    pub operands : vs ≡ onto (operandsOf (opsOf y)) (x .lent .operands)
+
+  module _ {o : List ℕ} where
+    pub is-written : {r : assembly.Answer} {n k p v : ℕ} → Assembles (assemblyOf x) (x .lent .out) o r → r ≡ Success n k p v → Written o n k p v
+    is-written {r} {n} b e =
+        let a = subst (λ (z : assembly.Answer). Assembles (assemblyOf x) (x .lent .out) o z) e b in
+        let text = assemblyOf x .text in
+        record {
+          answer = a .answer;
+          buffer = a .buffer;
+          text = ap (take n) (a .buffer) ∙ take-at text (drop (length text) (x .lent .out)) n (sized-as (x .contract) (x .vector) (x .stem) (x .lent .out) (a .answer));
+        }
+
+    pub not-assembled : {r : assembly.Answer} {why : Refusal} → Assembles (assemblyOf x) (x .lent .out) o r → r ≡ Refused why
+        → Composes (compileOf x) (NotAssembled why) (buffers o (x .lent .kinds) (x .lent .operands) (x .lent .stack) (x .lent .work) (x .lent .storage))
+    unfolding compileOf
+    not-assembled {r} {why} b e =
+        let a = subst (λ (z : assembly.Answer). Assembles (assemblyOf x) (x .lent .out) o z) e b in
+        let kept : o ≡ x .lent .out = a .buffer ∙ ap (λ (l : List ℕ). onto l (x .lent .out)) (sized-as (x .contract) (x .vector) (x .stem) (x .lent .out) (a .answer)) in
+        subst (λ (z : Output.Answer). Composes (thenRead x z) (NotAssembled why) (buffers o (x .lent .kinds) (x .lent .operands) (x .lent .stack) (x .lent .work) (x .lent .storage))) (a .answer)
+        (record { answer = refl; out = kept; kinds = refl; operands = refl; stack = refl; work = refl; storage = refl })
+
+    module _ {n k p v : ℕ} (a : Written o n k p v) where
+      -- what follows the success
+      follows : {r : Compiled} {ks vs s w m : List ℕ} → Composes (thenRun x n k p v (readingOf x)) r (buffers o ks vs s w m) → Composes (compileOf x) r (buffers o ks vs s w m)
+      unfolding compileOf
+      follows {r} {ks} {vs} {s} {w} {m} c = subst (λ (z : Output.Answer). Composes (thenRead x z) r (buffers o ks vs s w m)) (a .answer) c
+
+      module _ {ks vs : List ℕ} where
+        reads : {q r : ParsedOps} → Parsed (take n o) (x .lent .kinds) (x .lent .operands) ks vs q → q ≡ r → Reads (readingOf x) r ks vs
+        reads {q} b e =
+            let u = subst (λ (l : List ℕ). Parsed l (x .lent .kinds) (x .lent .operands) ks vs q) (a .text) b in
+            record { answer = sym e ∙ u .answer; kinds = u .kindsWritten; operands = u .operandsWritten }
+
+        stopped : {e : OpsError} (y : Reading) → Reads y (parsed.Refused e) ks vs → Composes (thenRun x n k p v y) (NotRead e) (buffers o ks vs (x .lent .stack) (x .lent .work) (x .lent .storage))
+        stopped (ops os) r = absurd (let z : _≡_ {A = ℕ} 0 1 = cc (r .answer) in omega arith)
+        stopped (refused e) r = record { answer = cc (r .answer); out = a .buffer; kinds = r .kinds; operands = r .operands; stack = refl; work = refl; storage = refl }
+
+        finished : {s w m : List ℕ} {j : ℕ} {t : Answer} (y : Reading) → Reads y (parsed.Read j) ks vs → Meets (run ks vs) t s w m → Composes (thenRun x n k p v y) (Ran n k p v j t) (buffers o ks vs s w m)
+        finished (refused e) r q = absurd (let z : _≡_ {A = ℕ} 0 1 = cc (r .answer) in omega arith)
+        finished {s} {w} {m} {j} {t} (ops os) r q =
+            let u = subst (λ (l : List ℕ). Meets (run l (onto (operandsOf os) (x .lent .operands))) t s w m) (r .kinds) (subst (λ (l : List ℕ). Meets (run ks l) t s w m) (r .operands) q) in
+            let j-is : j ≡ length os = cc (r .answer) in
+            record {
+              answer = ap (λ (i : ℕ). ran n k p v i t) j-is ∙ ap (ran n k p v (length os)) (u .answer);
+              out = a .buffer;
+              kinds = r .kinds;
+              operands = r .operands;
+              stack = u .stack;
+              work = u .work;
+              storage = u .storage;
+            }
+
+        pub not-read : {r : ParsedOps} {e : OpsError} → Parsed (take n o) (x .lent .kinds) (x .lent .operands) ks vs r → r ≡ parsed.Refused e
+            → Composes (compileOf x) (NotRead e) (buffers o ks vs (x .lent .stack) (x .lent .work) (x .lent .storage))
+        not-read q e = follows (stopped (readingOf x) (reads q e))
+
+        pub has-run : {r : ParsedOps} {j : ℕ} {t : Answer} {s w m : List ℕ} → Parsed (take n o) (x .lent .kinds) (x .lent .operands) ks vs r → r ≡ parsed.Read j → Meets (run ks vs) t s w m
+            → Composes (compileOf x) (Ran n k p v j t) (buffers o ks vs s w m)
+        has-run q e t = follows (finished (readingOf x) (reads q e) t)

@@ -1,0 +1,4 @@
+pub mod Assembled
+pub mod Composing
+pub mod Delivery
+pub mod Examples

@@ -1,0 +1,3 @@
+pub mod Compile
+pub mod Numbers
+pub mod Delivery

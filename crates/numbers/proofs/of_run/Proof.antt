@@ -1,0 +1,35 @@
+use mathlib.Core.Path.{_≡_, refl}
+use Rattle.vm.specs.declared.Answer.{Answer}
+use Rattle.vm.specs.Numbers.{answerNumbered}
+use Rattle.numbers.specs.declared.Numbered.{Numbered}
+use Rattle.numbers.specs.Numbered.{Says}
+use Rattle.numbers.proofs.Told.{told}
+use borrow.Author.Needs.{needs}
+use Rattle.numbers.proofs.of_run.Statement.{statement}
+use Rattle.numbers.proofs.of_run.Tie as tie
+use Rattle.numbers.proofs.of_run.Reads as reads
+use Rattle.numbers.proofs.of_run.Lts as lts
+use Rattle.numbers.proofs.of_run_refusal.Reads as of-run-refusal-reads
+
+abbrev Of : Answer → Numbered → Type 0
+Of x r = Says (answerNumbered x .number) (answerNumbered x .carried) r
+
+enum-known-answer : tie.Need-enum-known-answer
+enum-known-answer c = search needs
+
+enum-known-answer-2 : tie.Need-enum-known-answer-2
+enum-known-answer-2 c = search needs
+
+of-run-refusal-requires : tie.Need-of-run-refusal-requires
+of-run-refusal-requires c κs = search needs
+
+returns : tie.Need-returns
+returns c = told Of (c .before .answer .given .1) refl (record { number = refl; values = refl })
+
+returns-2 : tie.Need-returns-2
+returns-2 c = told Of (c .before .before .answer2 .given .1) refl (c .of-run-refusal .ensures)
+
+pub of-run-spec : {M : Type 1} → statement M
+of-run-spec =
+    tie.close
+    (tie.spec enum-known-answer enum-known-answer-2 of-run-refusal-requires returns returns-2)
