@@ -24,7 +24,8 @@ pub fn unreadable(path: &[u8]) {
 }
 
 pub fn refused(why: Refusal) {
-    let number = refusals::number_of(why);
+    let refusal = numbers::of_refusal(why);
+    let number = refusal.number;
     io::write_all(STDERR_FILENO, b"assemble: ");
     io::print_decimal(STDERR_FILENO, number);
     io::write_all(STDERR_FILENO, b": ");

@@ -1,5 +1,4 @@
 // Reads ops text from standard input, runs it with a limit of 1,000 gas, and writes what the run gives.
-mod numbers;
 mod report;
 
 use ops::ParsedOps;
@@ -22,7 +21,10 @@ fn read(text: &[u8]) -> Report {
     let mut operands = [0u64; 4096];
     let parsed = ops::parse_ops(text, &mut kinds, &mut operands);
     match parsed {
-        ParsedOps::Refused(e) => report::refused(numbers::of_reading(e)),
+        ParsedOps::Refused(e) => {
+            let refusal = numbers::of_ops_error(e);
+            report::refused(refusal.number)
+        }
         ParsedOps::Read(n) => run(&kinds, &operands, n),
     }
 }
@@ -49,7 +51,10 @@ fn run(kinds: &[u8], operands: &[u64], n: usize) -> Report {
         State { used: 0 },
     );
     match answer {
-        Answer::Refused(f) => report::refused(numbers::of_run(f)),
+        Answer::Refused(f) => {
+            let refusal = numbers::of_run_refusal(f);
+            report::refused(refusal.number)
+        }
         Answer::Success {
             gas_spent,
             operations,

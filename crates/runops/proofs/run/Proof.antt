@@ -40,8 +40,8 @@ run-with-gas-requires c κs = search needs
 enum-known-answer : tie.Need-enum-known-answer
 enum-known-answer c = search needs
 
-of-run-requires : tie.Need-of-run-requires
-of-run-requires c κs = search needs
+of-run-refusal-requires : tie.Need-of-run-refusal-requires
+of-run-refusal-requires c κs = search needs
 
 refused-requires-3 : tie.Need-refused-requires-3
 refused-requires-3 c κs = search needs
@@ -76,7 +76,7 @@ run-spec =
     slice-aggregate-run-with-gas-5
     run-with-gas-requires
     enum-known-answer
-    of-run-requires
+    of-run-refusal-requires
     refused-requires-3
     enum-known-answer-2
     slice-aggregate-top
