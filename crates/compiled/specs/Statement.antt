@@ -72,7 +72,8 @@ kindsLeft r kinds = onto (kindsOf (opsOf r)) kinds
 abbrev pub operandsLeft : Reading → List ℕ → List ℕ
 operandsLeft r operands = onto (operandsOf (opsOf r)) operands
 
--- what is assumed: assembly accepts the contract; both program buffers have 2k entries; the context passes; neither 34 nor 43 applies
+-- what is assumed: the contract is document 01's accepted; both program buffers have 2k entries; the context passes;
+-- the state and its buffers are admitted, neither 34 nor 43 applying
 pub record Hypotheses (contract vector stem : List ℕ) (room n k p v : ℕ) (kinds operands : List ℕ) (context : Gate) (s w m : List ℕ) (state : State) : Type 0 where
   pub accepts : assembled contract vector stem room .answer ≡ success n k p v
   pub kindsRoom : length kinds ≡ 2 * k
