@@ -1,5 +1,5 @@
 -- The output's pieces, and what is answered of an accepted contract.
-use Prim.Native.Nat.{ℕ, _+_, _-_, _<_, _≤_}
+use Prim.Native.Nat.{ℕ, _+_, _<_, _≤_}
 use mathlib.Core.Path.{_≡_, refl, sym, ap, subst, _∙_}
 use mathlib.Core.List.{List, [], _∷_, _++_, append-assoc}
 use mathlib.Core.Bool.{true, false}
@@ -11,7 +11,7 @@ use Rattle.byte.proofs.Parts.{middle}
 use Rattle.number.specs.Decimal.{decimal}
 use Rattle.ops.specs.Ascii.{ascii}
 use Rattle.ops.specs.Ops.{onto}
-use Rattle.expression.specs.Tree.{Tree, kOf, pOf, lenOf}
+use Rattle.expression.specs.Tree.{Tree, lenOf}
 use Rattle.expression.specs.Parse.{tree, meaning}
 use Rattle.expression.specs.Source.{sources, treeIn, envOf}
 use Rattle.expression.specs.Written.{opsOf, textOf}

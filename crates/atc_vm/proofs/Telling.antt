@@ -1,6 +1,6 @@
 -- From a number and its values to the eight words.
 use Prim.Native.Nat.{ℕ, _+_, _-_, _≤_}
-use mathlib.Core.Path.{_≡_, refl, sym, ap, _∙_}
+use mathlib.Core.Path.{_≡_, sym, ap, _∙_}
 use mathlib.Core.List.{List, [], _∷_, _++_}
 use Rattle.numbers.specs.declared.Numbered.{Numbered}
 use Rattle.numbers.specs.Numbered.{Says}

@@ -2,15 +2,14 @@
 use Prim.Native.Nat.{ℕ, _+_, _-_, _<_, _≤_}
 use mathlib.Core.Path.{_≡_, refl, sym, ap, subst, _∙_}
 use mathlib.Core.List.{List, [], _∷_, _++_, append-nil, append-assoc}
-use mathlib.Core.Bool.{Bool, true, false, cond}
+use mathlib.Core.Bool.{Bool, true, false}
 use native.Mathlib.Omega.{arith}
-use lib.Dec.{eqb}
 use lib.ListN.{length, getD, take, drop, set, length-append, length-set, drop-of-length-le}
 use lib.Seq.{length-take-le}
 use borrow.Author.Tests.{eq-eqb, ne-eqb}
 use Rattle.byte.proofs.Parts.{middle}
 use Rattle.token.specs.Token.{tokens, tokenAt, scan}
-use Rattle.expression.specs.Tree.{Tree, num}
+use Rattle.expression.specs.Tree.{num}
 use Rattle.expression.specs.Parse.{tree, meaning}
 use Rattle.expression.specs.Source.{Sources, treeIn, expressionOf, envOf, treeOf, AllStand}
 use Rattle.expression.specs.Written.{textOf}
@@ -21,7 +20,7 @@ use Rattle.emission.specs.declared.factor.Factor.the-variants.{Open, Lit
 use Rattle.emission.specs.declared.factor.FactorAt.{FactorAt}
 use Rattle.emission.specs.declared.operator.Turn.{Turn}
 use Rattle.emission.specs.Factor.{factorAt}
-use Rattle.emission.specs.Waiting.{popped, left, stackOf}
+use Rattle.emission.specs.Waiting.{popped, stackOf}
 use Rattle.emission.specs.Turn.{signAt, downTo, Ready, Turns}
 use Rattle.emission.specs.Emitted.{treeBetween, Means, Kept}
 use Rattle.emission.proofs.Stack.{stack-length, stack-more, text-num}

@@ -1,8 +1,8 @@
 -- A factor as the code reads it from its first token.
-use Prim.Native.Nat.{ℕ, _+_, _-_, _^_, _<_, _≤_}
+use Prim.Native.Nat.{ℕ, _+_, _-_, _^_, _≤_}
 use mathlib.Core.Path.{_≡_, refl, sym, ap, _∙_}
-use mathlib.Core.List.{List, [], _∷_}
-use mathlib.Core.Bool.{Bool, true, false}
+use mathlib.Core.List.{List, _∷_}
+use mathlib.Core.Bool.{true, false}
 use native.Mathlib.Omega.{arith}
 use borrow.Author.Tests.{eq-eqb, ne-eqb}
 use lib.Dec.{ltb}
@@ -20,7 +20,7 @@ use Rattle.expression.specs.Parse.{lone}
 use Rattle.expression.specs.Table.{found}
 use Rattle.expression.proofs.Signs.{next-of, none-of}
 use Rattle.emission.specs.declared.factor.Factor.{Factor}
-use Rattle.emission.specs.declared.factor.Factor.the-variants.{Open, Literal, Name, Nothing}
+use Rattle.emission.specs.declared.factor.Factor.the-variants.{Open, Literal, Nothing}
 use Rattle.emission.specs.declared.factor.FactorAt.{FactorAt}
 use Rattle.emission.specs.Factor.{literalOf, namedBy, factorOf, factorAt}
 

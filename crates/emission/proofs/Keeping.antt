@@ -1,7 +1,7 @@
 -- What is kept of bindings that were written: it stays where the output grows, one more is marked, and one that is marked is written once more.
 use Prim.Native.Nat.{ℕ, zero, suc, _+_, _-_, _<_, _≤_}
 use mathlib.Core.Path.{_≡_, refl, ap, _∙_}
-use mathlib.Core.List.{List, []}
+use mathlib.Core.List.{List}
 use native.Mathlib.Omega.{arith}
 use lib.ListN.{length, getD, set, replicate, length-set}
 use lib.Seq.{slice, length-slice, getD-set-same, getD-set-other}

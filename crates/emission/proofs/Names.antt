@@ -1,12 +1,10 @@
 -- A name that is found in the table has the tree of its binding.
-use Prim.Native.Nat.{ℕ, zero, suc, _+_, _<_}
-use mathlib.Core.Path.{_≡_, refl, sym, ap, subst, _∙_}
-use mathlib.Core.List.{List, []}
-use mathlib.Core.Bool.{true, false}
+use Prim.Native.Nat.{ℕ, zero, suc, _<_}
+use mathlib.Core.Path.{_≡_, refl, sym, subst, _∙_}
+use mathlib.Core.List.{List}
 use mathlib.Core.Option.{some, none}
 use native.Mathlib.Omega.{arith}
 use borrow.Author.Tests.{le-leb}
-use lib.ListN.{length}
 use Rattle.byte.proofs.Tests.{by-bool}
 use Rattle.expression.specs.declared.names.Found.{Found}
 use Rattle.expression.specs.declared.names.Found.the-variants.{At, Nothing}

@@ -6,7 +6,6 @@ use native.Mathlib.Omega.{arith}
 use lib.ListN.{length, getD, length-append}
 use Rattle.writer.specs.Pieces.{Put, operatorText, operatorsText}
 use Rattle.writer.proofs.Pieces.{put-none, put-then, put-length}
-use Rattle.emission.specs.declared.waiting.Popped.{Popped}
 use Rattle.emission.specs.Waiting.{levelOf, popped, left, stackOf, Pops}
 use Rattle.emission.proofs.Stack.{left-one, left-none, stack-top, popped-empty, popped-shut, popped-more}
 

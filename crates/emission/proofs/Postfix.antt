@@ -5,15 +5,13 @@ use mathlib.Core.List.{List, [], _∷_, _++_, append-nil, append-assoc}
 use mathlib.Core.Bool.{true, false}
 use native.Mathlib.Omega.{arith}
 use lib.ListN.{length}
-use Rattle.byte.proofs.Tests.{between, and-left}
-use Rattle.number.specs.Decimal.{digit, allDigits}
 use Rattle.token.specs.Token.{tokens}
 use Rattle.expression.specs.Tree.{Tree, bin}
 use Rattle.expression.specs.Parse.{Env, lone, operator, tree, meaning}
 use Rattle.expression.specs.Grammar.{Derives, number, name, parentheses, alone, join}
 use Rattle.expression.specs.Written.{textOf}
 use Rattle.expression.proofs.Steps.{lone-is}
-use Rattle.expression.proofs.Grammar.{grammar}
+use Rattle.expression.proofs.Grammar.{digits-no-parenthesis, grammar}
 use Rattle.expression.proofs.Written.{text-bin}
 use Rattle.writer.specs.Pieces.{operatorText, operatorsText}
 use Rattle.emission.specs.Waiting.{levelOf, popped, left}
@@ -52,11 +50,6 @@ factor-ends env st ts t h = record { o' = textOf t; top = []; all = append-nil (
 -- tokens of the level below are tokens of a level
 alone-ends : {env : Env} {l : ℕ} {st : List ℕ} {ts : List (List ℕ)} {t : Tree} → Ends env l st ts t → Ends env (suc l) st ts t
 alone-ends v = record { o' = v .o'; top = v .top; all = v .all; popped = λ p h. v .popped p (omega arith); left = λ p h. v .left p (omega arith); walks = v .walks }
-
-digits-no-parenthesis : (w : List ℕ) → allDigits w ≡ true → lone w ≡ 40 → ⊥
-digits-no-parenthesis [] e o = omega arith
-digits-no-parenthesis (a ∷ []) e o = let b = between 48 57 a (and-left (digit a) (allDigits []) e) in omega arith
-digits-no-parenthesis (a ∷ b ∷ w) e o = omega arith
 
 -- an expression in parentheses
 module _ {env : Env} {st : List ℕ} {ts : List (List ℕ)} {t : Tree} (small : length st < 194) (v : Ends env 2 (40 ∷ st) ts t) where

@@ -2,19 +2,19 @@
 use Prim.Native.Nat.{ℕ, _+_, _^_, _<_, _≤_}
 use mathlib.Core.Path.{_≡_, refl, sym, ap, subst, _∙_}
 use mathlib.Core.List.{List, [], _∷_, _++_, append-nil}
-use mathlib.Core.Bool.{Bool, true, false, cond}
+use mathlib.Core.Bool.{Bool, true, false}
 use mathlib.Core.Option.{some, none}
 use native.Mathlib.Omega.{arith}
-use borrow.Author.Tests.{lt-ltb, le-ltb, eq-eqb, ne-eqb}
+use borrow.Author.Tests.{lt-ltb, eq-eqb, ne-eqb}
 use lib.Dec.{ltb}
-use lib.ListN.{length, take, drop, drop-of-length-le}
+use lib.ListN.{length, drop, drop-of-length-le}
 use Rattle.byte.proofs.Tests.{by-leb}
 use Rattle.number.specs.Decimal.{value}
 use Rattle.token.specs.Token.{tokens, tokenAt, startAt, first, scan}
-use Rattle.token.proofs.Tokens.{Next, token-none, token-next, tokenFrom, next-at}
+use Rattle.token.proofs.Tokens.{token-none, token-next, tokenFrom, next-at}
 use Rattle.expression.specs.declared.names.Found.{Found}
 use Rattle.expression.specs.declared.names.Found.the-variants as Found
-use Rattle.expression.specs.Tree.{Tree, num}
+use Rattle.expression.specs.Tree.{Tree}
 use Rattle.expression.specs.Parse.{lookup, lone}
 use Rattle.expression.specs.Source.{Sources, envOf, treeOf, AllStand}
 use Rattle.expression.specs.Table.{found}

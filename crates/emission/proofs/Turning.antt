@@ -1,7 +1,7 @@
 -- What an operator, a closing parenthesis or the end does to the waiting operators, as the code does it.
-use Prim.Native.Nat.{ℕ, _+_, _-_, _<_, _≤_, min}
-use mathlib.Core.Path.{_≡_, refl, sym, ap, subst, _∙_}
-use mathlib.Core.List.{List, [], _∷_}
+use Prim.Native.Nat.{ℕ, _+_, _-_, _<_, _≤_}
+use mathlib.Core.Path.{_≡_, sym, ap, _∙_}
+use mathlib.Core.List.{List, _∷_}
 use mathlib.Core.Bool.{true, false, cond}
 use native.Mathlib.Omega.{arith}
 use borrow.Author.Tests.{lt-ltb, le-ltb, eq-eqb, ne-eqb}
@@ -11,9 +11,8 @@ use Rattle.byte.proofs.Tests.{by-eqb}
 use Rattle.token.specs.Token.{tokenAt}
 use Rattle.writer.specs.Pieces.{operatorsText}
 use Rattle.emission.specs.declared.waiting.Popped.{Popped}
-use Rattle.emission.specs.declared.operator.Turn.{Turn}
 use Rattle.emission.specs.Waiting.{levelOf, popped, left, stackOf, Pops}
-use Rattle.emission.specs.Turn.{signAt, downTo, stackAfter, Ready, Turns}
+use Rattle.emission.specs.Turn.{signAt, downTo, Ready, Turns}
 use Rattle.emission.proofs.Stack.{stack-length, stack-more, stack-top}
 
 module _ {s : List ℕ} {end at : ℕ} {out : List ℕ} {to : ℕ} {waiting : List ℕ} {n : ℕ} (r : Ready s end at out to waiting n) {b : ℕ} (e : b ≡ signAt s end at) where

@@ -1,7 +1,7 @@
 -- What an operator, a closing parenthesis or the end does to the operators that wait.
 use Prim.Native.Nat.{ℕ, _+_, _<_, _≤_, min}
 use mathlib.Core.Path.{_≡_}
-use mathlib.Core.List.{List, [], _∷_}
+use mathlib.Core.List.{List, _∷_}
 use mathlib.Core.Bool.{cond}
 use lib.Dec.{eqb, ltb}
 use lib.ListN.{length, take, drop}

@@ -26,6 +26,12 @@ pub record Read (env : Env) (l d : ℕ) (ts : List (List ℕ)) (t : Tree) (rest 
   pub parts : ts ≡ used ++ rest
   pub derives : Derives env l d used t
 
+-- a literal is no parenthesis
+pub digits-no-parenthesis : (w : List ℕ) → allDigits w ≡ true → lone w ≡ 40 → ⊥
+digits-no-parenthesis [] e o = omega arith
+digits-no-parenthesis (a ∷ []) e o = let b = between 48 57 a (and-left (digit a) (allDigits []) e) in omega arith
+digits-no-parenthesis (a ∷ b ∷ w) e o = omega arith
+
 module _ (env : Env) where
   abbrev Sound : ℕ → Type 0
   Sound f = (l d : ℕ) (ts : List (List ℕ)) (t : Tree) (rest : List (List ℕ)) → parseF f l env d ts ≡ done t rest → Read env l d ts t rest
@@ -138,11 +144,6 @@ module _ (env : Env) where
   full : (l d : ℕ) (ts : List (List ℕ)) (t : Tree) → Complete l d ts t → (rest : List (List ℕ)) → Stops l rest → Reads env l d (ts ++ rest) t rest
   full zero d ts t h rest s = h rest
   full (suc l) d ts t h rest s = stops (s .0) (h rest (s .1))
-
-  digits-no-parenthesis : (w : List ℕ) → allDigits w ≡ true → lone w ≡ 40 → ⊥
-  digits-no-parenthesis [] e o = omega arith
-  digits-no-parenthesis (a ∷ []) e o = let b = between 48 57 a (and-left (digit a) (allDigits []) e) in omega arith
-  digits-no-parenthesis (a ∷ b ∷ w) e o = omega arith
 
   operator-stops : (l : ℕ) (w : List ℕ) (ts : List (List ℕ)) → joins (suc l) (lone w) ≡ true → Stops l (w ∷ ts)
   operator-stops zero w ts j = tt

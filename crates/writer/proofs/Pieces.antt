@@ -1,11 +1,11 @@
 -- Laws of pieces written one after the other.
-use Prim.Native.Nat.{ℕ, zero, suc, _+_, _-_, _<_, _≤_}
+use Prim.Native.Nat.{ℕ, suc, _+_, _<_, _≤_}
 use mathlib.Core.Path.{_≡_, refl, sym, ap, _∙_}
 use mathlib.Core.List.{List, [], _∷_, _++_, append-nil, append-assoc}
 use native.Mathlib.Nat.{add-zero}
 use native.Mathlib.Numerals.{add-one}
 use native.Mathlib.Omega.{arith}
-use lib.ListN.{length, getD, take, drop, set, length-append, length-drop, length-set, take-append-drop}
+use lib.ListN.{length, getD, take, drop, set, length-append, length-drop, take-append-drop}
 use lib.Seq.{slice, set-split, take-at, drop-append-add, drop-drop, length-take-le, getD-take, getD-drop, take-take, take-all, take-suc, length-slice}
 use Rattle.number.specs.Decimal.{decimal, put, writtenAt, bufferAfter}
 use Rattle.number.specs.declared.Written.{Written}

@@ -1,4 +1,5 @@
-use mathlib.Core.Path.{_≡_, sym, _∙_}
+-- `assembly::assemble` meets its contract: by the status, then the stem.
+use mathlib.Core.Path.{sym, _∙_}
 use borrow.Author.Tests.{not-true, not-false}
 use denote.Ref.{now}
 use Rattle.assembly.proofs.Stems.{stem-short}
@@ -6,11 +7,6 @@ use Rattle.assembly.proofs.Outputs.{is-going, is-refused, as-assembled,
 use borrow.Author.Needs.{needs}
 use Rattle.assembly.proofs.assemble.Statement.{statement}
 use Rattle.assembly.proofs.assemble.Tie as tie
-use Rattle.assembly.proofs.assemble.Reads as reads
-use Rattle.assembly.proofs.assemble.Lts as lts
-use Rattle.assembler.proofs.assembly.checked.Reads as checked-reads
-use Rattle.assembly.proofs.output.write_output.Reads as write-output-reads
-use Rattle.assembly.proofs.stem.stem_fits.Reads as stem-fits-reads
 
 checked-requires : tie.Need-checked-requires
 checked-requires c κs = search needs
@@ -25,19 +21,27 @@ stem-fits-requires : tie.Need-stem-fits-requires
 stem-fits-requires c κs = search needs
 
 returns : tie.Need-returns
-returns c = let a = c .before .before .before .before .before .before .before .before .before .before .args in as-assembled (now (a .contract)) (now (a .vector)) (now (a .stem)) (stem-refused (now (a .stem)) (a .out .now) (is-going (c .before .before .before .before .before .checked .ensures) (c .before .before .enum-told .given .1)) (sym (c .before .stem-fits .ensures) ∙ not-true _ (c .if1 .taken)))
+returns c =
+    let a = c .before .before .before .before .before .before .before .before .before .before .args in
+    as-assembled (now (a .contract)) (now (a .vector)) (now (a .stem)) (stem-refused (now (a .stem)) (a .out .now) (is-going (c .before .before .before .before .before .checked .ensures) (c .before .before .enum-told .given .1)) (sym (c .before .stem-fits .ensures) ∙ not-true _ (c .if1 .taken)))
 
 write-output-requires : tie.Need-write-output-requires
-write-output-requires c κs = let a = c .before .before .before .before .before .before .before .before .before .before .before .args in record { short = stem-short (now (a .stem)) (sym (c .before .before .stem-fits .ensures) ∙ not-false _ (c .before .if1 .left)); o = _; accepts = is-going (c .before .before .before .before .before .before .checked .ensures) (c .before .before .before .enum-told .given .1) }
+write-output-requires c κs =
+    let a = c .before .before .before .before .before .before .before .before .before .before .before .args in
+    record { short = stem-short (now (a .stem)) (sym (c .before .before .stem-fits .ensures) ∙ not-false _ (c .before .if1 .left)); o = _; accepts = is-going (c .before .before .before .before .before .before .checked .ensures) (c .before .before .before .enum-told .given .1) }
 
 returns-2 : tie.Need-returns-2
-returns-2 c = let a = c .before .before .before .before .before .before .before .before .before .args in as-assembled (now (a .contract)) (now (a .vector)) (now (a .stem)) (is-refused (c .before .before .before .before .checked .ensures) (c .before .status .given .1) (now (a .stem)) (a .out .now))
+returns-2 c =
+    let a = c .before .before .before .before .before .before .before .before .before .args in
+    as-assembled (now (a .contract)) (now (a .vector)) (now (a .stem)) (is-refused (c .before .before .before .before .checked .ensures) (c .before .status .given .1) (now (a .stem)) (a .out .now))
 
 same-length : tie.Need-same-length
 same-length c = search needs
 
 returns-3 : tie.Need-returns-3
-returns-3 c = let a = c .before .before .before .before .before .before .before .before .before .before .before .before .before .before .args in as-assembled (now (a .contract)) (now (a .vector)) (now (a .stem)) (c .before .before .write-output .ensures .is _ (is-going (c .before .before .before .before .before .before .before .before .before .checked .ensures) (c .before .before .before .before .before .before .enum-told .given .1)) (sym (c .before .before .before .before .before .stem-fits .ensures) ∙ not-false _ (c .before .before .before .before .if1 .left)))
+returns-3 c =
+    let a = c .before .before .before .before .before .before .before .before .before .before .before .before .before .before .args in
+    as-assembled (now (a .contract)) (now (a .vector)) (now (a .stem)) (c .before .before .write-output .ensures .is _ (is-going (c .before .before .before .before .before .before .before .before .before .checked .ensures) (c .before .before .before .before .before .before .enum-told .given .1)) (sym (c .before .before .before .before .before .stem-fits .ensures) ∙ not-false _ (c .before .before .before .before .if1 .left)))
 
 pub assemble-spec : {M : Type 1} → statement M
 assemble-spec =

@@ -1,12 +1,8 @@
+-- `atc_vm::atc_assemble` meets its contract: what the call gives is told.
 use Rattle.atc_vm.proofs.Telling.{assembled-told}
 use borrow.Author.Needs.{needs}
 use Rattle.atc_vm.proofs.atc_assemble.Statement.{statement}
 use Rattle.atc_vm.proofs.atc_assemble.Tie as tie
-use Rattle.atc_vm.proofs.atc_assemble.Reads as reads
-use Rattle.atc_vm.proofs.atc_assemble.Lts as lts
-use Rattle.assembly.proofs.assemble.Reads as assemble-reads
-use Rattle.atc_vm.proofs.tell.Reads as tell-reads
-use Rattle.numbers.proofs.of_assembly.Reads as of-assembly-reads
 
 assemble-requires : tie.Need-assemble-requires
 assemble-requires c κs = search needs

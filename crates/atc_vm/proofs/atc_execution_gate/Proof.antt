@@ -1,12 +1,9 @@
+-- `atc_vm::atc_execution_gate` meets its contract: by its number.
 use mathlib.Core.Path.{ap, _∙_}
 use Rattle.context.specs.Gate.{gateNumber}
 use borrow.Author.Needs.{needs}
 use Rattle.atc_vm.proofs.atc_execution_gate.Statement.{statement}
 use Rattle.atc_vm.proofs.atc_execution_gate.Tie as tie
-use Rattle.atc_vm.proofs.atc_execution_gate.Reads as reads
-use Rattle.atc_vm.proofs.atc_execution_gate.Lts as lts
-use Rattle.context.proofs.execution_gate.Reads as execution-gate-reads
-use Rattle.numbers.proofs.of_gate.Reads as of-gate-reads
 
 execution-gate-requires : tie.Need-execution-gate-requires
 execution-gate-requires c κs = search needs

@@ -1,12 +1,8 @@
+-- `atc_vm::atc_parse_ops` meets its contract: what the call gives is told.
 use Rattle.atc_vm.proofs.Telling.{read-told}
 use borrow.Author.Needs.{needs}
 use Rattle.atc_vm.proofs.atc_parse_ops.Statement.{statement}
 use Rattle.atc_vm.proofs.atc_parse_ops.Tie as tie
-use Rattle.atc_vm.proofs.atc_parse_ops.Reads as reads
-use Rattle.atc_vm.proofs.atc_parse_ops.Lts as lts
-use Rattle.atc_vm.proofs.tell.Reads as tell-reads
-use Rattle.numbers.proofs.of_reading.Reads as of-reading-reads
-use Rattle.ops.proofs.parse_ops.Reads as parse-ops-reads
 
 parse-ops-requires : tie.Need-parse-ops-requires
 parse-ops-requires c κs = search needs

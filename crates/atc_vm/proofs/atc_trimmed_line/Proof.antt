@@ -1,7 +1,8 @@
-use Prim.Native.Nat.{_+_, _-_}
-use mathlib.Core.Path.{_≡_, refl, sym, ap, _∙_}
+-- `atc_vm::atc_trimmed_line` meets its contract: by the line of the number.
+use Prim.Native.Nat.{_-_}
+use mathlib.Core.Path.{refl, sym, _∙_}
 use native.Mathlib.Omega.{arith}
-use lib.ListN.{length, take, drop, length-drop}
+use lib.ListN.{take, drop, length-drop}
 use lib.Seq.{length-take-le}
 use denote.Ref.{now}
 use Rattle.ops.proofs.Reached.{numbered-line}
@@ -9,11 +10,6 @@ use Rattle.atc_vm.proofs.Telling.{none-told, line-told, span-inside}
 use borrow.Author.Needs.{needs}
 use Rattle.atc_vm.proofs.atc_trimmed_line.Statement.{statement}
 use Rattle.atc_vm.proofs.atc_trimmed_line.Tie as tie
-use Rattle.atc_vm.proofs.atc_trimmed_line.Reads as reads
-use Rattle.atc_vm.proofs.atc_trimmed_line.Lts as lts
-use Rattle.atc_vm.proofs.tell.Reads as tell-reads
-use Rattle.ops.proofs.nth_line.Reads as nth-line-reads
-use Rattle.source.proofs.parameters.trimmed_span.Reads as trimmed-span-reads
 
 nth-line-requires : tie.Need-nth-line-requires
 nth-line-requires c κs = search needs
@@ -28,31 +24,85 @@ enum-known-step : tie.Need-enum-known-step
 enum-known-step c = search needs
 
 sub-trimmed-span : tie.Need-sub-trimmed-span
-sub-trimmed-span c = let text = now (c .before .before .before .before .before .args .text) in let n = c .before .before .before .before .before .args .line in let z = sym (c .before .before .before .nth-line .ensures) ∙ c .before .step .given .1 in let i = numbered-line text n _ z in let a = i .starts in let b = i .ends in let e = i .before in let g = i .fits in search needs
+sub-trimmed-span c =
+    let text = now (c .before .before .before .before .before .args .text) in
+    let n = c .before .before .before .before .before .args .line in
+    let z = sym (c .before .before .before .nth-line .ensures) ∙ c .before .step .given .1 in
+    let i = numbered-line text n _ z in
+    let a = i .starts in
+    let b = i .ends in
+    let e = i .before in
+    let g = i .fits in
+    search needs
 
 part-trimmed-span-start : tie.Need-part-trimmed-span-start
-part-trimmed-span-start c = let text = now (c .before .before .before .before .before .args .text) in let n = c .before .before .before .before .before .args .line in let z = sym (c .before .before .before .nth-line .ensures) ∙ c .before .step .given .1 in let i = numbered-line text n _ z in let a = i .starts in let b = i .ends in let e = i .before in let g = i .fits in search needs
+part-trimmed-span-start c =
+    let text = now (c .before .before .before .before .before .args .text) in
+    let n = c .before .before .before .before .before .args .line in
+    let z = sym (c .before .before .before .nth-line .ensures) ∙ c .before .step .given .1 in
+    let i = numbered-line text n _ z in
+    let a = i .starts in
+    let b = i .ends in
+    let e = i .before in
+    let g = i .fits in
+    search needs
 
 part-trimmed-span-end : tie.Need-part-trimmed-span-end
-part-trimmed-span-end c = let text = now (c .before .before .before .before .before .args .text) in let n = c .before .before .before .before .before .args .line in let z = sym (c .before .before .before .nth-line .ensures) ∙ c .before .step .given .1 in let i = numbered-line text n _ z in let a = i .starts in let b = i .ends in let e = i .before in let g = i .fits in search needs
+part-trimmed-span-end c =
+    let text = now (c .before .before .before .before .before .args .text) in
+    let n = c .before .before .before .before .before .args .line in
+    let z = sym (c .before .before .before .nth-line .ensures) ∙ c .before .step .given .1 in
+    let i = numbered-line text n _ z in
+    let a = i .starts in
+    let b = i .ends in
+    let e = i .before in
+    let g = i .fits in
+    search needs
 
 trimmed-span-requires : tie.Need-trimmed-span-requires
 trimmed-span-requires c κs = search needs
 
 add-t14 : tie.Need-add-t14
-add-t14 c = let text = now (c .before .before .before .before .before .before .before .before .before .args .text) in let n = c .before .before .before .before .before .before .before .before .before .args .line in let z = sym (c .before .before .before .before .before .before .before .nth-line .ensures) ∙ c .before .before .before .before .before .step .given .1 in let i = numbered-line text n _ z in let a = i .starts in let b = i .ends in let e = i .before in let g = i .fits in let r = c .before .before .before .before .before .step .given .0 .0 in let d = span-inside (take (r .end - r .start) (drop (r .start) text)) (c .before .before .trimmed-span .ensures) in let m = length-drop (r .start) text in let l = length-take-le (r .end - r .start) (drop (r .start) text) (omega (arith, m)) in omega (arith, d .0, l, m)
+add-t14 c =
+    let text = now (c .before .before .before .before .before .before .before .before .before .args .text) in
+    let n = c .before .before .before .before .before .before .before .before .before .args .line in
+    let z = sym (c .before .before .before .before .before .before .before .nth-line .ensures) ∙ c .before .before .before .before .before .step .given .1 in
+    let i = numbered-line text n _ z in
+    let a = i .starts in
+    let b = i .ends in
+    let e = i .before in
+    let g = i .fits in
+    let r = c .before .before .before .before .before .step .given .0 .0 in
+    let d = span-inside (take (r .end - r .start) (drop (r .start) text)) (c .before .before .trimmed-span .ensures) in
+    let m = length-drop (r .start) text in
+    let l = length-take-le (r .end - r .start) (drop (r .start) text) (omega (arith, m)) in
+    omega (arith, d .0, l, m)
 
 sub-t19 : tie.Need-sub-t19
-sub-t19 c = let text = now (c .before .before .before .before .before .before .before .before .before .before .args .text) in let r = c .before .before .before .before .before .before .step .given .0 .0 in span-inside (take (r .end - r .start) (drop (r .start) text)) (c .before .before .before .trimmed-span .ensures) .1
+sub-t19 c =
+    let text = now (c .before .before .before .before .before .before .before .before .before .before .args .text) in
+    let r = c .before .before .before .before .before .before .step .given .0 .0 in
+    span-inside (take (r .end - r .start) (drop (r .start) text)) (c .before .before .before .trimmed-span .ensures) .1
 
 tell-requires-2 : tie.Need-tell-requires-2
 tell-requires-2 c κs = search needs
 
 returns : tie.Need-returns
-returns c = let text = now (c .before .before .before .before .before .before .args .text) in none-told text (c .before .before .before .before .before .before .args .line) (sym (c .before .before .before .before .nth-line .ensures) ∙ c .before .before .enum-told .given .1) (c .tell .ensures)
+returns c =
+    let text = now (c .before .before .before .before .before .before .args .text) in
+    none-told text (c .before .before .before .before .before .before .args .line) (sym (c .before .before .before .before .nth-line .ensures) ∙ c .before .before .enum-told .given .1) (c .tell .ensures)
 
 returns-2 : tie.Need-returns-2
-returns-2 c = let text = now (c .before .before .before .before .before .before .before .before .before .before .before .args .text) in let n = c .before .before .before .before .before .before .before .before .before .before .before .args .line in let z = sym (c .before .before .before .before .before .before .before .before .before .nth-line .ensures) ∙ c .before .before .before .before .before .before .before .step .given .1 in let i = numbered-line text n _ z in let a = i .starts in let b = i .ends in let e = i .before in let g = i .fits in line-told text n z (c .before .before .before .before .trimmed-span .ensures) refl refl (c .tell2 .ensures)
+returns-2 c =
+    let text = now (c .before .before .before .before .before .before .before .before .before .before .before .args .text) in
+    let n = c .before .before .before .before .before .before .before .before .before .before .before .args .line in
+    let z = sym (c .before .before .before .before .before .before .before .before .before .nth-line .ensures) ∙ c .before .before .before .before .before .before .before .step .given .1 in
+    let i = numbered-line text n _ z in
+    let a = i .starts in
+    let b = i .ends in
+    let e = i .before in
+    let g = i .fits in
+    line-told text n z (c .before .before .before .before .trimmed-span .ensures) refl refl (c .tell2 .ensures)
 
 pub atc-trimmed-line-spec : {M : Type 1} → statement M
 atc-trimmed-line-spec =

@@ -1,12 +1,8 @@
+-- `atc_vm::atc_verify` meets its contract: what the call gives is told.
 use Rattle.atc_vm.proofs.Telling.{check-told}
 use borrow.Author.Needs.{needs}
 use Rattle.atc_vm.proofs.atc_verify.Statement.{statement}
 use Rattle.atc_vm.proofs.atc_verify.Tie as tie
-use Rattle.atc_vm.proofs.atc_verify.Reads as reads
-use Rattle.atc_vm.proofs.atc_verify.Lts as lts
-use Rattle.atc_vm.proofs.tell.Reads as tell-reads
-use Rattle.numbers.proofs.of_check.Reads as of-check-reads
-use Rattle.vm.proofs.verify.verify.Reads as verify-reads
 
 verify-requires : tie.Need-verify-requires
 verify-requires c κs = search needs

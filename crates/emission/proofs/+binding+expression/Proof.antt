@@ -1,14 +1,11 @@
-use Prim.Native.Nat.{_+_, _-_, _*_, _≤_}
-use mathlib.Core.Path.{_≡_, refl, sym, ap, _∙_}
+-- `emission::expression` and `emission::binding` meet their contracts: the number of bindings falls at each name.
+use Prim.Native.Nat.{_+_, _-_, _*_}
+use mathlib.Core.Path.{refl, sym, ap, _∙_}
 use native.Mathlib.Omega.{arith}
-use lib.ListN.{length, getD}
-use denote.Ref.{now}
-use Rattle.expression.specs.Source.{Sources, sourcesOf, treeOf}
-use Rattle.expression.specs.Written.{textOf}
-use Rattle.writer.specs.Pieces.{Put}
+use Rattle.expression.specs.Source.{sourcesOf}
 use Rattle.writer.proofs.Pieces.{put-length}
 use Rattle.emission.proofs.Keeping.{kept-put, kept-mark, again-fits, again-put}
-use Rattle.emission.proofs.Emitting.{Fixed, Going, Running, running-starts, running-as, going-length, factor-past, no-factor, open-room, opened, literal-fits, literal-goes, name-below, name-stands, name-fits, name-goes, turn-ready, turn-room, turn-past, turn-goes, end-fits, end-put, parameter-text, binding-means, binding-text}
+use Rattle.emission.proofs.Emitting.{Running, running-starts, running-as, factor-past, no-factor, open-room, opened, literal-fits, literal-goes, name-below, name-stands, name-fits, name-goes, turn-ready, turn-room, turn-past, turn-goes, end-fits, end-put, parameter-text, binding-means, binding-text}
 use borrow.Author.Needs.{needs}
 use Prim.Native.Nat.{ℕ, _<_}
 use borrow.Fn.Kinds.{In}
@@ -67,13 +64,18 @@ binding-element-copy-out-put-again : (t : ℕ) → binding-lts.Need-element-copy
 binding-element-copy-out-put-again t c = search needs
 
 binding-put-again-requires : (t : ℕ) → binding-lts.Need-put-again-requires (B t) (binding-at t) binding.Post
-binding-put-again-requires t c κs = let q = c .before .before .before .before .before .before .pre .1 in again-fits _ (q .1 .1) (q .1 .0) (c .before .before .if1 .taken)
+binding-put-again-requires t c κs =
+    let q = c .before .before .before .before .before .before .pre .1 in
+    again-fits _ (q .1 .1) (q .1 .0) (c .before .before .if1 .taken)
 
 binding-same-length : (t : ℕ) → binding-lts.Need-same-length (B t) (binding-at t) binding.Post
 binding-same-length t c = search needs
 
 binding-returns : (t : ℕ) → binding-lts.Need-returns (B t) (binding-at t) binding.Post
-binding-returns t c = let q = c .before .before .before .before .before .before .before .before .before .pre .1 in let p = again-put _ (q .1 .1) (q .1 .0) (c .before .before .before .before .before .if1 .taken) (c .before .before .put-again .ensures) in (p, kept-put (q .1 .1) p (q .1 .0))
+binding-returns t c =
+    let q = c .before .before .before .before .before .before .before .before .before .pre .1 in
+    let p = again-put _ (q .1 .1) (q .1 .0) (c .before .before .before .before .before .if1 .taken) (c .before .before .put-again .ensures) in
+    (p, kept-put (q .1 .1) p (q .1 .0))
 
 binding-mul-wide : (t : ℕ) → binding-lts.Need-mul-wide (B t) (binding-at t) binding.Post
 binding-mul-wide t c = search needs
@@ -91,13 +93,19 @@ binding-element-copy-out-put-push : (t : ℕ) → binding-lts.Need-element-copy-
 binding-element-copy-out-put-push t c = search needs
 
 binding-put-push-requires : (t : ℕ) → binding-lts.Need-put-push-requires (B t) (binding-at t) binding.Post
-binding-put-push-requires t c κs = let q = c .before .before .before .before .before .before .before .before .before .pre .1 in rw (parameter-text (q .0 .0) (q .0 .1) (sym (c .before .before .before .wide .ensures .0) ∙ c .before .before .if2 .taken)) at (q .1 .0)
+binding-put-push-requires t c κs =
+    let q = c .before .before .before .before .before .before .before .before .before .pre .1 in
+    rw (parameter-text (q .0 .0) (q .0 .1) (sym (c .before .before .before .wide .ensures .0) ∙ c .before .before .if2 .taken)) at (q .1 .0)
 
 binding-same-length-2 : (t : ℕ) → binding-lts.Need-same-length-2 (B t) (binding-at t) binding.Post
 binding-same-length-2 t c = search needs
 
 binding-returns-2 : (t : ℕ) → binding-lts.Need-returns-2 (B t) (binding-at t) binding.Post
-binding-returns-2 t c = let q = c .before .before .before .before .before .before .before .before .before .before .before .before .pre .1 in let e = parameter-text (q .0 .0) (q .0 .1) (sym (c .before .before .before .before .before .before .wide .ensures .0) ∙ c .before .before .before .before .before .if2 .taken) in let p = rw (← e) at (c .before .before .put-push .ensures) in (p, kept-put (q .1 .1) p (q .1 .0))
+binding-returns-2 t c =
+    let q = c .before .before .before .before .before .before .before .before .before .before .before .before .pre .1 in
+    let e = parameter-text (q .0 .0) (q .0 .1) (sym (c .before .before .before .before .before .before .wide .ensures .0) ∙ c .before .before .before .before .before .if2 .taken) in
+    let p = rw (← e) at (c .before .before .put-push .ensures) in
+    (p, kept-put (q .1 .1) p (q .1 .0))
 
 binding-mul-wide-2 : (t : ℕ) → binding-lts.Need-mul-wide-2 (B t) (binding-at t) binding.Post
 binding-mul-wide-2 t c = search needs
@@ -112,7 +120,13 @@ binding-add-expression : (t : ℕ) → binding-lts.Need-add-expression (B t) (bi
 binding-add-expression t c = search needs
 
 binding-expression-requires : (t : ℕ) → binding-lts.Need-expression-requires (B t) (binding-at t) binding.Post
-binding-expression-requires t c κs = let q = c .before .before .before .before .before .before .before .before .before .before .before .before .pre .1 in let a = c .before .before .before .wide2 .ensures .0 in let w = c .before .before .before .before .before .before .wide .ensures .0 in let z = ap (λ (k : ℕ). c .before .before .before .wide2 .result + k) w in let h = c .before .before .before .before .before .if2 .left in (omega (arith, c .before .before .before .before .before .before .before .before .before .before .before .before .pre .0), (binding-means (q .0 .0) (q .0 .1) a z (omega (arith, w, h)), (rw (binding-text (q .0 .0) (q .0 .1) a z (omega (arith, w, h))) at (q .1 .0), q .1 .1)))
+binding-expression-requires t c κs =
+    let q = c .before .before .before .before .before .before .before .before .before .before .before .before .pre .1 in
+    let a = c .before .before .before .wide2 .ensures .0 in
+    let w = c .before .before .before .before .before .before .wide .ensures .0 in
+    let z = ap (λ (k : ℕ). c .before .before .before .wide2 .result + k) w in
+    let h = c .before .before .before .before .before .if2 .left in
+    (omega (arith, c .before .before .before .before .before .before .before .before .before .before .before .before .pre .0), (binding-means (q .0 .0) (q .0 .1) a z (omega (arith, w, h)), (rw (binding-text (q .0 .0) (q .0 .1) a z (omega (arith, w, h))) at (q .1 .0), q .1 .1)))
 
 binding-mul-places : (t : ℕ) → binding-lts.Need-mul-places (B t) (binding-at t) binding.Post
 binding-mul-places t c = search needs
@@ -133,7 +147,16 @@ binding-same-length-3 : (t : ℕ) → binding-lts.Need-same-length-3 (B t) (bind
 binding-same-length-3 t c = search needs
 
 binding-returns-3 : (t : ℕ) → binding-lts.Need-returns-3 (B t) (binding-at t) binding.Post
-binding-returns-3 t c = let q = c .before .before .before .before .before .before .before .before .before .before .before .before .before .before .before .pre .1 in let a = c .before .before .before .before .before .before .wide2 .ensures .0 in let w = c .before .before .before .before .before .before .before .before .before .wide .ensures .0 in let z = ap (λ (k : ℕ). c .before .before .before .before .before .before .wide2 .result + k) w in let h = c .before .before .before .before .before .before .before .before .if2 .left in let e = c .before .before .expression .ensures in let t = binding-text (q .0 .0) (q .0 .1) a z (omega (arith, w, h)) in let p = rw (← t) at (e .0) in (p, kept-mark _ (e .1) p (q .1 .0) (q .0 .0))
+binding-returns-3 t c =
+    let q = c .before .before .before .before .before .before .before .before .before .before .before .before .before .before .before .pre .1 in
+    let a = c .before .before .before .before .before .before .wide2 .ensures .0 in
+    let w = c .before .before .before .before .before .before .before .before .before .wide .ensures .0 in
+    let z = ap (λ (k : ℕ). c .before .before .before .before .before .before .wide2 .result + k) w in
+    let h = c .before .before .before .before .before .before .before .before .if2 .left in
+    let e = c .before .before .expression .ensures in
+    let t = binding-text (q .0 .0) (q .0 .1) a z (omega (arith, w, h)) in
+    let p = rw (← t) at (e .0) in
+    (p, kept-mark _ (e .1) p (q .1 .0) (q .0 .0))
 
 abbrev expression-Inv-loop : expression-lts.InvT-loop
 expression-Inv-loop text start end count names lens starts sizes values out₀ at places₀ lengths₀ waiting₀ n₀ due₀ i₀ to₀ out places lengths waiting n due i to =
@@ -143,7 +166,9 @@ abbrev expression-μ-loop : expression-lts.MeasureT-loop
 expression-μ-loop text start end count names lens starts sizes values out₀ at places₀ lengths₀ waiting₀ n₀ due₀ i₀ to₀ out places lengths waiting n due i to = end - i
 
 expression-loop-holds : (t : ℕ) → expression-lts.Need-loop-holds (E t) (expression-at t) expression.Post expression-Inv-loop expression-μ-loop
-expression-loop-holds t c = let q = c .before .before .pre .1 in running-starts (q .0) (q .1 .0) (q .1 .1) refl
+expression-loop-holds t c =
+    let q = c .before .before .pre .1 in
+    running-starts (q .0) (q .1 .0) (q .1 .1) refl
 
 expression-factor-at-requires : (t : ℕ) → expression-lts.Need-factor-at-requires (E t) (expression-at t) expression.Post expression-Inv-loop expression-μ-loop
 expression-factor-at-requires t c κs = search needs
@@ -152,67 +177,111 @@ expression-enum-told : (t : ℕ) → expression-lts.Need-enum-told (E t) (expres
 expression-enum-told t c = search needs
 
 expression-array-write-waiting : (t : ℕ) → expression-lts.Need-array-write-waiting (E t) (expression-at t) expression.Post expression-Inv-loop expression-μ-loop
-expression-array-write-waiting t c = let v = running-as (c .before .before .before .before .before .loop .inv) (c .before .before .before .if1 .taken) in open-room (v .fixed) (v .going) (c .before .before .factor-at .ensures) (c .enum-told .given .1)
+expression-array-write-waiting t c =
+    let v = running-as (c .before .before .before .before .before .loop .inv) (c .before .before .before .if1 .taken) in
+    open-room (v .fixed) (v .going) (c .before .before .factor-at .ensures) (c .enum-told .given .1)
 
 expression-add-n : (t : ℕ) → expression-lts.Need-add-n (E t) (expression-at t) expression.Post expression-Inv-loop expression-μ-loop
 expression-add-n t c = search needs
 
 expression-loop-less : (t : ℕ) → expression-lts.Need-loop-less (E t) (expression-at t) expression.Post expression-Inv-loop expression-μ-loop
-expression-loop-less t c = let v = running-as (c .before .before .before .before .before .loop .inv) (c .before .before .before .if1 .taken) in factor-past (v .fixed) (v .going) (c .before .before .factor-at .ensures) (c .before .before .before .before .loop-test .taken)
+expression-loop-less t c =
+    let v = running-as (c .before .before .before .before .before .loop .inv) (c .before .before .before .if1 .taken) in
+    factor-past (v .fixed) (v .going) (c .before .before .factor-at .ensures) (c .before .before .before .before .loop-test .taken)
 
 expression-loop-again : (t : ℕ) → expression-lts.Need-loop-again (E t) (expression-at t) expression.Post expression-Inv-loop expression-μ-loop
-expression-loop-again t c = let d = c .before .before .before .if1 .taken in let v = running-as (c .before .before .before .before .before .loop .inv) d in running-as (record { fixed = v .fixed; going = opened (v .fixed) (v .going) (c .before .before .factor-at .ensures) (c .enum-told .given .1); kept = v .kept }) (sym d)
+expression-loop-again t c =
+    let d = c .before .before .before .if1 .taken in
+    let v = running-as (c .before .before .before .before .before .loop .inv) d in
+    running-as (record { fixed = v .fixed; going = opened (v .fixed) (v .going) (c .before .before .factor-at .ensures) (c .enum-told .given .1); kept = v .kept }) (sym d)
 
 expression-enum-known-factor : (t : ℕ) → expression-lts.Need-enum-known-factor (E t) (expression-at t) expression.Post expression-Inv-loop expression-μ-loop
 expression-enum-known-factor t c = search needs
 
 expression-put-push-requires : (t : ℕ) → expression-lts.Need-put-push-requires (E t) (expression-at t) expression.Post expression-Inv-loop expression-μ-loop
-expression-put-push-requires t c κs = let v = running-as (c .before .before .before .before .before .before .before .loop .inv) (c .before .before .before .before .before .if1 .taken) in literal-fits (v .fixed) (v .going) (c .before .before .before .before .factor-at .ensures) _ (c .before .before .factor .given .1)
+expression-put-push-requires t c κs =
+    let v = running-as (c .before .before .before .before .before .before .before .loop .inv) (c .before .before .before .before .before .if1 .taken) in
+    literal-fits (v .fixed) (v .going) (c .before .before .before .before .factor-at .ensures) _ (c .before .before .factor .given .1)
 
 expression-loop-less-2 : (t : ℕ) → expression-lts.Need-loop-less-2 (E t) (expression-at t) expression.Post expression-Inv-loop expression-μ-loop
-expression-loop-less-2 t c = let v = running-as (c .before .before .before .before .before .before .before .before .before .before .loop .inv) (c .before .before .before .before .before .before .before .before .if1 .taken) in factor-past (v .fixed) (v .going) (c .before .before .before .before .before .before .before .factor-at .ensures) (c .before .before .before .before .before .before .before .before .before .loop-test .taken)
+expression-loop-less-2 t c =
+    let v = running-as (c .before .before .before .before .before .before .before .before .before .before .loop .inv) (c .before .before .before .before .before .before .before .before .if1 .taken) in
+    factor-past (v .fixed) (v .going) (c .before .before .before .before .before .before .before .factor-at .ensures) (c .before .before .before .before .before .before .before .before .before .loop-test .taken)
 
 expression-loop-again-2 : (t : ℕ) → expression-lts.Need-loop-again-2 (E t) (expression-at t) expression.Post expression-Inv-loop expression-μ-loop
-expression-loop-again-2 t c = let v = running-as (c .before .before .before .before .before .before .before .before .before .before .loop .inv) (c .before .before .before .before .before .before .before .before .if1 .taken) in let e = c .before .before .put-push .ensures in let q = c .before .before .before .before .before .factor .given .1 in record { fixed = v .fixed; going = literal-goes (v .fixed) (v .going) (c .before .before .before .before .before .before .before .factor-at .ensures) _ q e; kept = kept-put (v .kept) e (literal-fits (v .fixed) (v .going) (c .before .before .before .before .before .before .before .factor-at .ensures) _ q) }
+expression-loop-again-2 t c =
+    let v = running-as (c .before .before .before .before .before .before .before .before .before .before .loop .inv) (c .before .before .before .before .before .before .before .before .if1 .taken) in
+    let e = c .before .before .put-push .ensures in
+    let q = c .before .before .before .before .before .factor .given .1 in
+    record { fixed = v .fixed; going = literal-goes (v .fixed) (v .going) (c .before .before .before .before .before .before .before .factor-at .ensures) _ q e; kept = kept-put (v .kept) e (literal-fits (v .fixed) (v .going) (c .before .before .before .before .before .before .before .factor-at .ensures) _ q) }
 
 expression-enum-known-factor-2 : (t : ℕ) → expression-lts.Need-enum-known-factor-2 (E t) (expression-at t) expression.Post expression-Inv-loop expression-μ-loop
 expression-enum-known-factor-2 t c = search needs
 
 expression-binding-requires : (t : ℕ) → expression-lts.Need-binding-requires (E t) (expression-at t) expression.Post expression-Inv-loop expression-μ-loop
-expression-binding-requires t c κs = let v = running-as (c .before .before .before .before .before .before .before .before .before .loop .inv) (c .before .before .before .before .before .before .before .if1 .taken) in let q = c .before .before .before .before .factor2 .given .1 in let b = c .before .before .before .before .factor2 .given .0 .0 in let l = name-below (v .fixed) (v .going) (c .before .before .before .before .before .before .factor-at .ensures) b q in (omega (arith, c .before .before .before .before .before .before .before .before .before .before .before .before .pre .0, l), ((omega (arith, l, c .before .before .before .before .before .before .before .before .before .before .before .before .pre .1 .0 .few), name-stands (v .fixed) (v .going) (c .before .before .before .before .before .before .factor-at .ensures) b q), (name-fits (v .fixed) (v .going) (c .before .before .before .before .before .before .factor-at .ensures) b q, v .kept)))
+expression-binding-requires t c κs =
+    let v = running-as (c .before .before .before .before .before .before .before .before .before .loop .inv) (c .before .before .before .before .before .before .before .if1 .taken) in
+    let q = c .before .before .before .before .factor2 .given .1 in
+    let b = c .before .before .before .before .factor2 .given .0 .0 in
+    let l = name-below (v .fixed) (v .going) (c .before .before .before .before .before .before .factor-at .ensures) b q in
+    (omega (arith, c .before .before .before .before .before .before .before .before .before .before .before .before .pre .0, l), ((omega (arith, l, c .before .before .before .before .before .before .before .before .before .before .before .before .pre .1 .0 .few), name-stands (v .fixed) (v .going) (c .before .before .before .before .before .before .factor-at .ensures) b q), (name-fits (v .fixed) (v .going) (c .before .before .before .before .before .before .factor-at .ensures) b q, v .kept)))
 
 expression-loop-less-3 : (t : ℕ) → expression-lts.Need-loop-less-3 (E t) (expression-at t) expression.Post expression-Inv-loop expression-μ-loop
-expression-loop-less-3 t c = let v = running-as (c .before .before .before .before .before .before .before .before .before .before .before .before .loop .inv) (c .before .before .before .before .before .before .before .before .before .before .if1 .taken) in factor-past (v .fixed) (v .going) (c .before .before .before .before .before .before .before .before .before .factor-at .ensures) (c .before .before .before .before .before .before .before .before .before .before .before .loop-test .taken)
+expression-loop-less-3 t c =
+    let v = running-as (c .before .before .before .before .before .before .before .before .before .before .before .before .loop .inv) (c .before .before .before .before .before .before .before .before .before .before .if1 .taken) in
+    factor-past (v .fixed) (v .going) (c .before .before .before .before .before .before .before .before .before .factor-at .ensures) (c .before .before .before .before .before .before .before .before .before .before .before .loop-test .taken)
 
 expression-loop-again-3 : (t : ℕ) → expression-lts.Need-loop-again-3 (E t) (expression-at t) expression.Post expression-Inv-loop expression-μ-loop
-expression-loop-again-3 t c = let v = running-as (c .before .before .before .before .before .before .before .before .before .before .before .before .loop .inv) (c .before .before .before .before .before .before .before .before .before .before .if1 .taken) in let e = c .before .before .binding .ensures in record { fixed = v .fixed; going = name-goes (v .fixed) (v .going) (c .before .before .before .before .before .before .before .before .before .factor-at .ensures) _ (c .before .before .before .before .before .before .before .factor2 .given .1) (e .0); kept = e .1 }
+expression-loop-again-3 t c =
+    let v = running-as (c .before .before .before .before .before .before .before .before .before .before .before .before .loop .inv) (c .before .before .before .before .before .before .before .before .before .before .if1 .taken) in
+    let e = c .before .before .binding .ensures in
+    record { fixed = v .fixed; going = name-goes (v .fixed) (v .going) (c .before .before .before .before .before .before .before .before .before .factor-at .ensures) _ (c .before .before .before .before .before .before .before .factor2 .given .1) (e .0); kept = e .1 }
 
 expression-enum-told-2 : (t : ℕ) → expression-lts.Need-enum-told-2 (E t) (expression-at t) expression.Post expression-Inv-loop expression-μ-loop
 expression-enum-told-2 t c = search needs
 
 expression-same-length : (t : ℕ) → expression-lts.Need-same-length (E t) (expression-at t) expression.Post expression-Inv-loop expression-μ-loop
-expression-same-length t c = let v = running-as (c .before .before .before .before .before .loop .inv) (c .before .before .before .if1 .taken) in absurd (no-factor (v .fixed) (v .going) (c .before .before .factor-at .ensures) (c .enum-told2 .given .1))
+expression-same-length t c =
+    let v = running-as (c .before .before .before .before .before .loop .inv) (c .before .before .before .if1 .taken) in
+    absurd (no-factor (v .fixed) (v .going) (c .before .before .factor-at .ensures) (c .enum-told2 .given .1))
 
 expression-returns : (t : ℕ) → expression-lts.Need-returns (E t) (expression-at t) expression.Post expression-Inv-loop expression-μ-loop
-expression-returns t c = let v = running-as (c .before .before .before .before .before .loop .inv) (c .before .before .before .if1 .taken) in absurd (no-factor (v .fixed) (v .going) (c .before .before .factor-at .ensures) (c .enum-told2 .given .1))
+expression-returns t c =
+    let v = running-as (c .before .before .before .before .before .loop .inv) (c .before .before .before .if1 .taken) in
+    absurd (no-factor (v .fixed) (v .going) (c .before .before .factor-at .ensures) (c .enum-told2 .given .1))
 
 expression-operate-requires : (t : ℕ) → expression-lts.Need-operate-requires (E t) (expression-at t) expression.Post expression-Inv-loop expression-μ-loop
-expression-operate-requires t c κs = let v = running-as (c .before .before .before .before .loop .inv) (c .before .before .if1 .left) in turn-ready (v .fixed) (v .going)
+expression-operate-requires t c κs =
+    let v = running-as (c .before .before .before .before .loop .inv) (c .before .before .if1 .left) in
+    turn-ready (v .fixed) (v .going)
 
 expression-loop-less-4 : (t : ℕ) → expression-lts.Need-loop-less-4 (E t) (expression-at t) expression.Post expression-Inv-loop expression-μ-loop
-expression-loop-less-4 t c = let v = running-as (c .before .before .before .before .before .before .before .loop .inv) (c .before .before .before .before .before .if1 .left) in turn-past (v .fixed) (v .going) (c .before .before .before .before .before .before .loop-test .taken) (c .before .before .operate .ensures)
+expression-loop-less-4 t c =
+    let v = running-as (c .before .before .before .before .before .before .before .loop .inv) (c .before .before .before .before .before .if1 .left) in
+    turn-past (v .fixed) (v .going) (c .before .before .before .before .before .before .loop-test .taken) (c .before .before .operate .ensures)
 
 expression-loop-again-4 : (t : ℕ) → expression-lts.Need-loop-again-4 (E t) (expression-at t) expression.Post expression-Inv-loop expression-μ-loop
-expression-loop-again-4 t c = let v = running-as (c .before .before .before .before .before .before .before .loop .inv) (c .before .before .before .before .before .if1 .left) in let e = c .before .before .operate .ensures in record { fixed = v .fixed; going = turn-goes (v .fixed) (v .going) e; kept = kept-put (v .kept) (e .put) (turn-room (v .fixed) (v .going)) }
+expression-loop-again-4 t c =
+    let v = running-as (c .before .before .before .before .before .before .before .loop .inv) (c .before .before .before .before .before .if1 .left) in
+    let e = c .before .before .operate .ensures in
+    record { fixed = v .fixed; going = turn-goes (v .fixed) (v .going) e; kept = kept-put (v .kept) (e .put) (turn-room (v .fixed) (v .going)) }
 
 expression-pop-requires : (t : ℕ) → expression-lts.Need-pop-requires (E t) (expression-at t) expression.Post expression-Inv-loop expression-μ-loop
-expression-pop-requires t c κs = let v = c .before .before .before .loop .inv in (v .going .few, end-fits (v .fixed) (v .going) (c .before .before .loop-test .left))
+expression-pop-requires t c κs =
+    let v = c .before .before .before .loop .inv in
+    (v .going .few, end-fits (v .fixed) (v .going) (c .before .before .loop-test .left))
 
 expression-same-length-2 : (t : ℕ) → expression-lts.Need-same-length-2 (E t) (expression-at t) expression.Post expression-Inv-loop expression-μ-loop
-expression-same-length-2 t c = let v = c .before .before .before .before .before .before .loop .inv in put-length (end-put (v .fixed) (v .going) (c .before .before .before .before .before .loop-test .left) (c .before .before .pop .ensures .put)) (v .fixed .room)
+expression-same-length-2 t c =
+    let v = c .before .before .before .before .before .before .loop .inv in
+    put-length (end-put (v .fixed) (v .going) (c .before .before .before .before .before .loop-test .left) (c .before .before .pop .ensures .put)) (v .fixed .room)
 
 expression-returns-2 : (t : ℕ) → expression-lts.Need-returns-2 (E t) (expression-at t) expression.Post expression-Inv-loop expression-μ-loop
-expression-returns-2 t c = let v = c .before .before .before .before .before .before .loop .inv in let l = c .before .before .before .before .before .loop-test .left in let e = c .before .before .pop .ensures .put in (end-put (v .fixed) (v .going) l e, kept-put (v .kept) e (end-fits (v .fixed) (v .going) l))
+expression-returns-2 t c =
+    let v = c .before .before .before .before .before .before .loop .inv in
+    let l = c .before .before .before .before .before .loop-test .left in
+    let e = c .before .before .pop .ensures .put in
+    (end-put (v .fixed) (v .going) l e, kept-put (v .kept) e (end-fits (v .fixed) (v .going) l))
 
 pub +binding+expression-spec : {M : Type 1} → statement M
 +binding+expression-spec = close μ-binding μ-expression (λ t. binding-lts.spec (B t)

@@ -1,4 +1,5 @@
-use mathlib.Core.Path.{_≡_, refl}
+-- `numbers::of_assembly` meets its contract: case by case.
+use mathlib.Core.Path.{refl}
 use Rattle.assembly.specs.declared.Answer.{Answer}
 use Rattle.assembly.specs.Answers.{answerOf}
 use Rattle.numbers.specs.Numbered.{assemblyNumber, assemblyValues}
@@ -8,9 +9,6 @@ use Rattle.numbers.proofs.Told.{told}
 use borrow.Author.Needs.{needs}
 use Rattle.numbers.proofs.of_assembly.Statement.{statement}
 use Rattle.numbers.proofs.of_assembly.Tie as tie
-use Rattle.numbers.proofs.of_assembly.Reads as reads
-use Rattle.numbers.proofs.of_assembly.Lts as lts
-use Rattle.numbers.proofs.of_refusal.Reads as of-refusal-reads
 
 abbrev Of : Answer → Numbered → Type 0
 Of x r = Says (assemblyNumber (answerOf x)) (assemblyValues (answerOf x)) r

@@ -1,4 +1,5 @@
-use mathlib.Core.Path.{_≡_, refl}
+-- `numbers::of_check` meets its contract: case by case.
+use mathlib.Core.Path.{refl}
 use Rattle.vm.specs.declared.Check.{Check}
 use Rattle.vm.specs.Numbers.{checkNumbered}
 use Rattle.numbers.specs.declared.Numbered.{Numbered}
@@ -7,10 +8,6 @@ use Rattle.numbers.proofs.Told.{told}
 use borrow.Author.Needs.{needs}
 use Rattle.numbers.proofs.of_check.Statement.{statement}
 use Rattle.numbers.proofs.of_check.Tie as tie
-use Rattle.numbers.proofs.of_check.Reads as reads
-use Rattle.numbers.proofs.of_check.Lts as lts
-use Rattle.numbers.proofs.of_run_refusal.Reads as of-run-refusal-reads
-use Rattle.numbers.proofs.plain.Reads as plain-reads
 
 abbrev Of : Check → Numbered → Type 0
 Of x r = Says (checkNumbered x .number) (checkNumbered x .carried) r

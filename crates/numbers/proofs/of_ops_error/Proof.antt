@@ -1,4 +1,5 @@
-use mathlib.Core.Path.{_≡_, refl}
+-- `numbers::of_ops_error` meets its contract: case by case.
+use mathlib.Core.Path.{refl}
 use Rattle.ops.specs.declared.OpsError.{OpsError}
 use Rattle.ops.specs.Ops.{numberOfError, valuesOfError}
 use Rattle.numbers.specs.declared.Numbered.{Numbered}
@@ -7,10 +8,6 @@ use Rattle.numbers.proofs.Told.{told}
 use borrow.Author.Needs.{needs}
 use Rattle.numbers.proofs.of_ops_error.Statement.{statement}
 use Rattle.numbers.proofs.of_ops_error.Tie as tie
-use Rattle.numbers.proofs.of_ops_error.Reads as reads
-use Rattle.numbers.proofs.of_ops_error.Lts as lts
-use Rattle.numbers.proofs.carrying.Reads as carrying-reads
-use Rattle.numbers.proofs.plain.Reads as plain-reads
 
 abbrev Of : OpsError → Numbered → Type 0
 Of x r = Says (numberOfError x) (valuesOfError x) r

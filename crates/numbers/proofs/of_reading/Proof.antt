@@ -1,4 +1,5 @@
-use mathlib.Core.Path.{_≡_, refl}
+-- `numbers::of_reading` meets its contract: case by case.
+use mathlib.Core.Path.{refl}
 use Rattle.ops.specs.declared.ParsedOps.{ParsedOps}
 use Rattle.ops.specs.Ops.{numberOfAnswer, valuesOfAnswer}
 use Rattle.numbers.specs.declared.Numbered.{Numbered}
@@ -7,10 +8,6 @@ use Rattle.numbers.proofs.Told.{told}
 use borrow.Author.Needs.{needs}
 use Rattle.numbers.proofs.of_reading.Statement.{statement}
 use Rattle.numbers.proofs.of_reading.Tie as tie
-use Rattle.numbers.proofs.of_reading.Reads as reads
-use Rattle.numbers.proofs.of_reading.Lts as lts
-use Rattle.numbers.proofs.carrying.Reads as carrying-reads
-use Rattle.numbers.proofs.of_ops_error.Reads as of-ops-error-reads
 
 abbrev Of : ParsedOps → Numbered → Type 0
 Of x r = Says (numberOfAnswer x) (valuesOfAnswer x) r

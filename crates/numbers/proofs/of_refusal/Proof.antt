@@ -1,4 +1,5 @@
-use mathlib.Core.Path.{_≡_, refl}
+-- `numbers::of_refusal` meets its contract: case by case.
+use mathlib.Core.Path.{refl}
 use Rattle.assembler.specs.declared.refusal.Refusal.{Refusal}
 use Rattle.assembler.specs.Numbers.{refusalOf}
 use Rattle.numbers.specs.declared.Numbered.{Numbered}
@@ -7,12 +8,6 @@ use Rattle.numbers.proofs.Told.{told}
 use borrow.Author.Needs.{needs}
 use Rattle.numbers.proofs.of_refusal.Statement.{statement}
 use Rattle.numbers.proofs.of_refusal.Tie as tie
-use Rattle.numbers.proofs.of_refusal.Reads as reads
-use Rattle.numbers.proofs.of_refusal.Lts as lts
-use Rattle.numbers.proofs.carrying.Reads as carrying-reads
-use Rattle.numbers.proofs.expression_number.Reads as expression-number-reads
-use Rattle.numbers.proofs.function_number.Reads as function-number-reads
-use Rattle.numbers.proofs.plain.Reads as plain-reads
 
 abbrev Of : Refusal → Numbered → Type 0
 Of x r = Says (refusalOf x .number) (refusalOf x .values) r

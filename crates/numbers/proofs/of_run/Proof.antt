@@ -1,4 +1,5 @@
-use mathlib.Core.Path.{_≡_, refl}
+-- `numbers::of_run` meets its contract: case by case.
+use mathlib.Core.Path.{refl}
 use Rattle.vm.specs.declared.Answer.{Answer}
 use Rattle.vm.specs.Numbers.{answerNumbered}
 use Rattle.numbers.specs.declared.Numbered.{Numbered}
@@ -7,9 +8,6 @@ use Rattle.numbers.proofs.Told.{told}
 use borrow.Author.Needs.{needs}
 use Rattle.numbers.proofs.of_run.Statement.{statement}
 use Rattle.numbers.proofs.of_run.Tie as tie
-use Rattle.numbers.proofs.of_run.Reads as reads
-use Rattle.numbers.proofs.of_run.Lts as lts
-use Rattle.numbers.proofs.of_run_refusal.Reads as of-run-refusal-reads
 
 abbrev Of : Answer → Numbered → Type 0
 Of x r = Says (answerNumbered x .number) (answerNumbered x .carried) r

@@ -1,4 +1,5 @@
-use mathlib.Core.Path.{_≡_, refl}
+-- `numbers::of_run_refusal` meets its contract: case by case.
+use mathlib.Core.Path.{refl}
 use Rattle.machine.specs.declared.Refusal.{Refusal}
 use Rattle.vm.specs.Numbers.{refusalNumbered}
 use Rattle.numbers.specs.declared.Numbered.{Numbered}
@@ -7,11 +8,6 @@ use Rattle.numbers.proofs.Told.{told}
 use borrow.Author.Needs.{needs}
 use Rattle.numbers.proofs.of_run_refusal.Statement.{statement}
 use Rattle.numbers.proofs.of_run_refusal.Tie as tie
-use Rattle.numbers.proofs.of_run_refusal.Reads as reads
-use Rattle.numbers.proofs.of_run_refusal.Lts as lts
-use Rattle.numbers.proofs.carrying.Reads as carrying-reads
-use Rattle.numbers.proofs.context_number.Reads as context-number-reads
-use Rattle.numbers.proofs.plain.Reads as plain-reads
 
 abbrev Of : Refusal → Numbered → Type 0
 Of x r = Says (refusalNumbered x .number) (refusalNumbered x .carried) r

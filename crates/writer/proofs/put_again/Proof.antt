@@ -1,14 +1,11 @@
+-- `writer::put_again` meets its contract: byte by byte, each read before the place.
 use Prim.Native.Nat.{_+_, _-_}
-use mathlib.Core.Path.{_≡_, refl}
 use native.Mathlib.Omega.{arith}
-use lib.ListN.{length}
 use lib.Seq.{slice}
 use Rattle.writer.proofs.Pieces.{Filling, fill-none, fill-length, fill-more, fill-all, again-length, again-byte}
 use borrow.Author.Needs.{needs}
 use Rattle.writer.proofs.put_again.Statement.{statement}
 use Rattle.writer.proofs.put_again.Tie as tie
-use Rattle.writer.proofs.put_again.Reads as reads
-use Rattle.writer.proofs.put_again.Lts as lts
 
 abbrev Inv-loop : tie.InvT-loop
 Inv-loop out₀ at from len j₀ out j = Filling out₀ at (slice from (from + len) out₀) out j
@@ -17,7 +14,9 @@ abbrev μ-loop : tie.MeasureT-loop
 μ-loop out₀ at from len j₀ out j = len - j
 
 loop-holds : tie.Need-loop-holds Inv-loop μ-loop
-loop-holds c = let n = again-length (c .args .out .now) (c .args .at) (c .args .from) (c .args .len) (c .pre .0) (c .pre .1) in fill-none (c .args .out .now) (c .args .at) _ (omega (arith, n, c .pre .1))
+loop-holds c =
+    let n = again-length (c .args .out .now) (c .args .at) (c .args .from) (c .args .len) (c .pre .0) (c .pre .1) in
+    fill-none (c .args .out .now) (c .args .at) _ (omega (arith, n, c .pre .1))
 
 add-b : tie.Need-add-b Inv-loop μ-loop
 add-b c = search needs
@@ -38,7 +37,11 @@ loop-less : tie.Need-loop-less Inv-loop μ-loop
 loop-less c = search needs
 
 loop-again : tie.Need-loop-again Inv-loop μ-loop
-loop-again c = let a = c .before .before .before .args in let q = c .before .before .before .pre in let f = c .before .before .loop .inv in fill-more f _ (omega (arith, again-length (a .out .now) (a .at) (a .from) (a .len) (q .0) (q .1))) (again-byte (a .out .now) (a .at) (a .from) (a .len) (q .0) (q .1) f (omega arith))
+loop-again c =
+    let a = c .before .before .before .args in
+    let q = c .before .before .before .pre in
+    let f = c .before .before .loop .inv in
+    fill-more f _ (omega (arith, again-length (a .out .now) (a .at) (a .from) (a .len) (q .0) (q .1))) (again-byte (a .out .now) (a .at) (a .from) (a .len) (q .0) (q .1) f (omega arith))
 
 add-result : tie.Need-add-result Inv-loop μ-loop
 add-result c = search needs

@@ -1,13 +1,12 @@
+-- `writer::put_bytes` meets its contract: byte by byte.
 use Prim.Native.Nat.{_-_}
-use mathlib.Core.Path.{_≡_, refl, sym, _∙_}
+use mathlib.Core.Path.{_≡_, refl}
 use native.Mathlib.Omega.{arith}
 use lib.ListN.{length}
 use Rattle.writer.proofs.Pieces.{Filling, fill-none, fill-length, fill-more, fill-all}
 use borrow.Author.Needs.{needs}
 use Rattle.writer.proofs.put_bytes.Statement.{statement}
 use Rattle.writer.proofs.put_bytes.Tie as tie
-use Rattle.writer.proofs.put_bytes.Reads as reads
-use Rattle.writer.proofs.put_bytes.Lts as lts
 
 abbrev Inv-loop : tie.InvT-loop
 Inv-loop out₀ at bytes n j₀ out j = (n ≡ length bytes) × Filling out₀ at bytes out j
@@ -25,7 +24,9 @@ add-out : tie.Need-add-out Inv-loop μ-loop
 add-out c = search needs
 
 slice-write-out : tie.Need-slice-write-out Inv-loop μ-loop
-slice-write-out c = let f = c .before .before .loop .inv in omega (arith, fill-length (f .1), f .0, f .1 .room)
+slice-write-out c =
+    let f = c .before .before .loop .inv in
+    omega (arith, fill-length (f .1), f .0, f .1 .room)
 
 add-j : tie.Need-add-j Inv-loop μ-loop
 add-j c = search needs
@@ -34,7 +35,9 @@ loop-less : tie.Need-loop-less Inv-loop μ-loop
 loop-less c = search needs
 
 loop-again : tie.Need-loop-again Inv-loop μ-loop
-loop-again c = let f = c .before .before .loop .inv in (f .0, fill-more (f .1) _ (omega (arith, f .0)) refl)
+loop-again c =
+    let f = c .before .before .loop .inv in
+    (f .0, fill-more (f .1) _ (omega (arith, f .0)) refl)
 
 add-result : tie.Need-add-result Inv-loop μ-loop
 add-result c = search needs

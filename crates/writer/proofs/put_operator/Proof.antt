@@ -1,5 +1,5 @@
-use Prim.Native.Nat.{ℕ}
-use mathlib.Core.Path.{_≡_, ap}
+-- `writer::put_operator` meets its contract: by the sign.
+use mathlib.Core.Path.{ap}
 use native.Mathlib.Omega.{arith}
 use lib.ListN.{length}
 use Rattle.writer.specs.Pieces.{operatorText}
@@ -7,9 +7,6 @@ use Rattle.writer.proofs.Pieces.{operator-div}
 use borrow.Author.Needs.{needs}
 use Rattle.writer.proofs.put_operator.Statement.{statement}
 use Rattle.writer.proofs.put_operator.Tie as tie
-use Rattle.writer.proofs.put_operator.Reads as reads
-use Rattle.writer.proofs.put_operator.Lts as lts
-use Rattle.writer.proofs.put_bytes.Reads as put-bytes-reads
 
 slice-aggregate-put-bytes : tie.Need-slice-aggregate-put-bytes
 slice-aggregate-put-bytes c = search needs

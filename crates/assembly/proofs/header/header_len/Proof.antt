@@ -1,3 +1,4 @@
+-- `assembly::header::header_len` meets its contract: the pieces' lengths.
 use native.Mathlib.Omega.{arith}
 use denote.Ref.{now}
 use Rattle.number.proofs.Decimal.{length-word}
@@ -5,9 +6,6 @@ use Rattle.assembly.proofs.Outputs.{header-length}
 use borrow.Author.Needs.{needs}
 use Rattle.assembly.proofs.header.header_len.Statement.{statement}
 use Rattle.assembly.proofs.header.header_len.Tie as tie
-use Rattle.assembly.proofs.header.header_len.Reads as reads
-use Rattle.assembly.proofs.header.header_len.Lts as lts
-use Rattle.number.proofs.decimal_len.Reads as decimal-len-reads
 
 add-result : tie.Need-add-result
 add-result c = search needs
@@ -19,7 +17,9 @@ add-result-2 : tie.Need-add-result-2
 add-result-2 c = omega (arith, length-word (c .before .before .args .expected) (omega arith), c .decimal-len .ensures, c .before .before .pre)
 
 returns : tie.Need-returns
-returns c = let a = c .before .before .args in omega (arith, header-length (now (a .stem)) (a .expected), c .decimal-len .ensures)
+returns c =
+    let a = c .before .before .args in
+    omega (arith, header-length (now (a .stem)) (a .expected), c .decimal-len .ensures)
 
 pub header-len-spec : {M : Type 1} → statement M
 header-len-spec = tie.close (tie.spec add-result decimal-len-requires add-result-2 returns)

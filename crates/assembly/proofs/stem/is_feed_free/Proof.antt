@@ -1,3 +1,4 @@
+-- `assembly::stem::is_feed_free` meets its contract: byte by byte.
 use Prim.Native.Nat.{_-_}
 use mathlib.Core.Path.{_≡_, refl, sym, _∙_}
 use lib.ListN.{length, drop}
@@ -6,8 +7,6 @@ use Rattle.assembly.proofs.Stems.{feed-here, feed-next, feed-end}
 use borrow.Author.Needs.{needs}
 use Rattle.assembly.proofs.stem.is_feed_free.Statement.{statement}
 use Rattle.assembly.proofs.stem.is_feed_free.Tie as tie
-use Rattle.assembly.proofs.stem.is_feed_free.Reads as reads
-use Rattle.assembly.proofs.stem.is_feed_free.Lts as lts
 
 abbrev Inv-loop : tie.InvT-loop
 Inv-loop stem i₀ i = feedFree stem ≡ feedFree (drop i stem)

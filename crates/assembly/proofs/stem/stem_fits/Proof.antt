@@ -1,14 +1,11 @@
+-- `assembly::stem::stem_fits` meets its contract: test by test.
 use denote.Ref.{now}
-use mathlib.Core.Path.{_≡_, sym, _∙_}
+use mathlib.Core.Path.{sym, _∙_}
 use borrow.Author.Tests.{not-true, not-false}
 use Rattle.assembly.proofs.Stems.{stem-empty, stem-long, stem-bytes, stem-lines}
 use borrow.Author.Needs.{needs}
 use Rattle.assembly.proofs.stem.stem_fits.Statement.{statement}
 use Rattle.assembly.proofs.stem.stem_fits.Tie as tie
-use Rattle.assembly.proofs.stem.stem_fits.Reads as reads
-use Rattle.assembly.proofs.stem.stem_fits.Lts as lts
-use Rattle.assembly.proofs.stem.is_feed_free.Reads as is-feed-free-reads
-use Rattle.utf8.proofs.is_utf8.Reads as is-utf8-reads
 
 returns : tie.Need-returns
 returns c = stem-empty (now (c .before .before .args .stem)) (c .if1 .taken)

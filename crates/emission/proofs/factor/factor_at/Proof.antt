@@ -1,5 +1,6 @@
+-- `emission::factor::factor_at` meets its contract: by the first token.
 use Prim.Native.Nat.{ℕ}
-use mathlib.Core.Path.{_≡_, refl, sym, ap, _∙_}
+use mathlib.Core.Path.{_≡_, sym, _∙_}
 use native.Mathlib.Omega.{arith}
 use lib.Seq.{length-take-le}
 use denote.Ref.{now}
@@ -9,14 +10,6 @@ use Rattle.emission.proofs.Factors.{factor-none, token, token-inside, f
 use borrow.Author.Needs.{needs}
 use Rattle.emission.proofs.factor.factor_at.Statement.{statement}
 use Rattle.emission.proofs.factor.factor_at.Tie as tie
-use Rattle.emission.proofs.factor.factor_at.Reads as reads
-use Rattle.emission.proofs.factor.factor_at.Lts as lts
-use Rattle.emission.proofs.factor.literal.Reads as literal-reads
-use Rattle.emission.proofs.factor.named.Reads as named-reads
-use Rattle.expression.proofs.names.lookup.Reads as lookup-reads
-use Rattle.expression.proofs.parts.lone_byte.Reads as lone-byte-reads
-use Rattle.token.proofs.is_digit.Reads as is-digit-reads
-use Rattle.token.proofs.token_at.Reads as token-at-reads
 
 with-factor : (end : ℕ) {f g : Factor} {r : FactorAt} → f ≡ g → _≡_ {A = FactorAt} (record { factor = g; end = end }) r → _≡_ {A = FactorAt} (record { factor = f; end = end }) r
 with-factor end p q = cc
@@ -28,16 +21,30 @@ token-at-requires : tie.Need-token-at-requires
 token-at-requires c κs = search needs
 
 returns : tie.Need-returns
-returns c = let a = c .before .before .before .before .args in let q = c .before .before .before .before .pre in factor-none (now (a .text)) (a .end) (a .at) (a .count) (now (a .names)) (now (a .lens)) (c .before .token-at .result) (c .before .token-at .ensures) (c .if1 .taken)
+returns c =
+    let a = c .before .before .before .before .args in
+    let q = c .before .before .before .before .pre in
+    factor-none (now (a .text)) (a .end) (a .at) (a .count) (now (a .names)) (now (a .lens)) (c .before .token-at .result) (c .before .token-at .ensures) (c .if1 .taken)
 
 lone-byte-requires : tie.Need-lone-byte-requires
-lone-byte-requires c κs = let a = c .before .before .before .before .args in let q = c .before .before .before .before .pre in let n = token (now (a .text)) (a .end) (a .at) (a .count) (now (a .names)) (now (a .lens)) (c .before .token-at .result) (c .before .token-at .ensures) (c .if1 .left) (q .0) in (n .some, n .inside)
+lone-byte-requires c κs =
+    let a = c .before .before .before .before .args in
+    let q = c .before .before .before .before .pre in
+    let n = token (now (a .text)) (a .end) (a .at) (a .count) (now (a .names)) (now (a .lens)) (c .before .token-at .result) (c .before .token-at .ensures) (c .if1 .left) (q .0) in
+    (n .some, n .inside)
 
 returns-2 : tie.Need-returns-2
-returns-2 c = let a = c .before .before .before .before .before .before .args in let q = c .before .before .before .before .before .before .pre in factor-open (now (a .text)) (a .end) (a .at) (a .count) (now (a .names)) (now (a .lens)) (c .before .before .before .token-at .result) (c .before .before .before .token-at .ensures) (c .before .before .if1 .left) (q .0) (c .before .lone-byte .ensures) (c .if2 .taken)
+returns-2 c =
+    let a = c .before .before .before .before .before .before .args in
+    let q = c .before .before .before .before .before .before .pre in
+    factor-open (now (a .text)) (a .end) (a .at) (a .count) (now (a .names)) (now (a .lens)) (c .before .before .before .token-at .result) (c .before .before .before .token-at .ensures) (c .before .before .if1 .left) (q .0) (c .before .lone-byte .ensures) (c .if2 .taken)
 
 shared-slice-read-is-digit : tie.Need-shared-slice-read-is-digit
-shared-slice-read-is-digit c = let a = c .before .before .before .before .before .before .before .args in let q = c .before .before .before .before .before .before .before .pre in let n = token (now (a .text)) (a .end) (a .at) (a .count) (now (a .names)) (now (a .lens)) (c .before .before .before .before .token-at .result) (c .before .before .before .before .token-at .ensures) (c .before .before .before .if1 .left) (q .0) in omega (arith, n .some, n .inside, token-inside (now (a .text)) (a .end) (a .at) (a .count) (now (a .names)) (now (a .lens)) (c .before .before .before .before .token-at .result) (c .before .before .before .before .token-at .ensures) (c .before .before .before .if1 .left) (q .0), q .0)
+shared-slice-read-is-digit c =
+    let a = c .before .before .before .before .before .before .before .args in
+    let q = c .before .before .before .before .before .before .before .pre in
+    let n = token (now (a .text)) (a .end) (a .at) (a .count) (now (a .names)) (now (a .lens)) (c .before .before .before .before .token-at .result) (c .before .before .before .before .token-at .ensures) (c .before .before .before .if1 .left) (q .0) in
+    omega (arith, n .some, n .inside, token-inside (now (a .text)) (a .end) (a .at) (a .count) (now (a .names)) (now (a .lens)) (c .before .before .before .before .token-at .result) (c .before .before .before .before .token-at .ensures) (c .before .before .before .if1 .left) (q .0), q .0)
 
 is-digit-requires : tie.Need-is-digit-requires
 is-digit-requires c κs = search needs
@@ -53,10 +60,18 @@ returns-3 c =
     with-factor (t .result .end) (c .literal .ensures) (factor-literal (now (a .text)) (a .end) (a .at) (a .count) (now (a .names)) (now (a .lens)) (c .before .before .before .before .before .before .before .token-at .result) (c .before .before .before .before .before .before .before .token-at .ensures) (c .before .before .before .before .before .before .if1 .left) (q .0) (c .before .before .before .before .before .lone-byte .ensures) (c .before .before .before .before .if2 .left) (sym (c .before .before .is-digit .ensures) ∙ c .before .if3 .taken))
 
 sub-lookup : tie.Need-sub-lookup
-sub-lookup c = let a = c .before .before .before .before .before .before .before .before .before .args in let q = c .before .before .before .before .before .before .before .before .before .pre in let n = token (now (a .text)) (a .end) (a .at) (a .count) (now (a .names)) (now (a .lens)) (c .before .before .before .before .before .before .token-at .result) (c .before .before .before .before .before .before .token-at .ensures) (c .before .before .before .before .before .if1 .left) (q .0) in omega (arith, n .some)
+sub-lookup c =
+    let a = c .before .before .before .before .before .before .before .before .before .args in
+    let q = c .before .before .before .before .before .before .before .before .before .pre in
+    let n = token (now (a .text)) (a .end) (a .at) (a .count) (now (a .names)) (now (a .lens)) (c .before .before .before .before .before .before .token-at .result) (c .before .before .before .before .before .before .token-at .ensures) (c .before .before .before .before .before .if1 .left) (q .0) in
+    omega (arith, n .some)
 
 lookup-requires : tie.Need-lookup-requires
-lookup-requires c κs = let a = c .before .before .before .before .before .before .before .before .before .args in let q = c .before .before .before .before .before .before .before .before .before .pre in let n = token (now (a .text)) (a .end) (a .at) (a .count) (now (a .names)) (now (a .lens)) (c .before .before .before .before .before .before .token-at .result) (c .before .before .before .before .before .before .token-at .ensures) (c .before .before .before .before .before .if1 .left) (q .0) in (q .1, omega (arith, n .some, n .inside, token-inside (now (a .text)) (a .end) (a .at) (a .count) (now (a .names)) (now (a .lens)) (c .before .before .before .before .before .before .token-at .result) (c .before .before .before .before .before .before .token-at .ensures) (c .before .before .before .before .before .if1 .left) (q .0), q .0))
+lookup-requires c κs =
+    let a = c .before .before .before .before .before .before .before .before .before .args in
+    let q = c .before .before .before .before .before .before .before .before .before .pre in
+    let n = token (now (a .text)) (a .end) (a .at) (a .count) (now (a .names)) (now (a .lens)) (c .before .before .before .before .before .before .token-at .result) (c .before .before .before .before .before .before .token-at .ensures) (c .before .before .before .before .before .if1 .left) (q .0) in
+    (q .1, omega (arith, n .some, n .inside, token-inside (now (a .text)) (a .end) (a .at) (a .count) (now (a .names)) (now (a .lens)) (c .before .before .before .before .before .before .token-at .result) (c .before .before .before .before .before .before .token-at .ensures) (c .before .before .before .before .before .if1 .left) (q .0), q .0))
 
 named-requires : tie.Need-named-requires
 named-requires c κs = search needs

@@ -1,4 +1,5 @@
-use mathlib.Core.Path.{_≡_, sym, ap, _∙_}
+-- `emission::factor::literal` meets its contract: by the digits' value.
+use mathlib.Core.Path.{sym, ap, _∙_}
 use lib.ListN.{drop}
 use Rattle.number.specs.Decimal.{digits}
 use Rattle.number.specs.declared.Digits.{Digits}
@@ -6,9 +7,6 @@ use Rattle.emission.proofs.Factors.{literal-is, literal-large}
 use borrow.Author.Needs.{needs}
 use Rattle.emission.proofs.factor.literal.Statement.{statement}
 use Rattle.emission.proofs.factor.literal.Tie as tie
-use Rattle.emission.proofs.factor.literal.Reads as reads
-use Rattle.emission.proofs.factor.literal.Lts as lts
-use Rattle.number.proofs.digits_at.Reads as digits-at-reads
 
 digits-at-requires : tie.Need-digits-at-requires
 digits-at-requires c κs = search needs
@@ -20,10 +18,14 @@ enum-told : tie.Need-enum-told
 enum-told c = search needs
 
 returns : tie.Need-returns
-returns c = let a = c .before .before .before .before .before .args in literal-is (digits (drop (a .first) (a .expression .now))) _ (sym (ap (λ (x : Digits). x .value) (c .before .before .before .digits-at .ensures)) ∙ c .before .value .given .1)
+returns c =
+    let a = c .before .before .before .before .before .args in
+    literal-is (digits (drop (a .first) (a .expression .now))) _ (sym (ap (λ (x : Digits). x .value) (c .before .before .before .digits-at .ensures)) ∙ c .before .value .given .1)
 
 returns-2 : tie.Need-returns-2
-returns-2 c = let a = c .before .before .before .before .args in literal-large (digits (drop (a .first) (a .expression .now))) (sym (ap (λ (x : Digits). x .value) (c .before .before .digits-at .ensures)) ∙ c .enum-told .given .1)
+returns-2 c =
+    let a = c .before .before .before .before .args in
+    literal-large (digits (drop (a .first) (a .expression .now))) (sym (ap (λ (x : Digits). x .value) (c .before .before .digits-at .ensures)) ∙ c .enum-told .given .1)
 
 pub literal-spec : {M : Type 1} → statement M
 literal-spec = tie.close (tie.spec digits-at-requires enum-known-value enum-told returns returns-2)

@@ -1,10 +1,9 @@
-use mathlib.Core.Path.{_≡_, sym, ap}
+-- `emission::factor::named` meets its contract: by what is found.
+use mathlib.Core.Path.{sym, ap}
 use Rattle.emission.specs.Factor.{namedBy}
 use borrow.Author.Needs.{needs}
 use Rattle.emission.proofs.factor.named.Statement.{statement}
 use Rattle.emission.proofs.factor.named.Tie as tie
-use Rattle.emission.proofs.factor.named.Reads as reads
-use Rattle.emission.proofs.factor.named.Lts as lts
 
 enum-known-found : tie.Need-enum-known-found
 enum-known-found c = search needs

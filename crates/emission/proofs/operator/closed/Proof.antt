@@ -1,11 +1,9 @@
-use mathlib.Core.Path.{_≡_, sym}
+-- `emission::operator::closed` meets its contract: by the byte.
+use mathlib.Core.Path.{sym}
 use native.Mathlib.Omega.{arith}
 use borrow.Author.Tests.{eq-eqb, ne-eqb}
-use borrow.Author.Needs.{needs}
 use Rattle.emission.proofs.operator.closed.Statement.{statement}
 use Rattle.emission.proofs.operator.closed.Tie as tie
-use Rattle.emission.proofs.operator.closed.Reads as reads
-use Rattle.emission.proofs.operator.closed.Lts as lts
 
 sub-result : tie.Need-sub-result
 sub-result c = omega (arith, c .before .pre (c .if1 .taken))

@@ -1,21 +1,13 @@
-use Prim.Native.Nat.{ℕ}
-use mathlib.Core.Path.{_≡_, sym, ap, _∙_}
+-- `emission::operator::operate` meets its contract: an operator, a closing parenthesis or the end.
+use mathlib.Core.Path.{sym, ap}
 use native.Mathlib.Omega.{arith}
-use lib.ListN.{length}
 use lib.Seq.{length-take-le}
-use denote.Ref.{now}
 use Rattle.expression.specs.declared.parts.Sign.{Sign}
 use Rattle.emission.proofs.Turning.{operator-pops, operator-room, operator-turns, close-pops, close-mark, close-turns}
 use Rattle.writer.proofs.Pieces.{put-length}
 use borrow.Author.Needs.{needs}
 use Rattle.emission.proofs.operator.operate.Statement.{statement}
 use Rattle.emission.proofs.operator.operate.Tie as tie
-use Rattle.emission.proofs.operator.operate.Reads as reads
-use Rattle.emission.proofs.operator.operate.Lts as lts
-use Rattle.emission.proofs.operator.closed.Reads as closed-reads
-use Rattle.emission.proofs.waiting.level_of.Reads as level-of-reads
-use Rattle.emission.proofs.waiting.pop.Reads as pop-reads
-use Rattle.expression.proofs.parts.sign_at.Reads as sign-at-reads
 
 slice-aggregate-sign-at : tie.Need-slice-aggregate-sign-at
 slice-aggregate-sign-at c = sym (length-take-le _ _ (c .before .before .before .pre .inside))
@@ -27,31 +19,51 @@ level-of-requires : tie.Need-level-of-requires
 level-of-requires c κs = search needs
 
 pop-requires : tie.Need-pop-requires
-pop-requires c κs = let h = rw (c .before .before .before .level-of .ensures) at (c .before .before .if1 .taken) in let x = operator-pops (c .before .before .before .before .before .before .before .before .pre) (ap (λ (x : Sign). x .byte) (c .before .before .before .before .sign-at .ensures)) h in rw (c .before .before .before .level-of .ensures) x
+pop-requires c κs =
+    let h = rw (c .before .before .before .level-of .ensures) at (c .before .before .if1 .taken) in
+    let x = operator-pops (c .before .before .before .before .before .before .before .before .pre) (ap (λ (x : Sign). x .byte) (c .before .before .before .before .sign-at .ensures)) h in
+    rw (c .before .before .before .level-of .ensures) x
 
 element-write-waiting : tie.Need-element-write-waiting
-element-write-waiting c = let h = rw (c .before .before .before .before .before .before .level-of .ensures) at (c .before .before .before .before .before .if1 .taken) in operator-room (c .before .before .before .before .before .before .before .before .before .before .before .pre) (ap (λ (x : Sign). x .byte) (c .before .before .before .before .before .before .before .sign-at .ensures)) h (rw (c .before .before .before .before .before .before .level-of .ensures) at (c .before .before .pop .ensures))
+element-write-waiting c =
+    let h = rw (c .before .before .before .before .before .before .level-of .ensures) at (c .before .before .before .before .before .if1 .taken) in
+    operator-room (c .before .before .before .before .before .before .before .before .before .before .before .pre) (ap (λ (x : Sign). x .byte) (c .before .before .before .before .before .before .before .sign-at .ensures)) h (rw (c .before .before .before .before .before .before .level-of .ensures) at (c .before .before .pop .ensures))
 
 add-t24 : tie.Need-add-t24
-add-t24 c = let h = rw (c .before .before .before .before .before .before .level-of .ensures) at (c .before .before .before .before .before .if1 .taken) in omega (arith, operator-room (c .before .before .before .before .before .before .before .before .before .before .before .pre) (ap (λ (x : Sign). x .byte) (c .before .before .before .before .before .before .before .sign-at .ensures)) h (rw (c .before .before .before .before .before .before .level-of .ensures) at (c .before .before .pop .ensures)))
+add-t24 c =
+    let h = rw (c .before .before .before .before .before .before .level-of .ensures) at (c .before .before .before .before .before .if1 .taken) in
+    omega (arith, operator-room (c .before .before .before .before .before .before .before .before .before .before .before .pre) (ap (λ (x : Sign). x .byte) (c .before .before .before .before .before .before .before .sign-at .ensures)) h (rw (c .before .before .before .before .before .before .level-of .ensures) at (c .before .before .pop .ensures)))
 
 same-length : tie.Need-same-length
-same-length c = let h = rw (c .before .before .before .before .before .before .level-of .ensures) at (c .before .before .before .before .before .if1 .taken) in put-length (rw (c .before .before .before .before .before .before .level-of .ensures) at (c .before .before .pop .ensures) .put) (operator-pops (c .before .before .before .before .before .before .before .before .before .before .before .pre) (ap (λ (x : Sign). x .byte) (c .before .before .before .before .before .before .before .sign-at .ensures)) h .1)
+same-length c =
+    let h = rw (c .before .before .before .before .before .before .level-of .ensures) at (c .before .before .before .before .before .if1 .taken) in
+    put-length (rw (c .before .before .before .before .before .before .level-of .ensures) at (c .before .before .pop .ensures) .put) (operator-pops (c .before .before .before .before .before .before .before .before .before .before .before .pre) (ap (λ (x : Sign). x .byte) (c .before .before .before .before .before .before .before .sign-at .ensures)) h .1)
 
 returns : tie.Need-returns
-returns c = let h = rw (c .before .before .before .before .before .before .level-of .ensures) at (c .before .before .before .before .before .if1 .taken) in let q = rw (c .before .before .before .before .before .before .level-of .ensures) at (c .before .before .pop .ensures) in operator-turns (c .before .before .before .before .before .before .before .before .before .before .before .pre) (ap (λ (x : Sign). x .byte) (c .before .before .before .before .before .before .before .sign-at .ensures)) h q (ap (λ (x : Sign). x .end) (c .before .before .before .before .before .before .before .sign-at .ensures))
+returns c =
+    let h = rw (c .before .before .before .before .before .before .level-of .ensures) at (c .before .before .before .before .before .if1 .taken) in
+    let q = rw (c .before .before .before .before .before .before .level-of .ensures) at (c .before .before .pop .ensures) in
+    operator-turns (c .before .before .before .before .before .before .before .before .before .before .before .pre) (ap (λ (x : Sign). x .byte) (c .before .before .before .before .before .before .before .sign-at .ensures)) h q (ap (λ (x : Sign). x .end) (c .before .before .before .before .before .before .before .sign-at .ensures))
 
 pop-requires-2 : tie.Need-pop-requires-2
-pop-requires-2 c κs = let h = rw (c .before .before .before .level-of .ensures) at (c .before .before .if1 .left) in close-pops (c .before .before .before .before .before .before .before .before .pre) (ap (λ (x : Sign). x .byte) (c .before .before .before .before .sign-at .ensures)) h
+pop-requires-2 c κs =
+    let h = rw (c .before .before .before .level-of .ensures) at (c .before .before .if1 .left) in
+    close-pops (c .before .before .before .before .before .before .before .before .pre) (ap (λ (x : Sign). x .byte) (c .before .before .before .before .sign-at .ensures)) h
 
 closed-requires : tie.Need-closed-requires
-closed-requires c κs = let h = rw (c .before .before .before .before .before .before .level-of .ensures) at (c .before .before .before .before .before .if1 .left) in close-mark (c .before .before .before .before .before .before .before .before .before .before .before .pre) (ap (λ (x : Sign). x .byte) (c .before .before .before .before .before .before .before .sign-at .ensures)) h (c .before .before .pop2 .ensures)
+closed-requires c κs =
+    let h = rw (c .before .before .before .before .before .before .level-of .ensures) at (c .before .before .before .before .before .if1 .left) in
+    close-mark (c .before .before .before .before .before .before .before .before .before .before .before .pre) (ap (λ (x : Sign). x .byte) (c .before .before .before .before .before .before .before .sign-at .ensures)) h (c .before .before .pop2 .ensures)
 
 same-length-2 : tie.Need-same-length-2
-same-length-2 c = let h = rw (c .before .before .before .before .before .before .before .level-of .ensures) at (c .before .before .before .before .before .before .if1 .left) in put-length (c .before .before .before .pop2 .ensures .put) (close-pops (c .before .before .before .before .before .before .before .before .before .before .before .before .pre) (ap (λ (x : Sign). x .byte) (c .before .before .before .before .before .before .before .before .sign-at .ensures)) h .1)
+same-length-2 c =
+    let h = rw (c .before .before .before .before .before .before .before .level-of .ensures) at (c .before .before .before .before .before .before .if1 .left) in
+    put-length (c .before .before .before .pop2 .ensures .put) (close-pops (c .before .before .before .before .before .before .before .before .before .before .before .before .pre) (ap (λ (x : Sign). x .byte) (c .before .before .before .before .before .before .before .before .sign-at .ensures)) h .1)
 
 returns-2 : tie.Need-returns-2
-returns-2 c = let h = rw (c .before .before .before .before .before .before .before .level-of .ensures) at (c .before .before .before .before .before .before .if1 .left) in close-turns (c .before .before .before .before .before .before .before .before .before .before .before .before .pre) (ap (λ (x : Sign). x .byte) (c .before .before .before .before .before .before .before .before .sign-at .ensures)) h (c .before .before .before .pop2 .ensures) (ap (λ (x : Sign). x .end) (c .before .before .before .before .before .before .before .before .sign-at .ensures)) (c .closed .ensures)
+returns-2 c =
+    let h = rw (c .before .before .before .before .before .before .before .level-of .ensures) at (c .before .before .before .before .before .before .if1 .left) in
+    close-turns (c .before .before .before .before .before .before .before .before .before .before .before .before .pre) (ap (λ (x : Sign). x .byte) (c .before .before .before .before .before .before .before .before .sign-at .ensures)) h (c .before .before .before .pop2 .ensures) (ap (λ (x : Sign). x .end) (c .before .before .before .before .before .before .before .before .sign-at .ensures)) (c .closed .ensures)
 
 pub operate-spec : {M : Type 1} → statement M
 operate-spec =

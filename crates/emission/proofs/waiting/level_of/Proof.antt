@@ -1,11 +1,8 @@
-use mathlib.Core.Path.{_≡_, sym, _∙_}
+-- `emission::waiting::level_of` meets its contract: by the sign.
+use mathlib.Core.Path.{sym, _∙_}
 use borrow.Author.Needs.{needs}
 use Rattle.emission.proofs.waiting.level_of.Statement.{statement}
 use Rattle.emission.proofs.waiting.level_of.Tie as tie
-use Rattle.emission.proofs.waiting.level_of.Reads as reads
-use Rattle.emission.proofs.waiting.level_of.Lts as lts
-use Rattle.expression.proofs.parts.is_product.Reads as is-product-reads
-use Rattle.expression.proofs.parts.is_sum.Reads as is-sum-reads
 
 is-product-requires : tie.Need-is-product-requires
 is-product-requires c κs = search needs
@@ -17,10 +14,16 @@ is-sum-requires : tie.Need-is-sum-requires
 is-sum-requires c κs = search needs
 
 returns-2 : tie.Need-returns-2
-returns-2 c = let e = sym (c .before .before .before .is-product .ensures) ∙ c .before .before .if1 .left in let f = sym (c .before .is-sum .ensures) ∙ c .if2 .taken in sym (simp (e, f))
+returns-2 c =
+    let e = sym (c .before .before .before .is-product .ensures) ∙ c .before .before .if1 .left in
+    let f = sym (c .before .is-sum .ensures) ∙ c .if2 .taken in
+    sym (simp (e, f))
 
 returns-3 : tie.Need-returns-3
-returns-3 c = let e = sym (c .before .before .before .is-product .ensures) ∙ c .before .before .if1 .left in let f = sym (c .before .is-sum .ensures) ∙ c .if2 .left in sym (simp (e, f))
+returns-3 c =
+    let e = sym (c .before .before .before .is-product .ensures) ∙ c .before .before .if1 .left in
+    let f = sym (c .before .is-sum .ensures) ∙ c .if2 .left in
+    sym (simp (e, f))
 
 pub level-of-spec : {M : Type 1} → statement M
 level-of-spec =

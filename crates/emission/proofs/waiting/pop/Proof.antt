@@ -1,13 +1,9 @@
-use mathlib.Core.Path.{_≡_}
+-- `emission::waiting::pop` meets its contract: operator by operator, the newest first.
 use native.Mathlib.Omega.{arith}
 use Rattle.emission.proofs.Popping.{Popping, popping-starts, popping-length, popping-empty, popping-shut, popping-fits, popping-more}
 use borrow.Author.Needs.{needs}
 use Rattle.emission.proofs.waiting.pop.Statement.{statement}
 use Rattle.emission.proofs.waiting.pop.Tie as tie
-use Rattle.emission.proofs.waiting.pop.Reads as reads
-use Rattle.emission.proofs.waiting.pop.Lts as lts
-use Rattle.emission.proofs.waiting.level_of.Reads as level-of-reads
-use Rattle.writer.proofs.put_operator.Reads as put-operator-reads
 
 abbrev Inv-loop : tie.InvT-loop
 Inv-loop out₀ at waiting n level to₀ left₀ out to left = Popping waiting level n out₀ at out to left
@@ -16,7 +12,9 @@ abbrev μ-loop : tie.MeasureT-loop
 μ-loop out₀ at waiting n level to₀ left₀ out to left = left
 
 loop-holds : tie.Need-loop-holds Inv-loop μ-loop
-loop-holds c = let a = c .before .args in popping-starts (a .waiting .now) (a .level) (a .n) (a .out .now) (a .at) (c .before .pre .0) (c .before .pre .1)
+loop-holds c =
+    let a = c .before .args in
+    popping-starts (a .waiting .now) (a .level) (a .n) (a .out .now) (a .at) (c .before .pre .0) (c .before .pre .1)
 
 sub-sign : tie.Need-sub-sign Inv-loop μ-loop
 sub-sign c = search needs
