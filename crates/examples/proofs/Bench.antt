@@ -1,0 +1,42 @@
+-- Document 01's bench examples hold, by computing the definitions.
+use mathlib.Core.Path.{refl}
+use Rattle.number.specs.Decimal.{decimal}
+use Rattle.token.specs.Token.{scan}
+use Rattle.expression.specs.Parse.{parseF, meaning}
+use Rattle.machine.specs.Operation.{decode}
+use Rattle.machine.specs.Machine.{runOf, whole}
+use Rattle.vm.specs.Verify.{operationsCheck}
+use Rattle.vm.specs.Transition.{up}
+use Rattle.assembler.specs.State.{each}
+use Rattle.assembler.specs.Assembled.{assembledTree}
+use Rattle.assembler.specs.Output.{output, assembled}
+use Rattle.examples.specs.Runs.{ran}
+use Rattle.examples.specs.Bench.{Bench}
+
+pub bench : Bench
+unfolding ran decode runOf whole operationsCheck up assembled output decimal assembledTree each meaning parseF scan
+bench = record {
+  e1 = refl;
+  e1-text = refl;
+  e1-run = refl;
+  e1-stack = refl;
+  e2 = refl;
+  e3-price = refl;
+  e3-items = refl;
+  e4 = refl;
+  e5-push = refl;
+  e5-stack = refl;
+  e5-jump = refl;
+  e6-three = refl;
+  e6-storage = refl;
+  e6-four = refl;
+  e6-last = refl;
+  e6-beyond = refl;
+  e7-plus = refl;
+  e7-operations = refl;
+  e7-minus = refl;
+  e8 = refl;
+  e9-precedence = refl;
+  e9-left = refl;
+  e10 = refl;
+}

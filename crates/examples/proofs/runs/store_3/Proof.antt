@@ -1,0 +1,19 @@
+-- `store_3` is `Store 3` of E6: what the call ensures, and the group's figures.
+use mathlib.Core.Path.{ap, _∙_}
+use Rattle.vm.specs.Numbers.{answerNumbered}
+use Rattle.examples.proofs.Bench.{bench}
+use borrow.Author.Needs.{needs}
+use Rattle.examples.proofs.runs.store_3.Statement.{statement}
+use Rattle.examples.proofs.runs.store_3.Tie as tie
+
+slice-aggregate-on-four : tie.Need-slice-aggregate-on-four
+slice-aggregate-on-four c = search needs
+
+on-four-requires : tie.Need-on-four-requires
+on-four-requires c κs = search needs
+
+returns : tie.Need-returns
+returns c = record { answer = ap answerNumbered (c .on-four .ensures .answer) ∙ bench .e6-three; buffer = c .on-four .ensures .storage ∙ bench .e6-storage }
+
+pub store-3-spec : {M : Type 1} → statement M
+store-3-spec = tie.close (tie.spec slice-aggregate-on-four on-four-requires returns)

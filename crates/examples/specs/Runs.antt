@@ -1,0 +1,51 @@
+-- A run of ops text: reading with room for 4,096 operations, then a metered run by caller 7 with no storage used.
+use Prim.Native.Nat.{ℕ}
+use mathlib.Core.Path.{_≡_}
+use mathlib.Core.List.{List}
+use lib.ListN.{replicate}
+use Rattle.context.specs.declared.Gate.the-variants as gate
+use Rattle.ops.specs.Ops.{Operation, readText, answerOf, opsOf, kindsOf, operandsOf, onto}
+use Rattle.ops.specs.declared.ParsedOps.{ParsedOps}
+use Rattle.ops.specs.declared.ParsedOps.the-variants.{Read, Refused}
+use Rattle.vm.specs.declared.Answer.{Answer}
+use Rattle.vm.specs.Transition.{Result, transitionOf}
+
+-- a text that is refused has none
+abbrev pub operations : List ℕ → List Operation
+operations text = opsOf (readText text 4096)
+
+abbrev pub countOf : ParsedOps → ℕ
+countOf (Read n) = n
+countOf (Refused e) = 0
+
+-- with this limit, stack, work and storage
+unfoldable pub ran : List ℕ → ℕ → (s w m : List ℕ) → Result
+ran text g s w m = transitionOf gate.Passed (kindsOf (operations text)) (operandsOf (operations text)) 7 g s w m (record { used = 0 })
+
+abbrev pub zeros : List ℕ
+zeros = replicate 4096 0
+
+-- all buffers 4,096 long
+abbrev pub plainly : List ℕ → ℕ → Result
+plainly text g = ran text g zeros zeros zeros
+
+-- four lent slots, whatever they hold
+abbrev pub four : List ℕ
+four = replicate 4 7
+
+abbrev pub onFour : List ℕ → Result
+onFour text = ran text 1000 zeros four four
+
+-- a call's answer and its stack, or its storage, are those of a result
+pub record Ends (t : Result) (a : Answer) (s : List ℕ) : Type 0 where
+  pub answer : a ≡ t .answer
+  pub stack : s ≡ t .stack
+
+pub record Stores (t : Result) (a : Answer) (m : List ℕ) : Type 0 where
+  pub answer : a ≡ t .answer
+  pub storage : m ≡ t .storage
+
+-- a reading of a text into buffers of 4,096 zeros: its answer, and the operands
+pub record Fills (text : List ℕ) (r : ParsedOps) (after : List ℕ) : Type 0 where
+  pub answer : r ≡ answerOf (readText text 4096)
+  pub operands : after ≡ onto (operandsOf (operations text)) zeros

@@ -1,0 +1,102 @@
+// Answers and entries of buffers, each number behind a space.
+use context::Gate;
+use machine::Refusal;
+use ops::OpsError;
+use ops::ParsedOps;
+
+// 0 and the four values of a success. A refusal is not told apart here.
+pub fn assembly(a: assembly::Answer) {
+    match a {
+        assembly::Answer::Success {
+            written,
+            k,
+            p,
+            value,
+        } => {
+            number(0);
+            number(written as u64);
+            number(k);
+            number(p);
+            number(value);
+        }
+        assembly::Answer::Refused(_) => {
+            io::write_all(1, b" refused");
+        }
+    }
+}
+
+pub fn reading(r: ParsedOps) {
+    match r {
+        ParsedOps::Read(n) => {
+            number(0);
+            number(n as u64);
+        }
+        ParsedOps::Refused(e) => {
+            let refusal = numbers::of_ops_error(e);
+            number(refusal.number);
+            reading_values(e);
+        }
+    }
+}
+
+fn reading_values(e: OpsError) {
+    match e {
+        OpsError::NotUtf8 => {}
+        OpsError::BadPush { line, place, len } => part(line, place, len),
+        OpsError::BadSlot { line, place, len } => part(line, place, len),
+        OpsError::UnknownOp { line, place, len } => part(line, place, len),
+        OpsError::BadTarget { line, place, len } => part(line, place, len),
+        OpsError::Full { line } => number(line as u64),
+        OpsError::Empty => {}
+    }
+}
+
+fn part(line: usize, place: usize, len: usize) {
+    number(line as u64);
+    number(place as u64);
+    number(len as u64);
+}
+
+pub fn run(a: vm::Answer) {
+    match a {
+        vm::Answer::Success {
+            gas_spent,
+            operations,
+            items,
+            state,
+        } => {
+            number(0);
+            number(gas_spent);
+            number(operations);
+            number(items as u64);
+            number(state.used as u64);
+        }
+        vm::Answer::Refused(f) => {
+            let refusal = numbers::of_run_refusal(f);
+            number(refusal.number);
+            run_values(f);
+        }
+    }
+}
+
+fn run_values(f: Refusal) {
+    match f {
+        Refusal::ProgramTooLarge(size) => number(size as u64),
+        Refusal::StorageTooLarge(used) => number(used as u64),
+        Refusal::OutOfGas { price, left } => {
+            number(price);
+            number(left);
+        }
+        Refusal::StorageLimitExceeded(slots) => number(slots),
+        _ => {}
+    }
+}
+
+pub fn gate(g: Gate) {
+    number(numbers::of_gate(g));
+}
+
+pub fn number(n: u64) {
+    io::write_all(1, b" ");
+    io::print_decimal(1, n);
+}
