@@ -1,0 +1,139 @@
+//! include/atc_vm.h declares what crates/atc_vm exports and src/sys.rs calls. The header and tests/abi.c compile without a
+//! warning, as C99 and as C++, and the program finds all as due.
+
+use std::env;
+use std::fs;
+use std::io::ErrorKind;
+use std::path::Path;
+use std::process::Command;
+
+fn compiler(variable: &str, usual: &str) -> String {
+    env::var(variable).unwrap_or_else(|_| usual.to_string())
+}
+
+// False where there is no such compiler.
+fn compiles_and_runs(compiler: &str, language: &[&str], name: &str) -> bool {
+    let package = Path::new(env!("CARGO_MANIFEST_DIR"));
+    let program = Path::new(env!("CARGO_TARGET_TMPDIR")).join(name);
+    let compiled = Command::new(compiler)
+        .args(language)
+        .args(["-Wall", "-Wextra", "-Wpedantic", "-Werror"])
+        .arg("-I")
+        .arg(package.join("../../include"))
+        .arg(package.join("tests/abi.c"))
+        .args(["-x", "none"])
+        .arg(Path::new(env!("ATC_VM_FOUND_IN")).join("libatc_vm.a"))
+        .arg("-o")
+        .arg(&program)
+        .output();
+    let compiled = match compiled {
+        Err(error) if error.kind() == ErrorKind::NotFound => return false,
+        other => other.unwrap(),
+    };
+    assert!(
+        compiled.status.success(),
+        "{}",
+        String::from_utf8_lossy(&compiled.stderr)
+    );
+    let ran = Command::new(&program).output().unwrap();
+    let said = String::from_utf8_lossy(&ran.stdout);
+    assert!(ran.status.success(), "{said}");
+    assert_eq!(said, "abi: all as due\n");
+    true
+}
+
+#[test]
+fn c99() {
+    let cc = compiler("CC", "cc");
+    assert!(
+        compiles_and_runs(&cc, &["-x", "c", "-std=c99"], "abi_c"),
+        "no C compiler {cc}"
+    );
+}
+
+#[test]
+fn cpp() {
+    let cxx = compiler("CXX", "c++");
+    if !compiles_and_runs(&cxx, &["-x", "c++", "-std=c++11"], "abi_cpp") {
+        eprintln!("no C++ compiler {cxx}: the header was not tried as C++");
+    }
+}
+
+type Parameters = Vec<(String, String)>;
+
+// The functions of a file that start with `before` and end with `after`: their names and their parameters, each of which
+// `parameter` reads.
+fn functions(
+    text: &str,
+    before: &str,
+    after: &str,
+    parameter: impl Fn(&str) -> Parameters,
+) -> Vec<(String, Parameters)> {
+    let function = |part: &str| {
+        let (name, rest) = part.split_once('(').unwrap();
+        let (all, _) = rest.split_once(after).unwrap();
+        let each = all.split(',').map(str::trim).filter(|p| !p.is_empty());
+        (name.to_string(), each.flat_map(&parameter).collect())
+    };
+    text.split(before).skip(1).map(function).collect()
+}
+
+fn text(path: &str) -> String {
+    let path = Path::new(env!("CARGO_MANIFEST_DIR")).join(path);
+    fs::read_to_string(&path).unwrap_or_else(|error| panic!("{}: {error}", path.display()))
+}
+
+fn one(name: &str, kind: &str) -> Parameters {
+    vec![(name.to_string(), kind.to_string())]
+}
+
+fn in_the_header() -> Vec<(String, Parameters)> {
+    let header = text("../../include/atc_vm.h");
+    let behind_remark = |part| str::split_once(part, "*/").map_or(part, |(_, code)| code);
+    let code: String = header.split("/*").map(behind_remark).collect();
+    functions(&code, "uint64_t atc_", ");", |p| {
+        let start = p.rfind([' ', '*']).unwrap() + 1;
+        let kind = match &p[..start] {
+            "const uint8_t *" => "*const u8",
+            "const uint64_t *" => "*const u64",
+            "uint8_t *" => "*mut u8",
+            "uint64_t *" => "*mut u64",
+            "uint64_t " => "u64",
+            "size_t " => "usize",
+            other => panic!("{other}"),
+        };
+        one(&p[start..], kind)
+    })
+}
+
+fn in_sys() -> Vec<(String, Parameters)> {
+    functions(&text("src/sys.rs"), "pub fn atc_", ") -> u64;", |p| {
+        let (name, kind) = p.split_once(": ").unwrap();
+        one(name, kind)
+    })
+}
+
+fn in_the_rattle() -> Vec<(String, Parameters)> {
+    let source = text("../../crates/atc_vm/src/lib.rt");
+    functions(&source, "pub extern \"C\" fn atc_", ") -> u64", |p| {
+        let (name, kind) = p.split_once(": ").unwrap();
+        let slice = |kind| [one(name, kind), one(&format!("{name}_len"), "usize")].concat();
+        match kind {
+            "&[u8]" => slice("*const u8"),
+            "&[u64]" => slice("*const u64"),
+            "&mut [u8]" => slice("*mut u8"),
+            "&mut [u64]" => slice("*mut u64"),
+            "&mut [u64; 8]" => one(name, "*mut u64"),
+            "u64" => one(name, "u64"),
+            other => panic!("{other}"),
+        }
+    })
+}
+
+#[test]
+fn header_and_sys_declare_what_is_exported() {
+    let exported = in_the_rattle();
+    assert_eq!(exported.len(), 8);
+    assert_eq!(in_the_header(), exported);
+    assert_eq!(in_sys(), exported);
+}
