@@ -1,0 +1,28 @@
+// Puts the original's four files at the crate's root, from their own place: ATC_VM, or ../shared/docs/src beside the
+// repository. The assembler's functions are private, so its text is compiled with src/behind_assembler.rs behind it.
+use std::path::{Path, PathBuf};
+use std::{env, fs};
+
+fn main() {
+    let package = PathBuf::from(env::var("CARGO_MANIFEST_DIR").unwrap());
+    let root = package.ancestors().find(|p| p.join("crates.txt").exists()).expect("the repository's root");
+    let original = root.join(env::var("ATC_VM").unwrap_or("../shared/docs/src".into())).join("src");
+    let original = original.canonicalize().expect("the original's src/: set ATC_VM to the folder that holds it");
+    let out = PathBuf::from(env::var("OUT_DIR").unwrap());
+    let behind = root.join("oracle/compare/src/behind_assembler.rs");
+    let text = |p: &Path| fs::read_to_string(p).unwrap_or_else(|e| panic!("{}: {e}", p.display()));
+    fs::write(out.join("assembler.rs"), text(&original.join("assembler.rs")) + &text(&behind)).unwrap();
+    let mut modules = String::new();
+    for name in ["context", "ops", "vm", "assembler"] {
+        let folder = if name == "assembler" { &out } else { &original };
+        modules += &format!("#[allow(dead_code)]\n#[path = {:?}]\nmod {name};\n", folder.join(format!("{name}.rs")));
+        println!("cargo:rerun-if-changed={}", original.join(format!("{name}.rs")).display());
+    }
+    fs::write(out.join("original.rs"), modules).unwrap();
+    let library = root.join("target/staticlib");
+    println!("cargo:rerun-if-env-changed=ATC_VM");
+    println!("cargo:rerun-if-changed={}", behind.display());
+    println!("cargo:rerun-if-changed={}", library.join("libatc_vm.a").display());
+    println!("cargo:rustc-link-search=native={}", library.display());
+    println!("cargo:rustc-link-lib=static=atc_vm");
+}
