@@ -30,7 +30,8 @@ pub enum Checked {
     Refused(Refusal),
 }
 
-// The lines from start to end of the contract.
+// The lines from start to end of the contract. `read_places` calls it with the places that `find_function` found in a contract of at most
+// 65,536 bytes, and with a state that is not refused.
 pub fn read_body(contract: &[u8], start: usize, end: usize, a: State) -> State
     requires { ⌜ Within (now contract) start end × Good (take start (now contract)) a ⌝ }
     ensures { λ r. ⌜ Follows (take start (now (contract .entry))) a (λ st. linesRead st (lines (part (now (contract .entry)) start end))) (take end (now (contract .entry))) r ⌝ }

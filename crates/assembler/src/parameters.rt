@@ -29,7 +29,8 @@ pub enum Number {
     Refused(Refusal),
 }
 
-// The parameters from start to end of the contract.
+// The parameters from start to end of the contract. `read_places` calls it with the places that `find_function` found in a contract of at
+// most 65,536 bytes.
 pub fn bind_parameters(contract: &[u8], vector: &[u8], start: usize, end: usize, a: State) -> State
     requires { ⌜ Within (now contract) start end ⌝ }
     ensures { λ r. ⌜ Follows (take start (now (contract .entry))) a (λ st. parametersBound (now (vector .entry)) st (parameters (part (now (contract .entry)) start end))) (take end (now (contract .entry))) r ⌝ }

@@ -103,7 +103,8 @@ pub fn keep_return(a: State, expr: Span, read: Read) -> State
     }
 }
 
-// One binding more, unless there are 256. Its places lie within the contract, and its k is 32,768 at most (20).
+// One binding more, unless there are 256. Its places lie before a closing parenthesis or brace of a contract of at most
+// 65,536 bytes (1), and its k is 1 or was tested to be 32,768 at most (20): so places and figures fit the table's types.
 pub fn bind(a: State, name: Span, expr: Span, read: Read) -> State
     requires { ⌜ Placed name × (Placed expr × Small read) ⌝ }
     ensures { λ r. ⌜ Bound a name expr read r ⌝ }

@@ -17,7 +17,7 @@ pub enum Statement {
     Return(Span),
 }
 
-// The line from start to end of the contract.
+// The line from start to end of the contract. `read_line` calls it with the places of a line that the cursor gave.
 pub fn statement_at(contract: &[u8], start: usize, end: usize) -> Statement
     requires { ⌜ (start ≤ end) × (end ≤ length (now contract)) ⌝ }
     ensures { λ r. ⌜ r ≡ statementAt (now (contract .entry)) start end ⌝ }

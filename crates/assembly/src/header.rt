@@ -8,6 +8,7 @@ use number::decimal_len;
 use writer::put_bytes;
 use writer::put_decimal;
 
+// `write_output` calls it for a stem that fits (25), which has at most 255 bytes.
 pub fn header_len(stem: &[u8], expected: u64) -> usize
     requires { ⌜ length (now stem) ≤ 255 ⌝ }
     ensures { λ r. ⌜ r ≡ length (header (now (stem .entry)) expected) ⌝ }
@@ -15,6 +16,7 @@ pub fn header_len(stem: &[u8], expected: u64) -> usize
     26 + stem.len() + decimal_len(expected)
 }
 
+// `write_output` calls it where the whole output has room (26).
 pub fn put_header(out: &mut [u8], stem: &[u8], expected: u64) -> usize
     requires { ⌜ length (header (now stem) expected) ≤ length (now out) ⌝ }
     ensures { λ r. ⌜ Put (now (out .entry)) 0 (header (now (stem .entry)) expected) (now (out .exit)) r ⌝ }

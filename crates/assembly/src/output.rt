@@ -9,6 +9,7 @@ use assembler::state::Last;
 use emission::emit;
 use writer::put_bytes;
 
+// `assemble` calls it where `checked` accepts the contract and the stem fits (25).
 pub fn write_output(contract: &[u8], stem: &[u8], assembly: Assembly, out: &mut [u8]) -> Answer
     requires { ⌜ Ready (now contract) (now stem) assembly ⌝ }
     ensures { λ r. ⌜ Writes (now (contract .entry)) (now (stem .entry)) assembly (now (out .entry)) (now (out .exit)) r ⌝ }

@@ -26,6 +26,7 @@ pub struct FactorAt {
 }
 
 // The factor from a place on, in an expression that ends at a place of the text. A name is the newest of the first count bindings.
+// The loop over an expression calls it with the end that the table or the last return has, and with at most 256 bindings.
 pub fn factor_at<'a>(
     text: &'a [u8],
     end: usize,

@@ -22,7 +22,8 @@ use writer::put_again;
 use writer::put_push;
 
 // Writes the expression from start to end of the text at a place of the output, where there is room for it. Its names mean the first
-// count bindings. Returns the place behind it.
+// count bindings. Returns the place behind it. Assembly calls it with the last return of a contract that it accepts, whose expressions were
+// all parsed, and only where the output's length, added up in parsing, fits (26).
 pub fn emit(
     text: &[u8],
     start: usize,

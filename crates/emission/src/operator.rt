@@ -17,7 +17,8 @@ pub struct Turn {
 }
 
 // An operator first writes every waiting one that binds as tightly or tighter, then waits. A parenthesis writes down to its mark,
-// the end writes all.
+// the end writes all. The loop calls it in an expression that was parsed: so what is written has room, at most 194 wait, and a closing
+// parenthesis has its mark.
 pub fn operate(
     text: &[u8],
     end: usize,

@@ -27,7 +27,8 @@ pub fn level_of(sign: u8) -> u8
     3
 }
 
-// Writes the newest of n waiting operators, as far as they bind at least as tightly as a level.
+// Writes the newest of n waiting operators, as far as they bind at least as tightly as a level. Its callers walk an expression that was
+// parsed and whose text has room: at most 194 wait, and those that are written are part of that text.
 pub fn pop(out: &mut [u8], at: usize, waiting: &[u8; 194], n: usize, level: u8) -> Popped
     requires { ⌜ (n ≤ 194) × (at + length (operatorsText (popped level (stackOf (now waiting) n))) ≤ length (now out)) ⌝ }
     ensures { λ r. ⌜ Pops (now (out .entry)) at (now (waiting .entry)) n level (now (out .exit)) r ⌝ }

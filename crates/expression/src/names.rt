@@ -12,7 +12,8 @@ pub enum Found {
     Nothing,
 }
 
-// The newest of the first count bindings whose name is the len bytes from start on.
+// The newest of the first count bindings whose name is the len bytes from start on. Its callers have these bytes from a token of the text,
+// and a table of at most 256 bindings.
 pub fn lookup<'a>(
     text: &'a [u8],
     start: usize,

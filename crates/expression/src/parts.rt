@@ -40,6 +40,7 @@ pub fn sign_at(text: &[u8], at: usize) -> Sign
     }
 }
 
+// The byte of a token of one byte, else 0. Its callers have the places from a token that is there.
 pub fn lone_byte(text: &[u8], start: usize, end: usize) -> u8
     requires { ⌜ (start < end) × (end ≤ length (now text)) ⌝ }
     ensures { λ r. ⌜ r ≡ lone (take (end - start) (drop start (now (text .entry)))) ⌝ }
@@ -59,6 +60,7 @@ pub fn is_product(sign: u8) -> bool
     either(sign == b'*', sign == b'/')
 }
 
+// The literal whose first digit stands at a place that its caller has read.
 pub fn literal(text: &[u8], start: usize) -> Parsed
     requires { ⌜ start < length (now text) ⌝ }
     ensures { λ r. ⌜ r ≡ literalRead (digits (drop start (now (text .entry)))) start ⌝ }
@@ -77,6 +79,7 @@ pub fn literal(text: &[u8], start: usize) -> Parsed
     }
 }
 
+// The name from start to end, which its caller has from a token that is there; the table has at most 256 bindings.
 pub fn name<'a>(
     text: &'a [u8],
     start: usize,
