@@ -1,6 +1,6 @@
 // Makes the vectors that crates/assembler_vectors replays: its `stdin` (the cases) and its `stdout` (the answers).
 // The answers are those of the original's `assemble`, run on files in a folder of its own; this text is compiled behind the
-// original's (oracle/make). The original gives no number: `number` finds document 01's by the message. Nor does it give
+// original's and behind messages.rs (oracle/make). The original gives no number: `number` finds document 01's by the message. Nor does it give
 // a key's place, a line, k or p: the place is that of the first key that the original's `json_u64_for_key` refuses, the
 // line the least number of body lines with which `assemble` refuses so, and k and p are counted in the output.
 // A stem that is empty can't be made by a file, nor one of 252 to 255 bytes that is accepted (`.ops` is added to it).
@@ -10,43 +10,12 @@ use std::os::unix::ffi::OsStrExt;
 
 const ROOM: usize = 16384;
 
-fn number(message: &str) -> u32 {
-    let starts = [
-        ("cannot read contract: stream did not contain valid UTF-8", 1),
-        ("cannot read vector: stream did not contain valid UTF-8", 2),
-        ("no function definition found", 3),
-        ("function parameter list missing", 4),
-        ("function parameter list is unclosed", 5),
-        ("function body missing", 6),
-        ("function body is unclosed", 7),
-        ("vector missing key: ", 8),
-        ("vector key has no value: ", 9),
-        ("invalid let statement: ", 12),
-        ("invalid character in expression: ", 13),
-        ("unexpected end of expression", 14),
-        ("unbalanced parenthesis", 15),
-        ("invalid u64 literal: ", 16),
-        ("unknown identifier in expression: ", 17),
-        ("unconsumed expression tokens in: ", 19),
-        ("unconsumed return expression tokens in: ", 19),
-        ("no return statement in EXEC-GATE subset", 22),
-        ("DivisionByZero in native assembler simulation", 23),
-        ("native assembly simulation ", 24),
-        ("invalid contract filename", 25),
-    ];
-    if message.starts_with("vector value for ") {
-        return if message.ends_with(" is not u64") { 11 } else { 10 };
-    }
-    let found = starts.iter().find(|(start, _)| message.starts_with(start));
-    found.unwrap_or_else(|| panic!("no refusal of document 01: {message}")).1
-}
-
 struct Cases {
     folder: PathBuf,
     input: Vec<u8>,
     output: Vec<u8>,
     seen: HashSet<Vec<u8>>,
-    counts: BTreeMap<u32, usize>,
+    counts: BTreeMap<u64, usize>,
 }
 
 impl Cases {

@@ -1,5 +1,5 @@
 // The cases of crates/replay that read a contract and its vector: what the original's `find_function` and
-// `json_u64_for_key` answer. Both are private there, so this text is compiled behind the original's (oracle/make).
+// `json_u64_for_key` answer. Both are private there, so this text is compiled behind the original's and messages.rs (oracle/make).
 use std::fmt::Write;
 
 struct Cases {
@@ -9,23 +9,6 @@ struct Cases {
 
 fn hex(s: &str) -> String {
     s.bytes().map(|b| format!("{b:02x}")).collect()
-}
-
-// The number of a refusal in document 01, by a part of the original's message.
-fn refusal(message: &str) -> String {
-    let numbers = [
-        ("no function", 3),
-        ("list missing", 4),
-        ("list is unclosed", 5),
-        ("body missing", 6),
-        ("body is unclosed", 7),
-        ("missing key", 8),
-        ("no value", 9),
-        ("not an unsigned", 10),
-        ("not u64", 11),
-    ];
-    let found = numbers.iter().find(|(part, _)| message.contains(part));
-    found.expect("a refusal of document 01").1.to_string()
 }
 
 impl Cases {
@@ -40,7 +23,7 @@ impl Cases {
                 let names: String = names.iter().map(|n| hex(n) + " ").collect();
                 format!("0 {names}| {}", hex(&body))
             }
-            Err(message) => refusal(&message),
+            Err(message) => number(&message).to_string(),
         };
         self.add('F', contract, "", answer);
     }
@@ -48,7 +31,7 @@ impl Cases {
     fn value(&mut self, vector: &str, key: &str) {
         let answer = match json_u64_for_key(vector, key) {
             Ok(n) => format!("0 {n}"),
-            Err(message) => refusal(&message),
+            Err(message) => number(&message).to_string(),
         };
         self.add('V', vector, key, answer);
     }

@@ -1,5 +1,5 @@
 // Puts the original's four files at the crate's root, from their own place: ATC_VM, or ../shared/docs/src beside the
-// repository. The assembler's functions are private, so its text is compiled with src/behind_assembler.rs behind it.
+// repository. The assembler's functions are private, so its text is compiled with ../messages.rs and src/behind_assembler.rs behind it.
 use std::path::{Path, PathBuf};
 use std::{env, fs};
 
@@ -9,9 +9,9 @@ fn main() {
     let original = root.join(env::var("ATC_VM").unwrap_or("../shared/docs/src".into())).join("src");
     let original = original.canonicalize().expect("the original's src/: set ATC_VM to the folder that holds it");
     let out = PathBuf::from(env::var("OUT_DIR").unwrap());
-    let behind = root.join("oracle/compare/src/behind_assembler.rs");
+    let behind = [root.join("oracle/messages.rs"), root.join("oracle/compare/src/behind_assembler.rs")];
     let text = |p: &Path| fs::read_to_string(p).unwrap_or_else(|e| panic!("{}: {e}", p.display()));
-    fs::write(out.join("assembler.rs"), text(&original.join("assembler.rs")) + &text(&behind)).unwrap();
+    fs::write(out.join("assembler.rs"), text(&original.join("assembler.rs")) + &text(&behind[0]) + &text(&behind[1])).unwrap();
     let mut modules = String::new();
     for name in ["context", "ops", "vm", "assembler"] {
         let folder = if name == "assembler" { &out } else { &original };
@@ -21,7 +21,9 @@ fn main() {
     fs::write(out.join("original.rs"), modules).unwrap();
     let library = root.join("target/staticlib");
     println!("cargo:rerun-if-env-changed=ATC_VM");
-    println!("cargo:rerun-if-changed={}", behind.display());
+    for file in &behind {
+        println!("cargo:rerun-if-changed={}", file.display());
+    }
     println!("cargo:rerun-if-changed={}", library.join("libatc_vm.a").display());
     println!("cargo:rustc-link-search=native={}", library.display());
     println!("cargo:rustc-link-lib=static=atc_vm");
