@@ -1,12 +1,11 @@
 -- The gate's tests, place by place, and what they say.
-use Prim.Native.Nat.{ℕ, suc, _+_, _<_, _≤_}
+use Prim.Native.Nat.{ℕ, suc, _+_, _<_}
 use mathlib.Core.Path.{_≡_, refl, sym, ap, ap₂, _∙_}
 use mathlib.Core.List.{List, [], _∷_}
 use mathlib.Core.Bool.{Bool, true, false, not, _&&_}
-use native.Mathlib.Omega.{arith}
 use lib.Dec.{eqb}
 use lib.ListN.{length, getD, drop}
-use borrow.Author.Tests.{eq-eqb, ne-eqb, eqb-true, not-true, not-false}
+use borrow.Author.Tests.{eq-eqb, eqb-true, not-true, not-false}
 use Rattle.byte.proofs.Tests.{never, and-left, and-right}
 use Rattle.byte.proofs.Parts.{next}
 use Rattle.context.specs.Gate.{equal, isHexDigit, allHexDigits}
@@ -25,14 +24,28 @@ equal-lengths (a ∷ s) (b ∷ t) n = go (eqb a b) (equal-lengths s t (λ e. n (
 equal-next : (s t : List ℕ) (i : ℕ) → i < length s → i < length t → equal (drop i s) (drop i t) ≡ (eqb (getD s i 0) (getD t i 0) && equal (drop (i + 1) s) (drop (i + 1) t))
 equal-next s t i h k = rw (next s i (i + 1) h refl, next t i (i + 1) k refl)
 
-pub equal-on : (s t : List ℕ) (i : ℕ) → i < length s → i < length t → getD s i 0 ≡ getD t i 0 → equal (drop i s) (drop i t) ≡ equal (drop (i + 1) s) (drop (i + 1) t)
-equal-on s t i h k e = rw (equal-next s t i h k, eq-eqb (getD s i 0) (getD t i 0) e)
+pub and-true : (p : Bool) → (p && true) ≡ p
+and-true true = refl
+and-true false = refl
 
-pub equal-off : (s t : List ℕ) (i : ℕ) → i < length s → i < length t → (getD s i 0 ≡ getD t i 0 → ⊥) → equal (drop i s) (drop i t) ≡ false
-equal-off s t i h k n = rw (equal-next s t i h k, ne-eqb (getD s i 0) (getD t i 0) n)
+-- two tests joined, where the first is known
+pub joined-on : (w r q : Bool) → w ≡ (r && q) → r ≡ true → w ≡ q
+joined-on w r q e f = e ∙ ap (λ p. p && q) f
 
-pub hex-at : (s : List ℕ) (i : ℕ) (p : Bool) → i < length s → isHexDigit (getD s i 0) ≡ p → allHexDigits (drop i s) ≡ (p && allHexDigits (drop (i + 1) s))
-hex-at s i p h e = rw (next s i (i + 1) h refl, e)
+pub joined-off : (w r q : Bool) → w ≡ (r && q) → r ≡ false → w ≡ false
+joined-off w r q e f = e ∙ ap (λ p. p && q) f
+
+-- a test joined with the first of two more
+joined : (w all p q r : Bool) → w ≡ (all && (p && q)) → r ≡ (all && p) → w ≡ (r && q)
+joined w true p q r e f = rw f e
+joined w false p q r e f = rw f e
+
+-- the test at one place more, joined with those before it
+pub equal-step : (s t : List ℕ) (i : ℕ) (w all r : Bool) → i < length s → i < length t → w ≡ (all && equal (drop i s) (drop i t)) → r ≡ (all && eqb (getD s i 0) (getD t i 0)) → w ≡ (r && equal (drop (i + 1) s) (drop (i + 1) t))
+equal-step s t i w all r h k e f = joined w all (eqb (getD s i 0) (getD t i 0)) (equal (drop (i + 1) s) (drop (i + 1) t)) r (e ∙ ap (λ x. all && x) (equal-next s t i h k)) f
+
+pub hex-step : (s : List ℕ) (i : ℕ) (w all p r : Bool) → i < length s → p ≡ isHexDigit (getD s i 0) → w ≡ (all && allHexDigits (drop i s)) → r ≡ (all && p) → w ≡ (r && allHexDigits (drop (i + 1) s))
+hex-step s i w all p r h d e f = joined w all p (allHexDigits (drop (i + 1) s)) r (e ∙ ap (λ x. all && x) (rw (next s i (i + 1) h refl, sym d))) f
 
 -- the test says equality
 pub equal-refl : (s : List ℕ) → equal s s ≡ true

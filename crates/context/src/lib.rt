@@ -1,6 +1,12 @@
 // The chain gate: what a state transition tests of its context before anything else is looked at.
 ghost use mathlib.Core.Path.{_≡_};
+ghost use mathlib.Core.Bool.{_&&_};
+ghost use Prim.Native.Nat.{_+_, _≤_};
+ghost use lib.ListN.{length, drop};
 ghost use Rattle.context.specs.Gate.{equal, isHexDigit, allHexDigits, isNetwork, isGenesisId, gateOf};
+
+// How many bytes are compared at a time.
+const BLOCK: usize = 16;
 
 pub enum ContextError {
     InvalidChainId,
@@ -57,13 +63,27 @@ fn same(a: &[u8], b: &[u8]) -> bool
         return false;
     }
     let mut i: usize = 0;
-    while i < a.len() {
-        if a[i] != b[i] {
+    while BLOCK <= a.len() - i {
+        if !agree(a, b, i, BLOCK) {
             return false;
         }
-        i += 1;
+        i += BLOCK;
     }
-    true
+    agree(a, b, i, a.len() - i)
+}
+
+// Whether the n bytes from a place on are the same. No branch: a block compiles to vector code.
+fn agree(a: &[u8], b: &[u8], at: usize, n: usize) -> bool
+    requires { ⌜ (at + n ≤ length (now a)) × (at + n ≤ length (now b)) ⌝ }
+    ensures { λ r. ⌜ equal (drop at (now (a .entry))) (drop at (now (b .entry))) ≡ (r && equal (drop (at + n) (now (a .entry))) (drop (at + n) (now (b .entry)))) ⌝ }
+{
+    let mut all = true;
+    let mut k: usize = 0;
+    while k < n {
+        all = byte::both(all, a[at + k] == b[at + k]);
+        k += 1;
+    }
+    all
 }
 
 fn is_network(s: &[u8]) -> bool
@@ -76,20 +96,22 @@ fn is_network(s: &[u8]) -> bool
 fn is_genesis_id(s: &[u8]) -> bool
     ensures { λ r. ⌜ r ≡ isGenesisId (now (s .entry)) ⌝ }
 {
-    byte::both(s.len() == 64, all_hex_digits(s))
+    if s.len() != 64 {
+        return false;
+    }
+    all_hex_digits(s)
 }
 
 fn all_hex_digits(s: &[u8]) -> bool
     ensures { λ r. ⌜ r ≡ allHexDigits (now (s .entry)) ⌝ }
 {
+    let mut all = true;
     let mut i: usize = 0;
     while i < s.len() {
-        if !is_hex_digit(s[i]) {
-            return false;
-        }
+        all = byte::both(all, is_hex_digit(s[i]));
         i += 1;
     }
-    true
+    all
 }
 
 fn is_hex_digit(a: u8) -> bool

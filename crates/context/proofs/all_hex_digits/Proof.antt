@@ -1,20 +1,20 @@
--- `context::all_hex_digits` meets its contract: the digits passed leave the test to the rest of the text.
-use Prim.Native.Nat.{_≤_, _-_}
+-- `context::all_hex_digits` meets its contract: the test of the bytes passed, joined with that of what is left.
+use Prim.Native.Nat.{_-_, _≤_}
 use mathlib.Core.Path.{_≡_, refl, sym, ap, _∙_}
-use mathlib.Core.Bool.{true, false}
+use mathlib.Core.Bool.{_&&_}
 use native.Mathlib.Omega.{arith}
 use lib.ListN.{length, drop, drop-of-length-le}
 use Rattle.context.specs.Gate.{allHexDigits}
-use Rattle.context.proofs.Laws.{hex-at, holds, fails}
+use Rattle.context.proofs.Laws.{and-true, hex-step}
 use borrow.Author.Needs.{needs}
 use Rattle.context.proofs.all_hex_digits.Statement.{statement}
 use Rattle.context.proofs.all_hex_digits.Tie as tie
 
 abbrev Inv-loop : tie.InvT-loop
-Inv-loop s i₀ i = (i ≤ length s) × (allHexDigits s ≡ allHexDigits (drop i s))
+Inv-loop s all₀ i₀ all i = (i ≤ length s) × (allHexDigits s ≡ (all && allHexDigits (drop i s)))
 
 abbrev μ-loop : tie.MeasureT-loop
-μ-loop s i₀ i = length s - i
+μ-loop s all₀ i₀ all i = length s - i
 
 loop-holds : tie.Need-loop-holds Inv-loop μ-loop
 loop-holds c = (omega arith, refl)
@@ -25,11 +25,8 @@ shared-slice-read-is-hex-digit c = search needs
 is-hex-digit-requires : tie.Need-is-hex-digit-requires Inv-loop μ-loop
 is-hex-digit-requires c κs = search needs
 
-returns : tie.Need-returns Inv-loop μ-loop
-returns c =
-    let a = c .before .before .before .before .before .before .args in
-    let l = c .before .before .before .before .loop in
-    sym (l .inv .1 ∙ hex-at (a .s .now) (l .i) false (omega arith) (fails (c .before .is-hex-digit .ensures) (c .if1 .taken)))
+both-requires : tie.Need-both-requires Inv-loop μ-loop
+both-requires c κs = search needs
 
 add-i : tie.Need-add-i Inv-loop μ-loop
 add-i c = search needs
@@ -41,12 +38,12 @@ loop-again : tie.Need-loop-again Inv-loop μ-loop
 loop-again c =
     let a = c .before .before .before .before .before .before .args in
     let l = c .before .before .before .before .loop in
-    (omega arith, l .inv .1 ∙ hex-at (a .s .now) (l .i) true (omega arith) (holds (c .before .is-hex-digit .ensures) (c .if1 .left)))
+    (omega arith, hex-step (a .s .now) (l .i) _ (l .all) (c .before .is-hex-digit .result) (c .both .result) (omega arith) (c .before .is-hex-digit .ensures) (l .inv .1) (c .both .ensures))
 
-returns-2 : tie.Need-returns-2 Inv-loop μ-loop
-returns-2 c =
+returns : tie.Need-returns Inv-loop μ-loop
+returns c =
     let l = c .before .loop in
-    sym (l .inv .1 ∙ ap allHexDigits (drop-of-length-le _ (c .loop-test .left)))
+    sym (l .inv .1 ∙ ap (λ s. l .all && allHexDigits s) (drop-of-length-le _ (c .loop-test .left)) ∙ and-true (l .all))
 
 pub all-hex-digits-spec : {M : Type 1} → statement M
 all-hex-digits-spec =
@@ -57,8 +54,8 @@ all-hex-digits-spec =
     loop-holds
     shared-slice-read-is-hex-digit
     is-hex-digit-requires
-    returns
+    both-requires
     add-i
     loop-less
     loop-again
-    returns-2)
+    returns)

@@ -1,10 +1,12 @@
--- `context::same` meets its contract: the bytes passed agree, so the texts are equal where what is left of them is.
-use Prim.Native.Nat.{_≤_, _-_}
-use mathlib.Core.Path.{_≡_, refl, sym, ap₂, _∙_}
+-- `context::same` meets its contract: the blocks passed agree, so the texts are equal where what is left of them is.
+use Prim.Native.Nat.{_+_, _-_, _≤_}
+use mathlib.Core.Path.{_≡_, refl, sym, ap, ap₂, _∙_}
+use mathlib.Core.Bool.{true, _&&_}
+use borrow.Author.Tests.{not-true, not-false}
 use native.Mathlib.Omega.{arith}
 use lib.ListN.{length, drop, drop-of-length-le}
 use Rattle.context.specs.Gate.{equal}
-use Rattle.context.proofs.Laws.{equal-lengths, equal-on, equal-off}
+use Rattle.context.proofs.Laws.{equal-lengths, and-true, joined-on, joined-off}
 use borrow.Author.Needs.{needs}
 use Rattle.context.proofs.same.Statement.{statement}
 use Rattle.context.proofs.same.Tie as tie
@@ -16,22 +18,21 @@ abbrev μ-loop : tie.MeasureT-loop
 μ-loop a b i₀ i = length a - i
 
 returns : tie.Need-returns Inv-loop μ-loop
-returns c = sym (equal-lengths (c .before .args .a .now) (c .before .args .b .now) (c .if1 .taken))
+returns c = sym (equal-lengths (c .before .before .before .args .a .now) (c .before .before .before .args .b .now) (c .if1 .taken))
 
 loop-holds : tie.Need-loop-holds Inv-loop μ-loop
 loop-holds c = (omega arith, omega arith, refl)
 
-shared-slice-read-if2 : tie.Need-shared-slice-read-if2 Inv-loop μ-loop
-shared-slice-read-if2 c = search needs
+sub-loop : tie.Need-sub-loop Inv-loop μ-loop
+sub-loop c = search needs
 
-shared-slice-read-if2-2 : tie.Need-shared-slice-read-if2-2 Inv-loop μ-loop
-shared-slice-read-if2-2 c = search needs
+agree-requires : tie.Need-agree-requires Inv-loop μ-loop
+agree-requires c κs = (omega arith, omega arith)
 
 returns-2 : tie.Need-returns-2 Inv-loop μ-loop
 returns-2 c =
-    let a = c .before .before .before .before .before .before .args in
-    let l = c .before .before .before .before .loop in
-    sym (l .inv .2 ∙ equal-off (a .a .now) (a .b .now) (l .i) (omega arith) (omega arith) (c .if2 .taken))
+    let l = c .before .before .before .loop in
+    sym (joined-off _ (c .before .agree .result) _ (l .inv .2 ∙ c .before .agree .ensures) (not-true _ (c .if2 .taken)))
 
 add-i : tie.Need-add-i Inv-loop μ-loop
 add-i c = search needs
@@ -41,14 +42,22 @@ loop-less c = search needs
 
 loop-again : tie.Need-loop-again Inv-loop μ-loop
 loop-again c =
-    let a = c .before .before .before .before .before .before .args in
-    let l = c .before .before .before .before .loop in
-    (omega arith, omega arith, l .inv .2 ∙ equal-on (a .a .now) (a .b .now) (l .i) (omega arith) (omega arith) (c .if2 .left))
+    let l = c .before .before .before .loop in
+    (omega arith, omega arith, joined-on _ (c .before .agree .result) _ (l .inv .2 ∙ c .before .agree .ensures) (not-false _ (c .if2 .left)))
+
+sub-agree : tie.Need-sub-agree Inv-loop μ-loop
+sub-agree c = search needs
+
+agree-requires-2 : tie.Need-agree-requires-2 Inv-loop μ-loop
+agree-requires-2 c κs = (omega arith, omega arith)
 
 returns-3 : tie.Need-returns-3 Inv-loop μ-loop
 returns-3 c =
-    let l = c .before .loop in
-    sym (l .inv .2 ∙ ap₂ equal (drop-of-length-le _ (c .loop-test .left)) (drop-of-length-le (c .before .before .before .args .b .now) {i = l .i} (omega arith)))
+    let a = c .before .before .before .before .before .before .args in
+    let l = c .before .before .loop in
+    let n = l .i + (length (a .a .now) - l .i) in
+    let ends : equal (drop n (a .a .now)) (drop n (a .b .now)) ≡ true = ap₂ equal (drop-of-length-le (a .a .now) {i = n} (omega arith)) (drop-of-length-le (a .b .now) {i = n} (omega arith)) in
+    sym (l .inv .2 ∙ c .agree2 .ensures ∙ ap (λ p. c .agree2 .result && p) ends ∙ and-true (c .agree2 .result))
 
 pub same-spec : {M : Type 1} → statement M
 same-spec =
@@ -58,10 +67,12 @@ same-spec =
     μ-loop
     returns
     loop-holds
-    shared-slice-read-if2
-    shared-slice-read-if2-2
+    sub-loop
+    agree-requires
     returns-2
     add-i
     loop-less
     loop-again
+    sub-agree
+    agree-requires-2
     returns-3)
