@@ -60,12 +60,16 @@ module _ {s : List ℕ} {start end : ℕ} (w : Within s start end) where
           (λ z u d. leads-on (represents-later s e next (y .before) (omega (arith, y .high, w .inside)) u) (m ∙ ap (λ (o : Outcome). andThen o (λ v. each one (n + 1) v (items next))) d))
           (λ why u d. leads-off u (m ∙ ap (λ (o : Outcome). andThen o (λ v. each one (n + 1) v (items next))) d))
 
-      pub turn-next : isRefused (r .status) ≡ false → Turn s one items all start end first next (n + 1) r
+      -- a state with the status of a is not refused
+      pub turn-next : r .status ≡ a .status → Turn s one items all start end first next (n + 1) r
       turn-next b = record {
         low = omega (arith, y .on, t .low);
         high = y .high;
         counted = omega (arith, y .on, t .counted);
-        leads = λ st q. by-leads (onward st q) (λ x u d. (x, (u, d))) (λ why u d. absurd (let z : _≡_ {A = Bool} true false = sym (ap isRefused u) ∙ b in let c : _≡_ {A = ℕ} 0 1 = cc in omega arith));
+        leads = λ st q.
+            by-leads (onward st q)
+            (λ x u d. (x, (u, d)))
+            (λ why u d. absurd (let z : _≡_ {A = Bool} true false = sym (ap isRefused u) ∙ ap isRefused (b ∙ t .leads st q .1 .0 .going) in let c : _≡_ {A = ℕ} 0 1 = cc in omega arith));
       }
 
       pub turn-off : isRefused (r .status) ≡ true → Follows (take start s) first (λ st. each one 1 st all) (take end s) r

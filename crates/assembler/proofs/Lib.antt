@@ -6,6 +6,7 @@ pub mod Sourced
 pub mod Leading
 pub mod Checking
 pub mod Lines
+pub mod Reading
 pub mod Coming
 pub mod BodyLines
 pub mod Naming

@@ -2,6 +2,7 @@
 use Prim.Native.Nat.{ℕ, _-_, _≤_}
 use mathlib.Core.Path.{_≡_, refl, sym, ap, subst, _∙_}
 use mathlib.Core.List.{List}
+use mathlib.Core.Option.{some}
 use native.Mathlib.Omega.{arith}
 use borrow.Author.Tests.{le-leb}
 use lib.ListN.{take, drop}
@@ -15,6 +16,7 @@ use Rattle.expression.proofs.Meaning.{meaning-empty}
 use Rattle.trim.specs.Trim.{trimmed}
 use Rattle.assembler.specs.declared.body.Checked.{Checked}
 use Rattle.assembler.specs.declared.body.Checked.the-variants.{Is, Refused}
+use Rattle.assembler.specs.declared.body.LineRead.the-variants as Line
 use Rattle.assembler.specs.declared.refusal.Refusal.{Refusal}
 use Rattle.assembler.specs.declared.refusal.Refusal.the-variants.{NoEquals}
 use Rattle.assembler.specs.declared.state.State as Code
@@ -27,6 +29,7 @@ use Rattle.assembler.specs.Body.{treeOr, performed, lineRead}
 use Rattle.assembler.specs.Places.{Inside, AllInside, Stands, statementAt, texts}
 use Rattle.assembler.specs.Stored.{refusedAs, returning, numberIn, Small, Bound}
 use Rattle.assembler.specs.Held.{Represents, Good, Leads, Follows, ChecksAll, Within, LetWithin}
+use Rattle.assembler.specs.Says.{letOf, returnOf, Says}
 use Rattle.assembler.proofs.Places.{stands}
 use Rattle.assembler.proofs.Holding.{part-take}
 use Rattle.assembler.proofs.Sourced.{Gives}
@@ -53,18 +56,15 @@ module _ (s : List ℕ) (a : Code.State) (expr : Span) (w : Within s (expr .star
   part-in : part behind (expr .start) (expr .end) ≡ text
   part-in = part-take s (expr .end) (expr .end) (omega arith) (w .inside) (expr .start) (expr .end - expr .start) (omega (arith, w .ordered, length-take-le (expr .end) s (w .inside)))
 
-  pub carry : {x y : Checked} → x ≡ y → ChecksAll behind (columns (a .table) (a .values)) line text x → ChecksAll behind (columns (a .table) (a .values)) line text y
-  carry e k = subst (λ (z : Checked). ChecksAll behind (columns (a .table) (a .values)) line text z) e k
-
-  pub expression-refused : {why : Refusal} → ChecksAll behind (columns (a .table) (a .values)) line text (Refused why)
+  expression-refused : {why : Refusal} → ChecksAll behind (columns (a .table) (a .values)) line text (Refused why)
       → (f : State → Tree → Outcome) → Follows before a (λ st. treeOr (meaning (st .env) text) line (f st)) behind (refusedAs a why)
   expression-refused k f = record { leads = λ st q. leads-off refl (k .is (st .env) (later q .holds) (f st)) }
 
   module _ {v : Read} (k : ChecksAll behind (columns (a .table) (a .values)) line text (Is v)) where
-    pub small : Good before a → Small v
+    small : Good before a → Small v
     small g = let x = k .is (g .st .env) (later (g .represents) .holds) in figures-small (x .1 .1 .0) (x .1 .1 .1)
 
-    pub return-read : Follows before a (λ st. performed line st (returns text)) behind (returning a expr v)
+    return-read : Follows before a (λ st. performed line st (returns text)) behind (returning a expr v)
     return-read = record {
       leads = λ st q.
           let x = k .is (st .env) (later q .holds) in
@@ -97,7 +97,7 @@ module _ (s : List ℕ) (a : Code.State) (expr : Span) (w : Within s (expr .star
       means = λ l. rw part-in e;
     }
 
-    pub let-read : (name : Span) (r : Code.State) → name .start ≤ name .end → name .end ≤ expr .start → Bound a name expr v r
+    let-read : (name : Span) (r : Code.State) → name .start ≤ name .end → name .end ≤ expr .start → Bound a name expr v r
         → Follows before a (λ st. performed line st (binds (part s (name .start) (name .end)) text)) behind r
     let-read name r o h b = record {
       leads = λ st q.
@@ -109,53 +109,79 @@ module _ (s : List ℕ) (a : Code.State) (expr : Span) (w : Within s (expr .star
     }
 
 -- the line from start to end of the contract
-module _ (s : List ℕ) (a : Code.State) (start end : ℕ) (w : Within s start end) (line : ℕ) where
-  abbrev read : State → Outcome
-  read st = lineRead line st (part s start end)
-
-  module _ (r : Statement) (e : r ≡ statementAt s start end) where
-    here : Stands s start end (trimmed (part s start end)) r
-    here = rw e (stands s start end (w .ordered) (w .inside))
-
-    says : (st : State) → read st ≡ performed line st (texts s r)
-    says st = ap (performed line st) (sym (here .says))
-
-  pub line-skipped : Stmt.Skipped ≡ statementAt s start end → Follows (take start s) a read (take end s) a
-  line-skipped e = record { leads = λ st q. leads-on (represents-later s start end (w .ordered) (w .inside) q) (says _ e st) }
-
-  pub line-no-equals : Stmt.NoEquals ≡ statementAt s start end → Follows (take start s) a read (take end s) (refusedAs a (NoEquals line))
-  line-no-equals e = record { leads = λ st q. leads-off refl (says _ e st) }
+module _ (s : List ℕ) (start end : ℕ) (w : Within s start end) where
+  here : (r : Statement) → r ≡ statementAt s start end → Stands s start end (trimmed (part s start end)) r
+  here r e = rw e (stands s start end (w .ordered) (w .inside))
 
   within : (p : Span) → Inside start end p → Within s (p .start) (p .end)
   within p i = record { short = w .short; ordered = i .ordered; fits = let x = i .high in let y = w .fits in omega arith; inside = let x = i .high in let y = w .inside in omega arith }
 
-  -- what a part of the line makes of a state is what the line does
-  wider : {f : State → Outcome} {r : Code.State} (p : Span) → Inside start end p → Follows (take (p .start) s) a f (take (p .end) s) r → ((st : State) → read st ≡ f st) → Follows (take start s) a read (take end s) r
-  wider {f} {r} p i g e = record {
-    leads = λ st q.
-        let x = g .leads st (represents-later s start (p .start) (i .low) (let y = w .inside in omega (arith, i .ordered, i .high)) q) in
-        leads-later s (p .end) end (i .high) (w .inside) (subst (λ (u : Outcome). Leads (take (p .end) s) r u goes) (sym (e st)) x);
-  }
-
-  pub good-within : (p : Span) → Inside start end p → Good (take start s) a → Good (take (p .start) s) a
-  good-within p i g = record { st = g .st; represents = represents-later s start (p .start) (i .low) (let y = w .inside in omega (arith, i .ordered, i .high)) (g .represents) }
-
   module _ (name expr : Span) (e : Stmt.Let name expr ≡ statementAt s start end) where
-    pub let-inside : AllInside start end (Stmt.Let name expr)
+    let-inside : AllInside start end (Stmt.Let name expr)
     let-inside = here _ e .inside
 
     pub let-within : LetWithin s name expr
     let-within = let i = let-inside in record { ordered = i .0 .ordered; between = i .1 .1; within = within expr (i .1 .0) }
 
-    pub line-let : {r : Code.State} → Follows (take (expr .start) s) a (λ st. performed line st (binds (part s (name .start) (name .end)) (part s (expr .start) (expr .end)))) (take (expr .end) s) r → Follows (take start s) a read (take end s) r
-    line-let g = wider expr (let-inside .1 .0) g (says _ e)
-
   module _ (expr : Span) (e : Stmt.Return expr ≡ statementAt s start end) where
-    pub return-inside : Inside start end expr
+    return-inside : Inside start end expr
     return-inside = here _ e .inside
 
     pub return-within : Within s (expr .start) (expr .end)
     return-within = within expr return-inside
 
-    pub line-return : {r : Code.State} → Follows (take (expr .start) s) a (λ st. performed line st (returns (part s (expr .start) (expr .end)))) (take (expr .end) s) r → Follows (take start s) a read (take end s) r
-    line-return g = wider expr return-inside g (says _ e)
+  -- what it makes of a state
+  module _ (a : Code.State) (line : ℕ) where
+    abbrev read : State → Outcome
+    read st = lineRead line st (part s start end)
+
+    says : (r : Statement) → r ≡ statementAt s start end → (st : State) → read st ≡ performed line st (texts s r)
+    says r e st = ap (performed line st) (sym (here r e .says))
+
+    -- what a part of the line makes of a state is what the line does
+    wider : {f : State → Outcome} {r : Code.State} (p : Span) → Inside start end p → Follows (take (p .start) s) a f (take (p .end) s) r → ((st : State) → read st ≡ f st) → Follows (take start s) a read (take end s) r
+    wider {f} {r} p i g e = record {
+      leads = λ st q.
+          let x = g .leads st (represents-later s start (p .start) (i .low) (let y = w .inside in omega (arith, i .ordered, i .high)) q) in
+          leads-later s (p .end) end (i .high) (w .inside) (subst (λ (u : Outcome). Leads (take (p .end) s) r u goes) (sym (e st)) x);
+    }
+
+    good-within : (p : Span) → Inside start end p → Good (take start s) a → Good (take (p .start) s) a
+    good-within p i g = record { st = g .st; represents = represents-later s start (p .start) (i .low) (let y = w .inside in omega (arith, i .ordered, i .high)) (g .represents) }
+
+    -- a state that an equation gives
+    given : {x : Code.State} → Follows (take start s) a read (take end s) x → (r : Code.State) → r ≡ x → Follows (take start s) a read (take end s) r
+    given f r e = subst (λ (y : Code.State). Follows (take start s) a read (take end s) y) (sym e) f
+
+    pub says-nothing : Stmt.Skipped ≡ statementAt s start end → Says s start end line a Line.Nothing
+    says-nothing e = record { fits = tt; follows = given (record { leads = λ st q. leads-on (represents-later s start end (w .ordered) (w .inside) q) (says _ e st) }) }
+
+    pub says-no-equals : Stmt.NoEquals ≡ statementAt s start end → Says s start end line a (Line.Refused (NoEquals line))
+    says-no-equals e = record { fits = tt; follows = given (record { leads = λ st q. leads-off refl (says _ e st) }) }
+
+    module _ (name expr : Span) (e : Stmt.Let name expr ≡ statementAt s start end) where
+      line-let : {r : Code.State} → Follows (take (expr .start) s) a (λ st. performed line st (binds (part s (name .start) (name .end)) (part s (expr .start) (expr .end)))) (take (expr .end) s) r → Follows (take start s) a read (take end s) r
+      line-let g = wider expr (let-inside name expr e .1 .0) g (says _ e)
+
+      pub says-let : (x : Checked) → ChecksAll (take (expr .end) s) (columns (a .table) (a .values)) line (part s (expr .start) (expr .end)) x → Good (take start s) a → Says s start end line a (letOf name expr x)
+      says-let (Is v) k g =
+          let l = let-within name expr e in
+          record {
+            fits = (
+              record { ordered = l .ordered; fits = omega (arith, l .between, l .within .ordered, l .within .fits) },
+              (
+                record { ordered = l .within .ordered; fits = l .within .fits },
+                small s a expr (l .within) line k (good-within expr (let-inside name expr e .1 .0) g),
+              ),
+            );
+            follows = λ r b. line-let (let-read s a expr (l .within) line k name r (l .ordered) (l .between) b);
+          }
+      says-let (Refused why) k g = record { fits = tt; follows = given (line-let (expression-refused s a expr (let-within name expr e .within) line k (λ st. bound st (part s (name .start) (name .end))))) }
+
+    module _ (expr : Span) (e : Stmt.Return expr ≡ statementAt s start end) where
+      line-return : {r : Code.State} → Follows (take (expr .start) s) a (λ st. performed line st (returns (part s (expr .start) (expr .end)))) (take (expr .end) s) r → Follows (take start s) a read (take end s) r
+      line-return g = wider expr (return-inside expr e) g (says _ e)
+
+      pub says-return : (x : Checked) → ChecksAll (take (expr .end) s) (columns (a .table) (a .values)) line (part s (expr .start) (expr .end)) x → Says s start end line a (returnOf expr x)
+      says-return (Is v) k = record { fits = tt; follows = given (line-return (return-read s a expr (return-within expr e) line k)) }
+      says-return (Refused why) k = record { fits = tt; follows = given (line-return (expression-refused s a expr (return-within expr e) line k (λ st t. goes (record { env = st .env; last = some t })))) }

@@ -9,5 +9,6 @@ pub mod Places
 pub mod Stored
 pub mod Numbers
 pub mod Held
+pub mod Says
 pub mod Concluded
 pub mod Output

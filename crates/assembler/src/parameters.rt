@@ -6,14 +6,14 @@ ghost use Rattle.source.specs.Parameters.{parameters};
 ghost use Rattle.expression.specs.Tree.{num};
 ghost use Rattle.expression.specs.Figures.{Figures};
 ghost use Rattle.assembler.specs.Part.{part};
-ghost use Rattle.assembler.specs.Parameters.{keyed, parameterBound, parametersBound};
+ghost use Rattle.assembler.specs.Parameters.{keyed, parametersBound};
 ghost use Rattle.assembler.specs.Stored.{Small};
 ghost use Rattle.assembler.specs.Held.{Follows, Within, keyedAs};
 use crate::refusal::Refusal;
 use crate::state::State;
-use crate::state::bind;
-use crate::state::is_refused;
-use crate::state::refuse;
+use crate::state::Status;
+use crate::state::put;
+use crate::state::put_value;
 use expression::figures::Read;
 use expression::figures::Value;
 use number::decimal_len;
@@ -35,45 +35,64 @@ pub fn bind_parameters(contract: &[u8], vector: &[u8], start: usize, end: usize,
     requires { ⌜ Within (now contract) start end ⌝ }
     ensures { λ r. ⌜ Follows (take start (now (contract .entry))) a (λ st. parametersBound (now (vector .entry)) st (parameters (part (now (contract .entry)) start end))) (take end (now (contract .entry))) r ⌝ }
 {
-    let mut state = a;
+    let mut table = a.table;
+    let mut values = a.values;
+    let last = a.last;
+    let status = a.status;
     let mut at = start;
     let mut place: usize = 1;
     while at < end {
         let next = next_parameter(contract, at, end);
         let NextParameter::Is(p) = next else {
-            return state;
+            return State {
+                table,
+                values,
+                last,
+                status,
+            };
         };
-        state = bind_parameter(contract, vector, p.start, p.end, place, state);
-        let status = state.status;
-        if is_refused(status) {
-            return state;
+        let first = p.start;
+        let behind = p.end;
+        let number = number_for(vector, &contract[first..behind], place);
+        let n = match number {
+            Number::Is(n) => n,
+            Number::Refused(why) => {
+                return State {
+                    table,
+                    values,
+                    last,
+                    status: Status::Refused(why),
+                };
+            }
+        };
+        let read = literal(n);
+        let i = table.count;
+        if 256 <= i {
+            return State {
+                table,
+                values,
+                last,
+                status: Status::Refused(Refusal::TooManyBindings),
+            };
         }
+        let name = Span {
+            start: first,
+            end: behind,
+        };
+        let expr = Span {
+            start: behind,
+            end: behind,
+        };
+        table = put(table, name, expr, read.k, read.p);
+        values = put_value(values, i, read);
         at = p.next;
         place += 1;
     }
-    state
-}
-
-// One parameter, whose name stands from start to end of the contract.
-fn bind_parameter(
-    contract: &[u8],
-    vector: &[u8],
-    start: usize,
-    end: usize,
-    place: usize,
-    a: State,
-) -> State
-    requires { ⌜ Within (now contract) start end ⌝ }
-    ensures { λ r. ⌜ Follows (take start (now (contract .entry))) a (λ st. parameterBound (now (vector .entry)) place st (part (now (contract .entry)) start end)) (take end (now (contract .entry))) r ⌝ }
-{
-    let number = number_for(vector, &contract[start..end], place);
-    match number {
-        Number::Refused(why) => refuse(a, why),
-        Number::Is(n) => {
-            let name = Span { start, end };
-            let expr = Span { start: end, end };
-            bind(a, name, expr, literal(n))
-        }
+    State {
+        table,
+        values,
+        last,
+        status,
     }
 }
 

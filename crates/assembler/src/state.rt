@@ -2,7 +2,7 @@
 ghost use mathlib.Core.Path.{_≡_};
 ghost use Prim.Native.Nat.{_<_};
 ghost use Rattle.assembler.specs.Held.{isRefused};
-ghost use Rattle.assembler.specs.Stored.{Started, Small, Placed, Put, PutValue, Bound, numberIn, isNone, refusedAs, returning};
+ghost use Rattle.assembler.specs.Stored.{Started, Small, Placed, Put, PutValue, numberIn, isNone, refusedAs};
 use crate::refusal::Refusal;
 use expression::Bindings;
 use expression::Values;
@@ -83,49 +83,10 @@ pub fn refuse(a: State, refusal: Refusal) -> State
     }
 }
 
-pub fn keep_return(a: State, expr: Span, read: Read) -> State
-    ensures { λ r. ⌜ r ≡ returning a expr read ⌝ }
-{
-    let table = a.table;
-    let values = a.values;
-    let status = a.status;
-    let last = Returned {
-        start: expr.start,
-        end: expr.end,
-        count: table.count,
-        read,
-    };
-    State {
-        table,
-        values,
-        last: Last::Is(last),
-        status,
-    }
-}
-
-// One binding more, unless there are 256. Its places lie before a closing parenthesis or brace of a contract of at most
-// 65,536 bytes (1), and its k is 1 or was tested to be 32,768 at most (20): so places and figures fit the table's types.
-pub fn bind(a: State, name: Span, expr: Span, read: Read) -> State
-    requires { ⌜ Placed name × (Placed expr × Small read) ⌝ }
-    ensures { λ r. ⌜ Bound a name expr read r ⌝ }
-{
-    let table = a.table;
-    let count = table.count;
-    if 256 <= count {
-        return refuse(a, Refusal::TooManyBindings);
-    }
-    let values = a.values;
-    let last = a.last;
-    let status = a.status;
-    State {
-        table: put(table, name, expr, read.k, read.p),
-        values: put_value(values, count, read),
-        last,
-        status,
-    }
-}
-
-fn put(table: Bindings, name: Span, expr: Span, k: u64, p: u64) -> Bindings
+// One binding more. Its places lie before a closing parenthesis or brace of a contract of at most 65,536 bytes (1), and its k is 1 or
+// was tested to be 32,768 at most (20): so places and figures fit the table's types. The loops over parameters and lines call it where
+// there are fewer than 256 (21).
+pub fn put(table: Bindings, name: Span, expr: Span, k: u64, p: u64) -> Bindings
     requires { ⌜ (table .count < 256) × (Placed name × (Placed expr × ((k < 65536) × (p < 65536)))) ⌝ }
     ensures { λ r. ⌜ Put table name expr k p r ⌝ }
 {
@@ -141,7 +102,8 @@ fn put(table: Bindings, name: Span, expr: Span, k: u64, p: u64) -> Bindings
     t
 }
 
-fn put_value(values: Values, i: usize, read: Read) -> Values
+// The same beside the table.
+pub fn put_value(values: Values, i: usize, read: Read) -> Values
     requires { ⌜ (i < 256) × Small read ⌝ }
     ensures { λ r. ⌜ PutValue values i read r ⌝ }
 {

@@ -1,30 +1,36 @@
 -- `assembler::body::read_body` meets its contract: the lines before `at` were read, and those from there on are left to read.
 -- Assumes nothing.
 use Prim.Native.Nat.{_-_}
-use mathlib.Core.Path.{sym, _∙_}
+use mathlib.Core.Path.{refl, sym, _∙_}
 use native.Mathlib.Omega.{arith}
 use lib.Seq.{length-take-le}
 use denote.Ref.{now}
 use Rattle.lines.specs.Lines.{lines}
 use Rattle.assembler.specs.Part.{part}
 use Rattle.assembler.specs.Body.{lineRead}
-use Rattle.assembler.proofs.Coming.{Turn, turn-first, item-within, turn-good, turn-done, turn-next, turn-off}
+use Rattle.assembler.proofs.Coming.{turn-first, item-within, turn-done}
 use Rattle.assembler.proofs.BodyLines.{linesFrom, all-lines, lines-done, lines-end, line-item}
+use Rattle.assembler.proofs.Reading.{Lines, line-fits, line-next, line-off}
 use borrow.Author.Needs.{needs}
 use Rattle.assembler.proofs.body.read_body.Statement.{statement}
 use Rattle.assembler.proofs.body.read_body.Tie as tie
 
 abbrev Inv-loop : tie.InvT-loop
-Inv-loop contract start end state₀ at₀ line₀ state at line = Turn contract lineRead (linesFrom contract end) (lines (part contract start end)) start end state₀ at line state
+Inv-loop contract start end table₀ values₀ last₀ status at₀ line₀ table values last at line =
+    Lines contract start end (record { table = table₀; values = values₀; last = last₀; status = status }) at line (record { table = table; values = values; last = last; status = status })
 
 abbrev μ-loop : tie.MeasureT-loop
-μ-loop contract start end state₀ at₀ line₀ state at line = end - at
+μ-loop contract start end table₀ values₀ last₀ status at₀ line₀ table values last at line = end - at
 
 loop-holds : tie.Need-loop-holds Inv-loop μ-loop
-loop-holds c = let a = c .before in let s = now (a .args .contract) in turn-first s lineRead (linesFrom s (a .args .end)) (lines (part s (a .args .start) (a .args .end))) (a .args .start) (a .args .end) (a .args .a) (a .pre .0) (all-lines s (a .args .start) (a .args .end) (a .pre .0))
+loop-holds c =
+    let a = c .before .before .before in
+    let s = now (a .args .contract) in
+    turn-first s lineRead (linesFrom s (a .args .end)) (lines (part s (a .args .start) (a .args .end))) (a .args .start) (a .args .end) (a .args .a) (a .pre .0) (all-lines s (a .args .start) (a .args .end) (a .pre .0))
 
 slice-aggregate-line-at : tie.Need-slice-aggregate-line-at Inv-loop μ-loop
-slice-aggregate-line-at c = let w = c .before .before .before .before .pre .0 in sym (length-take-le _ _ (w .inside))
+slice-aggregate-line-at c =
+    sym (length-take-le _ _ (c .before .before .before .before .before .before .pre .0 .inside))
 
 line-at-requires : tie.Need-line-at-requires Inv-loop μ-loop
 line-at-requires c κs = search needs
@@ -36,28 +42,98 @@ enum-told : tie.Need-enum-told Inv-loop μ-loop
 enum-told c = search needs
 
 returns : tie.Need-returns Inv-loop μ-loop
-returns c = let a = c .before .before .before .before .before .before .before in let s = now (a .args .contract) in let t = c .before .before .before .before .before .loop .inv in turn-done (a .pre .0) t (lines-done s (a .args .start) (a .args .end) (a .pre .0) _ (sym (c .before .before .line-at .ensures) ∙ c .enum-told .given .1))
+returns c =
+    let a = c .before .before .before .before .before .before .before .before .before in
+    let s = now (a .args .contract) in
+    turn-done (a .pre .0) (c .before .before .before .before .before .loop .inv) (lines-done s (a .args .start) (a .args .end) (a .pre .0) _ (sym (c .before .before .line-at .ensures) ∙ c .enum-told .given .1))
 
 read-line-requires : tie.Need-read-line-requires Inv-loop μ-loop
-read-line-requires c κs = let a = c .before .before .before .before .before .before .before .before in let s = now (a .args .contract) in let t = c .before .before .before .before .before .before .loop .inv in (item-within (a .pre .0) (line-item s (a .args .start) (a .args .end) (a .pre .0) _ _ (sym (c .before .before .before .line-at .ensures) ∙ c .before .step .given .1)), turn-good (a .pre .0) t (a .pre .1))
-
-is-refused-requires : tie.Need-is-refused-requires Inv-loop μ-loop
-is-refused-requires c κs = search needs
-
-returns-2 : tie.Need-returns-2 Inv-loop μ-loop
-returns-2 c = let a = c .before .before .before .before .before .before .before .before .before .before .before in let s = now (a .args .contract) in let t = c .before .before .before .before .before .before .before .before .before .loop .inv in turn-off (a .pre .0) t (line-item s (a .args .start) (a .args .end) (a .pre .0) _ _ (sym (c .before .before .before .before .before .before .line-at .ensures) ∙ c .before .before .before .before .step .given .1)) (c .before .before .read-line .ensures) (sym (c .before .is-refused .ensures) ∙ c .if1 .taken)
+read-line-requires c κs =
+    let a = c .before .before .before .before .before .before .before .before .before .before in
+    let s = now (a .args .contract) in
+    item-within (a .pre .0) (line-item s (a .args .start) (a .args .end) (a .pre .0) _ _ (sym (c .before .before .before .line-at .ensures) ∙ c .before .step .given .1))
 
 add-line : tie.Need-add-line Inv-loop μ-loop
-add-line c = let a = c .before .before .before .before .before .before .before .before .before .before .before in let s = now (a .args .contract) in let t = c .before .before .before .before .before .before .before .before .before .loop .inv in omega (arith, t .counted, t .high, a .pre .0 .fits)
+add-line c =
+    let a = c .before .before .before .before .before .before .before .before .before .before .before in
+    let t = c .before .before .before .before .before .before .before .loop .inv in
+    omega (arith, t .counted, t .high, a .pre .0 .fits)
+
+enum-told-2 : tie.Need-enum-told-2 Inv-loop μ-loop
+enum-told-2 c = search needs
 
 loop-less : tie.Need-loop-less Inv-loop μ-loop
-loop-less c = let a = c .before .before .before .before .before .before .before .before .before .before .before in let s = now (a .args .contract) in let i = line-item s (a .args .start) (a .args .end) (a .pre .0) _ _ (sym (c .before .before .before .before .before .before .line-at .ensures) ∙ c .before .before .before .before .step .given .1) in omega (arith, i .on, i .high)
+loop-less c =
+    let a = c .before .before .before .before .before .before .before .before .before .before .before .before .before in
+    let s = now (a .args .contract) in
+    let i = line-item s (a .args .start) (a .args .end) (a .pre .0) _ _ (sym (c .before .before .before .before .before .before .line-at .ensures) ∙ c .before .before .before .before .step .given .1) in
+    omega (arith, i .on, i .high)
 
 loop-again : tie.Need-loop-again Inv-loop μ-loop
-loop-again c = let a = c .before .before .before .before .before .before .before .before .before .before .before in let s = now (a .args .contract) in let t = c .before .before .before .before .before .before .before .before .before .loop .inv in (turn-next (a .pre .0) t (line-item s (a .args .start) (a .args .end) (a .pre .0) _ _ (sym (c .before .before .before .before .before .before .line-at .ensures) ∙ c .before .before .before .before .step .given .1)) (c .before .before .read-line .ensures) (sym (c .before .is-refused .ensures) ∙ c .if1 .left))
+loop-again c =
+    let a = c .before .before .before .before .before .before .before .before .before .before .before .before .before in
+    line-next (a .pre .0) (a .pre .1) (c .before .before .before .before .before .before .before .before .before .loop .inv) (sym (c .before .before .before .before .before .before .line-at .ensures) ∙ c .before .before .before .before .step .given .1) (c .enum-told2 .given .1) (c .before .before .read-line .ensures) _ refl refl
+
+enum-known-read : tie.Need-enum-known-read Inv-loop μ-loop
+enum-known-read c = search needs
+
+returns-2 : tie.Need-returns-2 Inv-loop μ-loop
+returns-2 c =
+    let a = c .before .before .before .before .before .before .before .before .before .before .before .before .before .before .before in
+    line-off (a .pre .0) (a .pre .1) (c .before .before .before .before .before .before .before .before .before .before .before .loop .inv) (sym (c .before .before .before .before .before .before .before .before .line-at .ensures) ∙ c .before .before .before .before .before .before .step .given .1) (c .before .before .read .given .1) (c .before .before .before .before .read-line .ensures) _ (record { full = λ h. refl; more = λ h. absurd (omega arith) }) refl
+
+put-requires : tie.Need-put-requires Inv-loop μ-loop
+put-requires c κs =
+    let a = c .before .before .before .before .before .before .before .before .before .before .before .before .before .before .before in
+    let f = line-fits (a .pre .0) (a .pre .1) (c .before .before .before .before .before .before .before .before .before .before .before .loop .inv) (sym (c .before .before .before .before .before .before .before .before .line-at .ensures) ∙ c .before .before .before .before .before .before .step .given .1) (c .before .before .read .given .1) (c .before .before .before .before .read-line .ensures) in
+    (omega arith, (f .0, (f .1 .0, (f .1 .1 .k, f .1 .1 .p))))
+
+put-value-requires : tie.Need-put-value-requires Inv-loop μ-loop
+put-value-requires c κs =
+    let a = c .before .before .before .before .before .before .before .before .before .before .before .before .before .before .before .before in
+    let f = line-fits (a .pre .0) (a .pre .1) (c .before .before .before .before .before .before .before .before .before .before .before .before .loop .inv) (sym (c .before .before .before .before .before .before .before .before .before .line-at .ensures) ∙ c .before .before .before .before .before .before .before .step .given .1) (c .before .before .before .read .given .1) (c .before .before .before .before .before .read-line .ensures) in
+    (omega arith, f .1 .1)
+
+loop-less-2 : tie.Need-loop-less-2 Inv-loop μ-loop
+loop-less-2 c =
+    let a = c .before .before .before .before .before .before .before .before .before .before .before .before .before .before .before .before .before in
+    let s = now (a .args .contract) in
+    let i = line-item s (a .args .start) (a .args .end) (a .pre .0) _ _ (sym (c .before .before .before .before .before .before .before .before .before .before .line-at .ensures) ∙ c .before .before .before .before .before .before .before .before .step .given .1) in
+    omega (arith, i .on, i .high)
+
+loop-again-2 : tie.Need-loop-again-2 Inv-loop μ-loop
+loop-again-2 c =
+    let a = c .before .before .before .before .before .before .before .before .before .before .before .before .before .before .before .before .before in
+    line-next (a .pre .0) (a .pre .1) (c .before .before .before .before .before .before .before .before .before .before .before .before .before .loop .inv) (sym (c .before .before .before .before .before .before .before .before .before .before .line-at .ensures) ∙ c .before .before .before .before .before .before .before .before .step .given .1) (c .before .before .before .before .read .given .1) (c .before .before .before .before .before .before .read-line .ensures) _ (record { full = λ h. absurd (omega arith); more = λ h. record { table = c .before .put .ensures; values = c .put-value .ensures; last = refl; status = refl } }) refl
+
+enum-known-read-2 : tie.Need-enum-known-read-2 Inv-loop μ-loop
+enum-known-read-2 c = search needs
+
+loop-less-3 : tie.Need-loop-less-3 Inv-loop μ-loop
+loop-less-3 c =
+    let a = c .before .before .before .before .before .before .before .before .before .before .before .before .before .before in
+    let s = now (a .args .contract) in
+    let i = line-item s (a .args .start) (a .args .end) (a .pre .0) _ _ (sym (c .before .before .before .before .before .before .before .line-at .ensures) ∙ c .before .before .before .before .before .step .given .1) in
+    omega (arith, i .on, i .high)
+
+loop-again-3 : tie.Need-loop-again-3 Inv-loop μ-loop
+loop-again-3 c =
+    let a = c .before .before .before .before .before .before .before .before .before .before .before .before .before .before in
+    line-next (a .pre .0) (a .pre .1) (c .before .before .before .before .before .before .before .before .before .before .loop .inv) (sym (c .before .before .before .before .before .before .before .line-at .ensures) ∙ c .before .before .before .before .before .step .given .1) (c .before .read2 .given .1) (c .before .before .before .read-line .ensures) _ refl refl
+
+enum-known-read-3 : tie.Need-enum-known-read-3 Inv-loop μ-loop
+enum-known-read-3 c = search needs
 
 returns-3 : tie.Need-returns-3 Inv-loop μ-loop
-returns-3 c = let a = c .before .before .before in let s = now (a .args .contract) in let t = c .before .loop .inv in turn-done (a .pre .0) t (lines-end s (a .args .start) (a .args .end) (a .pre .0) _ (c .loop-test .left))
+returns-3 c =
+    let a = c .before .before .before .before .before .before .before .before .before .before .before .before .before .before in
+    line-off (a .pre .0) (a .pre .1) (c .before .before .before .before .before .before .before .before .before .before .loop .inv) (sym (c .before .before .before .before .before .before .before .line-at .ensures) ∙ c .before .before .before .before .before .step .given .1) (c .before .read3 .given .1) (c .before .before .before .read-line .ensures) _ refl refl
+
+returns-4 : tie.Need-returns-4 Inv-loop μ-loop
+returns-4 c =
+    let a = c .before .before .before .before .before in
+    let s = now (a .args .contract) in
+    turn-done (a .pre .0) (c .before .loop .inv) (lines-end s (a .args .start) (a .args .end) (a .pre .0) _ (c .loop-test .left))
 
 pub read-body-spec : {M : Type 1} → statement M
 read-body-spec =
@@ -72,9 +148,19 @@ read-body-spec =
     enum-told
     returns
     read-line-requires
-    is-refused-requires
-    returns-2
     add-line
+    enum-told-2
     loop-less
     loop-again
-    returns-3)
+    enum-known-read
+    returns-2
+    put-requires
+    put-value-requires
+    loop-less-2
+    loop-again-2
+    enum-known-read-2
+    loop-less-3
+    loop-again-3
+    enum-known-read-3
+    returns-3
+    returns-4)
