@@ -28,7 +28,7 @@ use Rattle.assembler.specs.declared.state.Returned.{Returned}
 use Rattle.assembler.specs.declared.state.Last.{Last}
 use Rattle.assembler.specs.declared.state.Last.the-variants as Last
 use Rattle.assembler.specs.declared.state.Status.{Status}
-use Rattle.assembler.specs.declared.state.Status.the-variants.{Refused}
+use Rattle.assembler.specs.declared.state.Status.the-variants.{Going, Refused}
 use Rattle.assembler.specs.declared.state.State as Code
 use Rattle.assembler.specs.Part.{part}
 use Rattle.assembler.specs.Refusal.{plain}
@@ -36,28 +36,28 @@ use Rattle.assembler.specs.State.{State, Outcome, goes, andThen, started
 use Rattle.assembler.specs.Parameters.{parametersBound}
 use Rattle.assembler.specs.Body.{linesRead}
 use Rattle.assembler.specs.Numbers.{refusalOf}
-use Rattle.assembler.specs.Stored.{Started, refusedAs}
+use Rattle.assembler.specs.Stored.{noBindings, noValues, nothingYet}
 use Rattle.assembler.specs.Held.{LastIs, Represents, Good, Leads, Follows, Within, isRefused}
 use Rattle.assembler.specs.Assembled.{Assembled, accepted, rejected, readable, bodyRead, compared, returned, concluded, functionRead, assembledTree}
-use Rattle.assembler.specs.Concluded.{ConcludesBy, Concludes, ConcludesAll, Located}
+use Rattle.assembler.specs.Concluded.{rejectedFor, ConcludesBy, Concludes, ConcludesAll, Located}
 use Rattle.assembler.proofs.Sourced.{env-none}
 use Rattle.assembler.proofs.Leading.{leads-off, by-leads, represents-later, leads-later}
 
 -- an answer that is refused
-pub concludes-off : {s : List ℕ} {o : Assembled} {r : Assembly} {why : Refusal} → r .state .status ≡ Refused why → o ≡ rejected (refusalOf why) → Concludes s o r
-concludes-off {s} {o} {r} f e = record { by = subst (λ (x : Status). ConcludesBy x s o r) (sym f) e }
+pub concludes-off : {s : List ℕ} {o : Assembled} {r : Assembly} {why : Refusal} → r ≡ rejectedFor why → o ≡ rejected (refusalOf why) → Concludes s o r
+concludes-off {s} {o} f e = subst (λ (x : Assembly). Concludes s o x) (sym f) (record { by = (e, refl) })
 
 pub concludes-on : {s : List ℕ} {o : Assembled} {r : Assembly} {st : State} {t : Tree} → Represents s (r .state) st → st .last ≡ some t → o ≡ accepted (r .expected) t → Concludes s o r
 concludes-on {s} {o} {r} {st} {t} q l e = record { by = subst (λ (x : Status). ConcludesBy x s o r) (sym (q .going)) (record { st = st; t = t; represents = q; last = l; returned = subst (λ (x : Option Tree). LastIs s (r .state .table) (r .state .values) (r .state .last) x) l (q .last); accepts = e }) }
 
-pub started-represents : (s : List ℕ) (a : Code.State) → Started a → Represents s a started
-started-represents s a h = record {
-  holds = record { room = let e = h .count in omega arith; told = subst (λ (n : ℕ). Told s (columns (a .table) (a .values)) n []) (sym (h .count)) tt };
-  stand = λ i l. absurd (omega (arith, h .count));
-  sources = env-none s (sources (a .table) (a .values)) (a .table .count) (h .count);
-  last = subst (λ (x : Last). LastIs s (a .table) (a .values) x none) (sym (h .last)) tt;
-  going = h .status;
-}
+pub started-represents : (s : List ℕ) (a : Code.State) → a ≡ nothingYet → Represents s a started
+started-represents s a h = subst (λ (x : Code.State). Represents s x started) (sym h) (record {
+  holds = record { room = omega arith; told = tt };
+  stand = λ i l. absurd (omega arith);
+  sources = env-none s (sources noBindings noValues) 0 refl;
+  last = tt;
+  going = refl;
+})
 
 never : {P : Type 0} → _≡_ {A = Bool} true false → P
 never e = absurd (let z : _≡_ {A = ℕ} 0 1 = cc in omega arith)
@@ -73,7 +73,7 @@ module _ (s vector : List ℕ) (p : Places) (f : Located s p) where
   pub body-within : Within s (p .«body_start») (p .«body_end»)
   body-within = let o = order in record { short = f .short; ordered = o .body; fits = omega (arith, o .fits, f .short); inside = omega (arith, o .fits) }
 
-  module _ (first a : Code.State) (h : Started first) (g : Follows (take (p .«params_start») s) first (λ st. parametersBound vector st (parameters (part s (p .«params_start») (p .«params_end»)))) (take (p .«params_end») s) a) where
+  module _ (first a : Code.State) (h : first ≡ nothingYet) (g : Follows (take (p .«params_start») s) first (λ st. parametersBound vector st (parameters (part s (p .«params_start») (p .«params_end»)))) (take (p .«params_end») s) a) where
     led : Leads (take (p .«params_end») s) a (parametersBound vector started (parameters (part s (p .«params_start») (p .«params_end»)))) goes
     led = g .leads started (started-represents (take (p .«params_start») s) first h)
 
@@ -97,17 +97,27 @@ module _ (s vector : List ℕ) (p : Places) (f : Located s p) where
           subst (λ (u : Outcome). Leads s r u goes) (sym (ap (λ (u : Outcome). andThen u (λ x. linesRead x (lines (part s (p .«body_start») (p .«body_end»))))) e)) z)
           (λ why t e. never (sym (ap isRefused t) ∙ b))
 
+-- the refusal in a status, or another
+abbrev refusalIn : Refusal → Status → Refusal
+refusalIn other Going = other
+refusalIn other (Refused why) = why
+
 -- the end
 module _ (a : Code.State) (expected : ℕ) where
-  pub end-refused : isRefused (a .status) ≡ true → ConcludesAll a expected (record { state = a; expected = expected })
-  end-refused b = record { is = λ s whole l. by-leads l (λ st q e. never (sym b ∙ ap isRefused (q .going))) (λ why t e. concludes-off t (ap (concluded expected) e)) }
+  pub end-refused : (why : Refusal) → a .status ≡ Refused why → ConcludesAll a expected (rejectedFor why)
+  end-refused why b = record {
+    is = λ s whole l.
+        by-leads l
+        (λ st q e. never (sym (ap isRefused b) ∙ ap isRefused (q .going)))
+        (λ other t e. concludes-off refl (ap (concluded expected) e ∙ ap (λ (w : Refusal). rejected (refusalOf w)) (ap (refusalIn why) (sym t ∙ b))));
+  }
 
-  module _ (b : isRefused (a .status) ≡ false) where
+  module _ (b : a .status ≡ Going) where
     -- in each state that a represents
     by-states : {r : Assembly} → ((s : List ℕ) (st : State) → Represents s a st → Concludes s (returned expected (st .last)) r) → ConcludesAll a expected r
-    by-states {r} f = record { is = λ s whole l. by-leads l (λ st q e. subst (λ (o : Assembled). Concludes s o r) (sym (ap (concluded expected) e)) (f s st q)) (λ why t e. never (sym (ap isRefused t) ∙ b)) }
+    by-states {r} f = record { is = λ s whole l. by-leads l (λ st q e. subst (λ (o : Assembled). Concludes s o r) (sym (ap (concluded expected) e)) (f s st q)) (λ why t e. never (sym (ap isRefused t) ∙ ap isRefused b)) }
 
-    pub end-nothing : a .last ≡ Last.Nothing → ConcludesAll a expected (record { state = refusedAs a NoReturn; expected = expected })
+    pub end-nothing : a .last ≡ Last.Nothing → ConcludesAll a expected (rejectedFor NoReturn)
     end-nothing e = by-states (λ s st q. concludes-off refl (go s (st .last) (subst (λ (x : Last). LastIs s (a .table) (a .values) x (st .last)) e (q .last))))
       where
         go : (s : List ℕ) (x : Option Tree) → LastIs s (a .table) (a .values) Last.Nothing x → returned expected x ≡ rejected (refusalOf NoReturn)
@@ -122,13 +132,13 @@ module _ (a : Code.State) (expected : ℕ) where
           go s st q none l h = absurd (subst (λ (x : Option Tree). LastIs s (a .table) (a .values) (Last.Is v) x) l h)
           go s st q (some t) l h = subst (λ (x : Option Tree). Concludes s (returned expected x) r) (sym l) (f s st t q l (subst (λ (x : Option Tree). LastIs s (a .table) (a .values) (Last.Is v) x) l h .figures .value))
 
-      pub end-no-value : v .read .value ≡ None → ConcludesAll a expected (record { state = refusedAs a NoValue; expected = expected })
+      pub end-no-value : v .read .value ≡ None → ConcludesAll a expected (rejectedFor NoValue)
       end-no-value n = end-with (λ s st t q l k. concludes-off refl (ap (compared expected t) (sym k ∙ ap optionOf n)))
 
       pub end-same : (n : ℕ) → v .read .value ≡ Is n → n ≡ expected → ConcludesAll a expected (record { state = a; expected = expected })
       end-same n m h = end-with (λ s st t q l k. concludes-on q l (ap (compared expected t) (sym k ∙ ap optionOf m) ∙ (let b = eq-eqb n expected h in rw b)))
 
-      pub end-other : (n : ℕ) → v .read .value ≡ Is n → (n ≡ expected → ⊥) → ConcludesAll a expected (record { state = refusedAs a NotExpected; expected = expected })
+      pub end-other : (n : ℕ) → v .read .value ≡ Is n → (n ≡ expected → ⊥) → ConcludesAll a expected (rejectedFor NotExpected)
       end-other n m h = end-with (λ s st t q l k. concludes-off refl (ap (compared expected t) (sym k ∙ ap optionOf m) ∙ (let b = ne-eqb n expected h in rw b)))
 
 -- both texts are readable, or one is not

@@ -9,11 +9,13 @@ use Rattle.source.specs.declared.function.Function.the-variants.{Found}
 use Rattle.source.specs.Function.{functionOf}
 use Rattle.expression.specs.Tree.{Tree}
 use Rattle.assembler.specs.declared.assembly.Assembly.{Assembly}
+use Rattle.assembler.specs.declared.refusal.Refusal.{Refusal}
 use Rattle.assembler.specs.declared.state.Status.{Status}
 use Rattle.assembler.specs.declared.state.Status.the-variants.{Going, Refused}
 use Rattle.assembler.specs.declared.state.State as Code
 use Rattle.assembler.specs.State.{State, Outcome, goes}
 use Rattle.assembler.specs.Numbers.{refusalOf}
+use Rattle.assembler.specs.Stored.{refusedAs, nothingYet}
 use Rattle.assembler.specs.Held.{LastIs, Represents, Leads}
 use Rattle.assembler.specs.Assembled.{Assembled, accepted, rejected, concluded}
 
@@ -26,9 +28,13 @@ pub record Accepts (s : List ℕ) (o : Assembled) (r : Assembly) : Type 0 where
   pub returned : LastIs s (r .state .table) (r .state .values) (r .state .last) (some t)
   pub accepts : o ≡ accepted (r .expected) t
 
+-- an assembly that is refused
+abbrev pub rejectedFor : Refusal → Assembly
+rejectedFor why = record { state = refusedAs nothingYet why; expected = 0 }
+
 abbrev pub ConcludesBy : Status → List ℕ → Assembled → Assembly → Type 0
 ConcludesBy Going s o r = Accepts s o r
-ConcludesBy (Refused why) s o r = o ≡ rejected (refusalOf why)
+ConcludesBy (Refused why) s o r = (o ≡ rejected (refusalOf why)) × (r ≡ rejectedFor why)
 
 -- the answer r says o of the contract s: its state holds the tree that is accepted, or the refusal
 pub record Concludes (s : List ℕ) (o : Assembled) (r : Assembly) : Type 0 where

@@ -3,7 +3,7 @@ use Prim.Native.Nat.{ℕ, _+_, _-_, _^_, _<_, _≤_}
 use mathlib.Core.Path.{_≡_}
 use mathlib.Core.List.{List}
 use mathlib.Core.Bool.{Bool, true, false}
-use lib.ListN.{getD}
+use lib.ListN.{getD, replicate}
 use Rattle.source.specs.declared.parameters.Span.{Span}
 use Rattle.expression.specs.declared.Bindings.{Bindings}
 use Rattle.expression.specs.declared.Values.{Values}
@@ -16,10 +16,15 @@ use Rattle.assembler.specs.declared.state.State.{State}
 use Rattle.assembler.specs.declared.state.Status.the-variants as Status
 use Rattle.assembler.specs.declared.state.Last.the-variants as Last
 
-pub record Started (a : State) : Type 0 where
-  pub count : a .table .count ≡ 0
-  pub last : a .last ≡ Last.Nothing
-  pub status : a .status ≡ Status.Going
+-- no binding, no return; every array is zero
+abbrev pub noBindings : Bindings
+noBindings = record { «name_start» = replicate 256 0; «name_len» = replicate 256 0; «expr_start» = replicate 256 0; «expr_len» = replicate 256 0; k = replicate 256 0; p = replicate 256 0; count = 0 }
+
+abbrev pub noValues : Values
+noValues = record { value = replicate 256 0; none = replicate 256 false; len = replicate 256 0 }
+
+abbrev pub nothingYet : State
+nothingYet = record { table = noBindings; values = noValues; last = Last.Nothing; status = Status.Going }
 
 abbrev pub refusedAs : State → Refusal → State
 refusedAs a why = record { table = a .table; values = a .values; last = a .last; status = Status.Refused why }

@@ -1,12 +1,11 @@
 // What assembly makes of a contract and a vector, before anything is written.
 ghost use mathlib.Core.Path.{_≡_};
 ghost use Rattle.source.specs.Vector.{vectorNumber};
-ghost use Rattle.assembler.specs.declared.state.Status.the-variants.{Refused};
 ghost use Rattle.assembler.specs.State.{goes};
 ghost use Rattle.assembler.specs.Parameters.{keyed};
 ghost use Rattle.assembler.specs.Held.{Leads};
 ghost use Rattle.assembler.specs.Assembled.{readable, bodyRead, expectedKey, expectedRead, assembledTree};
-ghost use Rattle.assembler.specs.Concluded.{Concludes, ConcludesAll, Located};
+ghost use Rattle.assembler.specs.Concluded.{rejectedFor, Concludes, ConcludesAll, Located};
 use crate::body::read_body;
 use crate::parameters::Number;
 use crate::parameters::bind_parameters;
@@ -14,6 +13,7 @@ use crate::parameters::number_for;
 use crate::refusal::Refusal;
 use crate::state::Last;
 use crate::state::State;
+use crate::state::Status;
 use crate::state::is_refused;
 use crate::state::refuse;
 use crate::state::started;
@@ -23,7 +23,8 @@ use source::function::Places;
 use source::function::find_function;
 use utf8::is_utf8;
 
-// The bindings and the last return, which has the expected value; or the refusal.
+// The bindings and the last return, which has the expected value; or the refusal, with no binding and no expected value. What the table's
+// arrays hold from the count on is left open.
 pub struct Assembly {
     pub state: State,
     pub expected: u64,
@@ -55,7 +56,7 @@ fn is_readable(s: &[u8]) -> bool
 }
 
 fn rejected(refusal: Refusal) -> Assembly
-    ensures { λ r. ⌜ r .state .status ≡ Refused refusal ⌝ }
+    ensures { λ r. ⌜ r ≡ rejectedFor refusal ⌝ }
 {
     Assembly {
         state: refuse(started(), refusal),
@@ -98,30 +99,21 @@ fn conclude(a: State, expected: u64) -> Assembly
 {
     let status = a.status;
     let last = a.last;
-    if is_refused(status) {
-        return Assembly { state: a, expected };
+    if let Status::Refused(why) = status {
+        return rejected(why);
     }
     match last {
-        Last::Nothing => Assembly {
-            state: refuse(a, Refusal::NoReturn),
-            expected,
-        },
+        Last::Nothing => rejected(Refusal::NoReturn),
         Last::Is(returned) => {
             let read = returned.read;
             let value = read.value;
             match value {
-                Value::None => Assembly {
-                    state: refuse(a, Refusal::NoValue),
-                    expected,
-                },
+                Value::None => rejected(Refusal::NoValue),
                 Value::Is(n) => {
                     if n == expected {
                         return Assembly { state: a, expected };
                     }
-                    Assembly {
-                        state: refuse(a, Refusal::NotExpected),
-                        expected,
-                    }
+                    rejected(Refusal::NotExpected)
                 }
             }
         }

@@ -2,7 +2,7 @@
 ghost use mathlib.Core.Path.{_≡_};
 ghost use Prim.Native.Nat.{_<_};
 ghost use Rattle.assembler.specs.Held.{isRefused};
-ghost use Rattle.assembler.specs.Stored.{Started, Small, Placed, Put, PutValue, numberIn, isNone, refusedAs};
+ghost use Rattle.assembler.specs.Stored.{nothingYet, Small, Placed, Put, PutValue, numberIn, isNone, refusedAs};
 use crate::refusal::Refusal;
 use expression::Bindings;
 use expression::Values;
@@ -36,7 +36,7 @@ pub struct State {
 }
 
 pub fn started() -> State
-    ensures { λ r. ⌜ Started r ⌝ }
+    ensures { λ r. ⌜ r ≡ nothingYet ⌝ }
 {
     let table = Bindings {
         name_start: [0; 256],

@@ -76,7 +76,7 @@ is-going {s} {o} {a} c e = subst (λ (x : Status). ConcludesBy x s o a) e (c .by
 
 pub is-refused : {s : List ℕ} {o : Assembled} {a : Code.Assembly} {why : Refusal} → Concludes s o a → a .state .status ≡ Status.Refused why → (stem out : List ℕ) → Assembles (named o stem (length out)) out out (Refused why)
 is-refused {s} {o} {a} c e stem out =
-    let q = subst (λ (x : Status). ConcludesBy x s o a) e (c .by) in
+    let q = subst (λ (x : Status). ConcludesBy x s o a) e (c .by) .0 in
     rw q (record { answer = refl; buffer = refl })
 
 pub as-assembled : (contract vector stem : List ℕ) {out after : List ℕ} {r : Answer} → Assembles (named (assembledTree contract vector) stem (length out)) out after r → Assembles (assembled contract vector stem (length out)) out after r

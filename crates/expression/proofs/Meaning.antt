@@ -18,21 +18,22 @@ use Rattle.expression.specs.Tree.{Tree}
 use Rattle.expression.specs.Parse.{Env, done, enough, parseF, moreF, Meaning, tree, wrong, whole, meaning, expression}
 use Rattle.expression.specs.Figures.{Figures}
 use Rattle.expression.specs.Table.{Columns, columnsOf, columns, Holds}
-use Rattle.expression.specs.Answer.{refusal, numberOf, said, due, Short, Answers}
+use Rattle.expression.specs.Answer.{refusal, numberOf, said, due, Short, Over, Answers}
 use Rattle.expression.specs.Parts.{wholeRead}
 use Rattle.expression.specs.Cycle.{Meets}
 use Rattle.expression.proofs.Signs.{none-of, next-of}
 use Rattle.expression.proofs.Grammar.{meaning-whole, meaning-not-allowed}
 
 -- from what a text means to what is promised of it
-means : (s : List ℕ) (at : ℕ) (c : Columns) (r : Parsed) → ((env : Env) → Holds s c env → (m : Meaning) × ((meaning env (drop at s) ≡ m) × ((said r ≡ due m) × Short m))) → Answers s at c r
-means s at c r f = record {
+means : (s : List ℕ) (at : ℕ) (c : Columns) (r : Parsed) → Over s r → ((env : Env) → Holds s c env → (m : Meaning) × ((meaning env (drop at s) ≡ m) × ((said r ≡ due m) × Short m))) → Answers s at c r
+means s at c r o f = record {
   is = λ env h. let x = f env h in x .1 .1 .0 ∙ sym (ap due (x .1 .0));
   short = λ env h. let x = f env h in subst Short (sym (x .1 .0)) (x .1 .1 .1);
+  over = o;
 }
 
 pub not-allowed : (s : List ℕ) (at : ℕ) (c : Columns) → allowed (drop at s) ≡ false → Answers s at c (Refused InvalidCharacter)
-not-allowed s at c e = means s at c _ (λ env h. (wrong 13, (meaning-not-allowed env (drop at s) e, (refl, tt))))
+not-allowed s at c e = means s at c _ tt (λ env h. (wrong 13, (meaning-not-allowed env (drop at s) e, (refl, tt))))
 
 figures-said : {t : Tree} {v : Read} → Figures t v → said (Done v) ≡ due (tree t)
 figures-said f = cc (f .k, f .p, f .value, f .len)
@@ -42,12 +43,12 @@ module _ (s : List ℕ) (at : ℕ) (c c′ : Columns) (a : allowed (drop at s) �
   held env h = subst (λ (x : Columns). Holds s x env) (sym (same (h .room))) h
 
   pub refused-answers : {e : ExprError} → Meets s at c′ expression 64 (Refused e) → Answers s at c (Refused e)
-  refused-answers {e} m = means s at c _ (λ env h.
+  refused-answers {e} m = means s at c _ tt (λ env h.
       let x = m .means env (held env h) in
       (wrong (numberOf e), (meaning-whole env (drop at s) a ∙ ap whole (x .same (enough expression (tokens (drop at s))) (omega arith)), (refl, tt))))
 
   pub done-answers : {v : Read} (ts : List (List ℕ)) → tokens (drop (v .next) s) ≡ ts → Meets s at c′ expression 64 (Done v) → Answers s at c (wholeRead ts v)
-  done-answers {v} [] q m = means s at c _ (λ env h.
+  done-answers {v} [] q m = means s at c _ q (λ env h.
       let x = m .means env (held env h) in
       let f = x .1 .1 in (
         tree (x .0),
@@ -56,7 +57,7 @@ module _ (s : List ℕ) (at : ℕ) (c c′ : Columns) (a : allowed (drop at s) �
           (figures-said f, f .short),
         ),
       ))
-  done-answers {v} (w ∷ ts) q m = means s at c _ (λ env h.
+  done-answers {v} (w ∷ ts) q m = means s at c _ tt (λ env h.
       let x = m .means env (held env h) in
       (wrong 19, (meaning-whole env (drop at s) a ∙ ap whole (x .1 .0 .same (enough expression (tokens (drop at s))) (omega arith) ∙ ap (done (x .0)) q), (refl, tt))))
 

@@ -1,9 +1,10 @@
 -- What an answer of the parser says: document 01's number of a refusal, or the figures of the tree that is read.
 use Prim.Native.Nat.{ℕ, _+_, _*_, _≤_}
 use mathlib.Core.Path.{_≡_}
-use mathlib.Core.List.{List}
+use mathlib.Core.List.{List, []}
 use lib.ListN.{drop}
 use mathlib.Core.Option.{Option}
+use Rattle.token.specs.Token.{tokens}
 use Rattle.expression.specs.declared.ExprError.{ExprError}
 use Rattle.expression.specs.declared.ExprError.the-variants.{InvalidCharacter, UnexpectedEnd, UnbalancedParenthesis, InvalidLiteral, UnknownIdentifier, TooDeep, UnconsumedTokens}
 use Rattle.expression.specs.declared.Parsed.{Parsed}
@@ -40,7 +41,13 @@ abbrev pub Short : Meaning → Type 0
 Short (tree t) = lenOf t + 4 ≤ 30 * kOf t
 Short (wrong n) = Unit {0}
 
+-- behind a tree no token is left
+abbrev pub Over : List ℕ → Parsed → Type 0
+Over s (Parsed.Done v) = tokens (drop (v .next) s) ≡ []
+Over s (Parsed.Refused e) = Unit {0}
+
 -- the answer to the expression from a place of a text on is what it means, in every environment that the table holds
 pub record Answers (s : List ℕ) (at : ℕ) (c : Columns) (r : Parsed) : Type 0 where
   pub is : (env : Env) → Holds s c env → said r ≡ due (meaning env (drop at s))
   pub short : (env : Env) → Holds s c env → Short (meaning env (drop at s))
+  pub over : Over s r

@@ -1,7 +1,6 @@
--- `assembler::assembly::rejected` meets its contract.
+-- `assembler::assembly::rejected` meets its contract: the state with nothing in it is refused.
 -- Assumes nothing.
-use mathlib.Core.Path.{ap}
-use Rattle.assembler.specs.declared.state.State.{State}
+use mathlib.Core.Path.{refl}
 use borrow.Author.Needs.{needs}
 use Rattle.assembler.proofs.assembly.rejected.Statement.{statement}
 use Rattle.assembler.proofs.assembly.rejected.Tie as tie
@@ -13,7 +12,7 @@ refuse-requires : tie.Need-refuse-requires
 refuse-requires c κs = search needs
 
 returns : tie.Need-returns
-returns c = ap (λ (x : State). x .status) (c .refuse .ensures)
+returns c = rw (c .refuse .ensures, c .before .started .ensures) refl
 
 pub rejected-spec : {M : Type 1} → statement M
 rejected-spec = tie.close (tie.spec started-requires refuse-requires returns)
