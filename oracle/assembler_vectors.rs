@@ -3,6 +3,7 @@
 // original's and behind messages.rs (oracle/make). The original gives no number: `number` finds document 01's by the message. Nor does it give
 // a key's place, a line, k or p: the place is that of the first key that the original's `json_u64_for_key` refuses, the
 // line the least number of body lines with which `assemble` refuses so, and k and p are counted in the output.
+// What only document 01 answers stands last and is marked (`added_cases`).
 // A stem that is empty can't be made by a file, nor one of 252 to 255 bytes that is accepted (`.ops` is added to it).
 use std::collections::{BTreeMap, HashSet};
 use std::ffi::OsStr;
@@ -66,8 +67,7 @@ impl Cases {
     }
 
     fn bytes(&mut self, contract: &[u8], vector: &[u8], stem: &[u8]) {
-        let mut case = format!("{:04} {:04} {:03}\n", contract.len(), vector.len(), stem.len()).into_bytes();
-        case.extend([contract, vector, stem, b"\n"].concat());
+        let case = written('o', contract, vector, stem);
         if !self.seen.insert(case.clone()) {
             return;
         }
@@ -87,6 +87,13 @@ impl Cases {
             }
         };
         self.input.extend(case);
+        *self.counts.entry(number).or_default() += 1;
+    }
+
+    // A case that the original can't be asked, with document 01's answer: a refusal's number and value, or the output behind its figures.
+    fn added(&mut self, contract: &str, vector: &str, stem: &[u8], number: u64, answer: &str, output: &str) {
+        self.input.extend(written('d', contract.as_bytes(), vector.as_bytes(), stem));
+        self.output.extend(format!("{answer} kept\n{output}").bytes());
         *self.counts.entry(number).or_default() += 1;
     }
 
@@ -113,6 +120,12 @@ impl Cases {
     fn expression(&mut self, expression: &str) {
         self.body(&format!("return {expression}"));
     }
+}
+
+// A case as crates/assembler_vectors reads it: who answers (`o` the original, `d` document 01), the lengths, and the texts.
+fn written(who: char, contract: &[u8], vector: &[u8], stem: &[u8]) -> Vec<u8> {
+    let lengths = format!("{who} {:05} {:05} {:03}\n", contract.len(), vector.len(), stem.len());
+    [lengths.as_bytes(), contract, vector, stem, b"\n"].concat()
 }
 
 fn key_place(contract: &[u8], vector: &[u8], message: &str) -> usize {
@@ -442,6 +455,41 @@ fn limit_cases(c: &mut Cases) {
     let wide = |n: usize| format!("a{}", "+a".repeat(n - 1));
     c.expression(&wide(300));
     c.expression(&wide(1000));
+    // 16,384 bytes
+    c.bytes(format!("fn t(a){{return {}}}", wide(1486)).as_bytes(), b"{\"a\":5,\"expected\":7430}", b"exactly");
+}
+
+// The added refusals, by hand from document 01: what 1 and 2 add, 18, 20, 21, what 25 adds, and 26.
+fn added_cases(c: &mut Cases) {
+    let one = "{\"a\":5,\"expected\":1}";
+    let good = "fn t(){return 1}";
+    let padded = |text: &str| format!("{text}{}", " ".repeat(65537 - text.len()));
+    c.added(&padded(good), one, b"t", 1, "1", "");
+    c.added(good, &padded(one), b"t", 2, "2", "");
+    let open = "(".repeat(65);
+    for (body, line) in [(format!("return {open}"), 1), (format!("return {open}1{}", ")".repeat(65)), 1), (format!("let x={open}1\nreturn 1"), 1), (format!("let x=1\n\nreturn 1+{open}"), 3)] {
+        c.added(&format!("fn t(a){{{body}}}"), one, b"t", 18, &format!("18 {line}"), "");
+    }
+    // k is 32,768 on the fifteenth line
+    let doubled = format!("let x=a+a\n{}", "let x=x+x\n".repeat(14));
+    for body in [format!("{doubled}let x=x+x\nreturn 1"), format!("{doubled}return x+a"), format!("{doubled}return x+a\nreturn 1"), format!("{doubled}let y=a*x\n")] {
+        c.added(&format!("fn t(a){{{body}}}"), one, b"t", 20, "20 16", "");
+    }
+    c.added(&format!("fn t(a){{{doubled}return x}}"), "{\"a\":5,\"expected\":163840}", b"t", 26, "26", "");
+    for body in ["let x=1\n".repeat(256), format!("{}return 1", "let x=1\n".repeat(256)), format!("{}let y=1/0\nreturn 1/0", "let x=1\n".repeat(255))] {
+        c.added(&format!("fn t(a){{{body}}}"), one, b"t", 21, "21", "");
+    }
+    c.added(&format!("fn t({}){{}}", "a,".repeat(257)), one, b"t", 21, "21", "");
+    c.added(&format!("fn t({}b){{}}", "a,".repeat(256)), one, b"t", 8, "8 257", "");
+    for stem in [&b""[..], &b"s".repeat(256), b"a\nb", b"\n", b"tally\n"] {
+        c.added(good, one, stem, 25, "25", "");
+        c.added("fn t(){return 2}", one, stem, 24, "24", "");
+    }
+    let longest = "s".repeat(255);
+    let output = format!("# contract: {longest}\n# expected: 1\nPush 1\nHalt\n");
+    c.added(good, one, longest.as_bytes(), 0, "0 294 1 1 1", &output);
+    // 16,385 bytes
+    c.added(&format!("fn t(a){{return a{}}}", "+a".repeat(1485)), "{\"a\":5,\"expected\":7430}", b"too_long", 26, "26", "");
 }
 
 fn next(seed: &mut u64) -> usize {
@@ -544,6 +592,7 @@ fn main() {
     stem_cases(&mut c);
     limit_cases(&mut c);
     drawn_cases(&mut c);
+    added_cases(&mut c);
     fs::write(format!("{made}/stdin"), &c.input).unwrap();
     fs::write(format!("{made}/stdout"), &c.output).unwrap();
     println!("{} cases, {} bytes in, {} bytes out: {:?}", c.counts.values().sum::<usize>(), c.input.len(), c.output.len(), c.counts);

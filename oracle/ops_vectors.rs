@@ -1,6 +1,7 @@
 //! Makes the vectors that crates/ops_vectors replays: its `stdin` (the cases) and its `stdout` (the answers).
 //! The answers come from the original src/ops.rs, line by line and for the whole text. Document 01's additions
-//! (27 for a text that isn't UTF-8, 32 for a full buffer, the place and length of a part) come from std's `str`.
+//! (27 for a text that isn't UTF-8, 32 for a full buffer, the place and length of a part) come from std's `str`; cases of 27
+//! and 32 are marked `d`.
 //! oracle/make runs it.
 #![allow(dead_code)]
 #[path = "../../shared/docs/src/src/context.rs"]
@@ -110,10 +111,11 @@ struct Cases {
 impl Cases {
     fn lent(&mut self, text: &[u8], kinds: usize, operands: usize) {
         self.count += 1;
-        self.input.extend(format!("{kinds:02} {operands:02} {:04}\n", text.len()).bytes());
+        let (answer, ops) = read(text, kinds.min(operands));
+        let who = if answer == "27" || answer.starts_with("32 ") { 'd' } else { 'o' };
+        self.input.extend(format!("{who} {kinds:02} {operands:02} {:04}\n", text.len()).bytes());
         self.input.extend(text);
         self.input.push(b'\n');
-        let (answer, ops) = read(text, kinds.min(operands));
         let mut k = [200u8; LENT];
         let mut o = [77u64; LENT];
         for (i, op) in ops.iter().enumerate() {

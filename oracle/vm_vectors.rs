@@ -1,86 +1,575 @@
-// What crates/vm_vectors writes, as far as the original can be asked: the drawn runs. For each it writes the number of
-// document 01, what the answer carries, and the digests of stack, work and storage buffers. The gas spent is the least
-// limit under which the run succeeds; the operations executed can't be asked, and stand as `-`.
-//     rustc --edition 2021 -O oracle/vm_vectors.rs -o /tmp/vm_vectors && /tmp/vm_vectors
+//! Makes what crates/vm_vectors replays: its `stdin` (the cases with their answers, as src/main.rt there has them) and its
+//! `stdout` (how many each call has).
+//! The answers of lines that start with `o` are the original's. The gas spent is asked of it as the least limit under which the
+//! run succeeds; the operations executed, and what becomes of lent buffers past items and used slots, can't be asked and are
+//! left open. Lines that start with `d` are copied from oracle/vm_document.txt, which is written by hand from document 01.
+//! oracle/make runs it.
+#![allow(dead_code)]
 #[path = "../../shared/docs/src/src/context.rs"]
-#[allow(dead_code)]
 mod context;
 #[path = "../../shared/docs/src/src/vm.rs"]
-#[allow(dead_code)]
 mod vm;
+use context::{ChainContext, ContextError};
+use std::collections::{BTreeMap, HashSet};
 use vm::{Op, Vm, VmError};
 
-fn next(seed: u64) -> u64 {
-    seed.wrapping_mul(6364136223846793005).wrapping_add(1442695040888963407)
-}
+type Operation = (u8, u64);
 
-fn digest(s: &[u64]) -> u64 {
-    s.iter().fold(0u64, |h, x| h.wrapping_mul(31).wrapping_add(x.wrapping_mul(6364136223846793005)))
-}
+const PUSH: u8 = 0;
+const ADD: u8 = 1;
+const DIV: u8 = 4;
+const DUP: u8 = 5;
+const SWAP: u8 = 6;
+const JUMP: u8 = 7;
+const JUMP_IF_NOT_ZERO: u8 = 8;
+const LT: u8 = 10;
+const LOAD: u8 = 11;
+const STORE: u8 = 12;
+const CALLER: u8 = 13;
+const JUMP_IF_ZERO: u8 = 14;
+const HALT: u8 = 15;
 
-fn slot_of(n: u64) -> u64 {
-    match n { 0..=7 => n, 8 => 65536, 9 => u64::MAX, _ => n % 8 }
-}
-
-fn operation(kind: u64, n: u64) -> Op {
+fn op(&(kind, operand): &Operation) -> Op {
+    let place = operand as usize;
     match kind {
-        1 => Op::Add, 2 => Op::Sub, 3 => Op::Mul, 4 => Op::Div, 5 => Op::Dup, 6 => Op::Swap,
-        7 => Op::Jump((n % 17) as usize), 8 => Op::JumpIfNotZero((n % 17) as usize), 9 => Op::Eq, 10 => Op::Lt,
-        11 => Op::Load(slot_of(n % 12) as usize), 12 => Op::Store(slot_of(n % 12) as usize), 13 => Op::Caller,
-        14 => Op::JumpIfZero((n % 17) as usize), 15 => Op::Halt,
-        _ => Op::Push(if n % 4 == 0 { 0u64.wrapping_sub(n % 3) } else { n % 5 }),
+        0 => Op::Push(operand),
+        1 => Op::Add,
+        2 => Op::Sub,
+        3 => Op::Mul,
+        4 => Op::Div,
+        5 => Op::Dup,
+        6 => Op::Swap,
+        7 => Op::Jump(place),
+        8 => Op::JumpIfNotZero(place),
+        9 => Op::Eq,
+        10 => Op::Lt,
+        11 => Op::Load(place),
+        12 => Op::Store(place),
+        13 => Op::Caller,
+        14 => Op::JumpIfZero(place),
+        15 => Op::Halt,
+        _ => unreachable!(),
+    }
+}
+
+fn context_number(e: &ContextError) -> u64 {
+    match e {
+        ContextError::InvalidChainId => 35,
+        ContextError::InvalidNetworkId => 36,
+        ContextError::InvalidGenesisId => 37,
+        ContextError::ProtocolMismatch => 38,
+        ContextError::VmMismatch => 39,
+        ContextError::GenesisMismatch => 40,
+    }
+}
+
+/// Document 01's number of a refusal and what it carries. The original has one name for 43 and 50: 43 is its verifier's.
+fn refusal(e: &VmError, verifier: bool) -> Vec<u64> {
+    match e {
+        VmError::Context(e) => vec![context_number(e)],
+        VmError::InvalidProgram("empty program") => vec![41],
+        VmError::ProgramTooLarge { size, .. } => vec![42, *size as u64],
+        VmError::StorageLimitExceeded { requested, .. } if verifier => vec![43, *requested as u64],
+        VmError::InvalidProgram(_) => vec![45],
+        VmError::OutOfGas { required, remaining } => vec![46, *required, *remaining],
+        VmError::StackUnderflow => vec![47],
+        VmError::StackLimitExceeded => vec![48],
+        VmError::DivisionByZero => vec![49],
+        VmError::StorageLimitExceeded { requested, .. } => vec![50, *requested as u64],
+        VmError::InvalidJump(_) => unreachable!(),
+    }
+}
+
+fn plain(numbers: &[u64]) -> String {
+    numbers.iter().map(u64::to_string).collect::<Vec<_>>().join(" ")
+}
+
+fn list(numbers: &[u64]) -> String {
+    let mut parts = Vec::new();
+    let mut rest = numbers;
+    while let Some(&v) = rest.first() {
+        let times = rest.iter().take_while(|x| **x == v).count();
+        let repeated = format!("{times}*{v}");
+        let written = plain(&rest[..times]);
+        parts.push(if repeated.len() < written.len() { repeated } else { written });
+        rest = &rest[times..];
+    }
+    parts.join(" ")
+}
+
+/// What a run or a transition is given. The lent storage is `slots`, of which `used` are the state.
+#[derive(Clone)]
+struct Case {
+    program: Vec<Operation>,
+    caller: u64,
+    limit: u64,
+    used: usize,
+    slots: Vec<u64>,
+}
+
+fn case(program: &[Operation], limit: u64) -> Case {
+    Case { program: program.to_vec(), caller: 7, limit, used: 0, slots: vec![7; 4] }
+}
+
+type Texts = [String; 8];
+
+#[derive(Default)]
+struct Cases {
+    lines: String,
+    seen: HashSet<String>,
+    calls: BTreeMap<char, usize>,
+    numbers: BTreeMap<(char, u64), usize>,
+}
+
+impl Cases {
+    fn line(&mut self, call: char, number: u64, line: String) {
+        if self.seen.insert(line.clone()) {
+            *self.calls.entry(call).or_default() += 1;
+            *self.numbers.entry((call, number)).or_default() += 1;
+            self.lines += &line;
+            self.lines += "\n";
+        }
+    }
+
+    fn program(program: &[Operation]) -> String {
+        let kinds: Vec<u64> = program.iter().map(|o| o.0.into()).collect();
+        let operands: Vec<u64> = program.iter().map(|o| o.1).collect();
+        format!("{}/{}", list(&kinds), list(&operands))
+    }
+
+    fn verify(&mut self, program: &[Operation], used: usize) {
+        let vm = Vm::with_context(program.iter().map(op).collect(), 0, vec![0; used]);
+        let answer = vm.verify().map_or_else(|e| refusal(&e, true), |()| vec![0]);
+        self.line('v', answer[0], format!("ov//0 0 {used} 0 0/{}//{}", Self::program(program), plain(&answer)));
+    }
+
+    /// The call's result, whether the verifier refuses, and the state after it.
+    fn ask(call: char, texts: &Texts, c: &Case, limit: u64) -> (Result<Vec<u64>, VmError>, bool, Vec<u64>) {
+        let mut vm = Vm::with_context(c.program.iter().map(op).collect(), c.caller, c.slots[..c.used].to_vec());
+        let verifier = vm.verify().is_err();
+        let context = ChainContext {
+            chain_id: texts[0].clone(),
+            network_id: texts[1].clone(),
+            genesis_id: texts[2].clone(),
+            protocol_version: texts[3].clone(),
+            vm_version: texts[4].clone(),
+        };
+        let answer = match call {
+            'r' => vm.run_with_gas(limit),
+            'g' => vm.execute_state_transition_with_gas(&context, &texts[5], &texts[6], &texts[7], limit),
+            's' => vm.execute_state_transition(&context, &texts[5], &texts[6], &texts[7]),
+            _ => unreachable!(),
+        };
+        let state = vm.state().to_vec();
+        (answer, verifier, state)
+    }
+
+    /// The least limit under which the run succeeds, given one under which it does.
+    fn gas_spent(call: char, texts: &Texts, c: &Case) -> u64 {
+        if call == 's' {
+            return 0;
+        }
+        let (mut low, mut high) = (0, c.limit);
+        while low < high {
+            let middle = low + (high - low) / 2;
+            match Self::ask(call, texts, c, middle).0 {
+                Ok(_) => high = middle,
+                Err(VmError::OutOfGas { .. }) => low = middle + 1,
+                Err(e) => panic!("{e:?}"),
+            }
+        }
+        low
+    }
+
+    fn add(&mut self, call: char, texts: &Texts, c: &Case) {
+        let (answer, verifier, state) = Self::ask(call, texts, c, c.limit);
+        let (numbers, items) = match &answer {
+            Ok(stack) => (vec![0, Self::gas_spent(call, texts, c), stack.len() as u64, state.len() as u64], &stack[..]),
+            Err(e) => (refusal(e, verifier), &[][..]),
+        };
+        assert!(answer.is_ok() || state == c.slots[..c.used]);
+        assert!(state.len() <= c.slots.len(), "51 is document 01's own");
+        let joined = if call == 'r' { String::new() } else { texts.join(",") };
+        assert_eq!(joined.split(',').count(), if call == 'r' { 1 } else { 8 });
+        assert!(!joined.contains(['/', '\n']));
+        let given = format!("{} {} {} 4096 {}", c.caller, c.limit, c.used, c.slots.len());
+        let (program, slots) = (Self::program(&c.program), list(&c.slots));
+        let line = format!("o{call}/{joined}/{given}/{program}/{slots}/{}/{}/{}", plain(&numbers), list(items), list(&state));
+        self.line(call, numbers[0], line);
+    }
+
+    fn run(&mut self, c: &Case) {
+        self.add('r', &Texts::default(), c);
+    }
+
+    fn plain(&mut self, program: &[Operation], limit: u64) {
+        self.run(&case(program, limit));
+    }
+
+    /// Under every limit from 0 to one more than it needs, or to the last limit given.
+    fn every_limit(&mut self, c: &Case) {
+        let out_of_gas = |limit| matches!(Self::ask('r', &Texts::default(), c, limit).0, Err(VmError::OutOfGas { .. }));
+        let mut limit = 0;
+        while limit < c.limit && out_of_gas(limit) {
+            self.run(&Case { limit, ..c.clone() });
+            limit += 1;
+        }
+        self.run(&Case { limit, ..c.clone() });
+        self.run(&Case { limit: limit + 1, ..c.clone() });
+    }
+}
+
+struct Draw(u64);
+
+impl Draw {
+    fn below(&mut self, n: u64) -> u64 {
+        self.0 ^= self.0 << 13;
+        self.0 ^= self.0 >> 7;
+        self.0 ^= self.0 << 17;
+        (self.0 >> 11) % n
+    }
+
+    fn value(&mut self) -> u64 {
+        match self.below(8) {
+            0 => u64::MAX - self.below(3),
+            1 => 1 << self.below(64),
+            2 => self.below(1 << 33),
+            _ => self.below(5),
+        }
+    }
+
+    fn slot(&mut self) -> u64 {
+        match self.below(20) {
+            0 => 65_536,
+            1 => u64::MAX - self.below(2),
+            n => n % 8,
+        }
+    }
+
+    /// Pushes, then any kinds; jumps mostly within the program.
+    fn program(&mut self) -> Vec<Operation> {
+        let size = 1 + self.below(14);
+        let pushes = self.below(5).min(size);
+        (0..size)
+            .map(|i| {
+                let kind = if i < pushes { 0 } else { self.below(19) };
+                match kind {
+                    0 | 16.. => (PUSH, self.value()),
+                    7 | 8 | 14 => (kind as u8, if self.below(30) == 0 { size } else { self.below(size) }),
+                    11 | 12 => (kind as u8, self.slot()),
+                    _ => (kind as u8, 0),
+                }
+            })
+            .collect()
+    }
+
+    fn case(&mut self) -> Case {
+        let program = self.program();
+        let limit = if self.below(3) == 0 { self.below(12) } else { 12 + self.below(60) };
+        let slots = (0..8).map(|_| self.value()).collect();
+        Case { program, caller: self.value(), limit, used: self.below(9) as usize, slots }
+    }
+}
+
+fn verifications(c: &mut Cases, d: &mut Draw) {
+    for used in [0, 3, 65_536, 65_537] {
+        c.verify(&[], used);
+        for kind in 0..16 {
+            for operand in [0, 1] {
+                c.verify(&[(kind, operand)], used);
+            }
+        }
+    }
+    for kind in [JUMP, JUMP_IF_NOT_ZERO, JUMP_IF_ZERO] {
+        for size in 1..5 {
+            for at in 0..size {
+                for target in [0, 1, 2, 3, 4, 5, 1 << 32, u64::MAX] {
+                    let mut program = vec![(HALT, 0); size];
+                    program[at] = (kind, target);
+                    c.verify(&program, 0);
+                }
+            }
+        }
+        for (size, target) in [(65_536, 65_535), (65_536, 65_536), (65_537, 65_536), (65_537, 65_537)] {
+            let mut program = vec![(HALT, 0); size];
+            program[size - 1] = (kind, target);
+            c.verify(&program, 0);
+            c.verify(&program, 65_537);
+        }
+    }
+    for size in [65_535, 65_536, 65_537, 65_538, 65_540] {
+        for used in [0, 65_535, 65_536, 65_537, 65_538, 100_000] {
+            c.verify(&vec![(HALT, 0); size], used);
+            c.verify(&[(HALT, 0)], used);
+        }
+    }
+    for _ in 0..150 {
+        c.verify(&d.program(), d.below(9) as usize);
+    }
+}
+
+/// Each kind on 0 to 3 items, under every limit.
+fn kinds(c: &mut Cases) {
+    for kind in 0..16 {
+        for items in 0..4 {
+            for (used, caller) in [(0, 7), (1, 0), (4, u64::MAX)] {
+                let mut program: Vec<Operation> = (0..items).map(|i| (PUSH, [6, 3, 0][i])).collect();
+                let operand = if matches!(kind, 7 | 8 | 14) { items as u64 + 2 } else { 2 };
+                program.extend([(kind, operand), (PUSH, 1), (HALT, 0), (PUSH, 2)]);
+                let one = Case { program, caller, limit: 20, used, slots: vec![11, 12, 13, 14] };
+                if used == 0 {
+                    c.every_limit(&one);
+                } else {
+                    c.run(&one);
+                }
+            }
+        }
+    }
+}
+
+fn arithmetic(c: &mut Cases) {
+    let values = [0, 1, 2, 3, 10, (1 << 32) - 1, 1 << 32, 1 << 63, u64::MAX - 1, u64::MAX];
+    for kind in [1, 2, 3, 4, 9, 10] {
+        for a in values {
+            for b in values {
+                c.plain(&[(PUSH, a), (PUSH, b), (kind, 0)], 4);
+            }
+        }
+    }
+}
+
+fn limits(c: &mut Cases) {
+    let tally = [(PUSH, 5), (PUSH, 7), (ADD, 0), (PUSH, 2), (3, 0), (HALT, 0)];
+    c.every_limit(&case(&tally, 100));
+    for limit in [1_000, 1 << 32, u64::MAX - 1, u64::MAX] {
+        c.plain(&tally, limit);
+    }
+    for n in 1..5 {
+        let down = [(PUSH, n), (PUSH, 1), (2, 0), (DUP, 0), (JUMP_IF_NOT_ZERO, 1), (HALT, 0)];
+        c.every_limit(&case(&down, 100));
+        let up = [(PUSH, 0), (PUSH, 1), (ADD, 0), (DUP, 0), (PUSH, n), (9, 0), (JUMP_IF_ZERO, 1)];
+        c.every_limit(&case(&up, 100));
+    }
+    let counter = [(LOAD, 0), (PUSH, 1), (ADD, 0), (STORE, 0), (LOAD, 0), (PUSH, 5), (LT, 0), (JUMP_IF_NOT_ZERO, 0), (LOAD, 0)];
+    for used in [0, 2] {
+        c.every_limit(&Case { used, slots: vec![0, 9, 8, 7], ..case(&counter, 200) });
+    }
+    for limit in [0, 1, 2, 3, 1_000, 1_001] {
+        c.plain(&[(JUMP, 0)], limit);
+        c.plain(&[(JUMP, 1), (JUMP, 0)], limit);
+        c.plain(&[(HALT, 0), (JUMP, 0)], limit);
+        c.plain(&[(PUSH, 0), (JUMP_IF_ZERO, 0)], limit);
+        c.plain(&[(PUSH, 1), (JUMP_IF_NOT_ZERO, 0)], limit);
+    }
+}
+
+fn storage(c: &mut Cases) {
+    let slots: Vec<u64> = (21..29).collect();
+    let on = |program: &[Operation], used| Case { used, slots: slots.clone(), ..case(program, 50) };
+    for used in 0..9 {
+        for slot in (0..8).chain([65_536, 65_537, 1 << 32, 1 << 63, u64::MAX - 1, u64::MAX]) {
+            c.run(&on(&[(PUSH, 5), (STORE, slot)], used));
+            c.run(&on(&[(LOAD, slot), (LOAD, 0)], used));
+            c.run(&on(&[(PUSH, 5), (STORE, slot), (LOAD, slot), (LOAD, 1)], used));
+        }
+        for slot in [8, 9, 100, 65_534, 65_535] {
+            c.run(&on(&[(LOAD, slot)], used));
+        }
+    }
+    // a store before a refusal is undone
+    for slot in 0..8 {
+        let stores = [(PUSH, 5), (STORE, slot), (PUSH, 6), (STORE, 0)];
+        for end in [&[(ADD, 0)][..], &[(PUSH, 1), (PUSH, 0), (DIV, 0)], &[(PUSH, 1), (STORE, 65_536)], &[(JUMP, 4)], &[(STORE, 1)], &[(DUP, 0)]] {
+            c.run(&on(&[&stores[..], end].concat(), 3));
+        }
+        c.every_limit(&on(&stores, 1));
+    }
+    // the storage's ends
+    for used in [0, 1, 65_534, 65_535, 65_536] {
+        for slot in [0, 65_534, 65_535, 65_536] {
+            for kind in [LOAD, STORE] {
+                let program = [(PUSH, 3), (kind, slot)];
+                c.run(&Case { used, slots: vec![8; 65_536], ..case(&program, 9) });
+            }
+        }
+    }
+    for used in [65_537, 65_540] {
+        c.run(&Case { used, slots: vec![8; used], ..case(&[(HALT, 0)], 9) });
+        c.run(&Case { used, slots: vec![8; used], ..case(&[(JUMP, 1)], 9) });
+        c.run(&Case { used, slots: vec![8; used], ..case(&[], 9) });
+    }
+}
+
+fn stack_limit(c: &mut Cases) {
+    for pushes in [4_095, 4_096, 4_097] {
+        let program = vec![(PUSH, 3); pushes];
+        for limit in [4_094, 4_095, 4_096, 4_097, 5_000] {
+            c.plain(&program, limit);
+        }
+        for kind in 0..16 {
+            let operand = if matches!(kind, 7 | 8 | 14) { 0 } else { 2 };
+            let last = [&program[..], &[(kind, operand)]].concat();
+            for limit in [pushes as u64, pushes as u64 + 3] {
+                c.plain(&last, limit);
+            }
+        }
+    }
+    for limit in [12_285, 12_286, 12_287, 12_288, 12_289, 20_000] {
+        c.plain(&[(CALLER, 0), (JUMP, 0)], limit);
+        c.plain(&[(PUSH, 1), (DUP, 0), (JUMP, 1)], limit);
+        c.plain(&[(LOAD, 0), (JUMP, 0)], limit);
+    }
+    for size in [65_536, 65_537] {
+        c.plain(&vec![(HALT, 0); size], 0);
+        c.plain(&vec![(CALLER, 0); size], 9);
+        c.plain(&vec![(CALLER, 0); size], 70_000);
+    }
+    c.plain(&[vec![(JUMP, 65_535)], vec![(CALLER, 0); 65_535]].concat(), 9);
+    c.plain(&[vec![(JUMP, 65_536)], vec![(CALLER, 0); 65_535]].concat(), 9);
+}
+
+fn drawn(c: &mut Cases, d: &mut Draw) {
+    for _ in 0..1_200 {
+        let one = d.case();
+        c.run(&one);
+    }
+    for _ in 0..40 {
+        let one = d.case();
+        c.every_limit(&one);
+    }
+    for kind in 0..16 {
+        for limit in 0..4 {
+            c.plain(&[(kind, 0)], limit);
+        }
+    }
+    c.plain(&[], 0);
+    c.plain(&[], 9);
+    for (size, target) in [(1, 1), (2, 2), (3, 9), (2, u64::MAX)] {
+        for kind in [JUMP, JUMP_IF_NOT_ZERO, JUMP_IF_ZERO] {
+            let mut program = vec![(PUSH, 1); size];
+            program[size - 1] = (kind, target);
+            c.plain(&program, 0);
+            c.plain(&program, 9);
+        }
+    }
+    for n in [1, 2, 3, 4, 5] {
+        c.plain(&[vec![(PUSH, 1), (PUSH, 2), (PUSH, 3)], vec![(SWAP, 0); n], vec![(2, 0)]].concat(), 30);
+    }
+}
+
+/// How many contexts pass; they come first.
+const GOOD: usize = 5;
+
+fn contexts() -> Vec<Texts> {
+    let genesis = "0123456789abcdef".repeat(4);
+    let good = ["atc", "devnet", &genesis, "p1", "v1", &genesis, "p1", "v1"].map(String::from);
+    let with = |changes: &[(usize, &str)]| {
+        let mut texts = good.clone();
+        for (i, text) in changes {
+            texts[*i] = text.to_string();
+        }
+        texts
+    };
+    let mut all = vec![good.clone(), with(&[(1, "testnet")]), with(&[(1, "mainnet")])];
+    let upper = genesis.to_uppercase();
+    all.push(with(&[(2, &upper), (5, &upper)]));
+    all.push(with(&[(3, ""), (6, "")]));
+    assert_eq!(all.len(), GOOD);
+    // one fault
+    for chain in ["", "at", "atcc", "ATC", "atc "] {
+        all.push(with(&[(0, chain)]));
+    }
+    for network in ["", "devne", "Devnet", "mainnets", "net"] {
+        all.push(with(&[(1, network)]));
+    }
+    for id in ["", &genesis[1..], &format!("{genesis}0"), &format!("{}g", &genesis[1..]), &format!("{} ", &genesis[1..])] {
+        all.push(with(&[(2, id), (5, id)]));
+    }
+    all.extend([with(&[(3, "p2")]), with(&[(6, "p2")]), with(&[(3, "")]), with(&[(6, "p")])]);
+    all.extend([with(&[(4, "v2")]), with(&[(7, "v2")]), with(&[(4, "V1")]), with(&[(7, "")])]);
+    all.extend([with(&[(2, &upper)]), with(&[(5, &upper)]), with(&[(5, "")]), with(&[(5, &genesis[1..])])]);
+    // two faults: the first in document 01's order is given
+    let faults = [(0, "x"), (1, "x"), (2, "x"), (3, "x"), (4, "x"), (5, "x")];
+    for i in 0..6 {
+        for j in i + 1..6 {
+            all.push(with(&[faults[i], faults[j]]));
+        }
+    }
+    all
+}
+
+fn transitions(c: &mut Cases, d: &mut Draw) {
+    let slots = vec![31, 32, 33, 34];
+    let programs: [&[Operation]; 6] = [
+        &[(HALT, 0)],
+        &[(JUMP, 1)],
+        &[],
+        &[(PUSH, 5), (STORE, 3), (LOAD, 1), (CALLER, 0)],
+        &[(PUSH, 5), (STORE, 0), (ADD, 0)],
+        &[(PUSH, 5), (STORE, 0), (JUMP, 2)],
+    ];
+    for (i, texts) in contexts().into_iter().enumerate() {
+        for program in &programs[if i < GOOD { 0..6 } else { 2..4 }] {
+            let one = Case { used: 2, slots: slots.clone(), ..case(program, 20) };
+            c.add('g', &texts, &one);
+            c.add('s', &texts, &Case { limit: 0, ..one });
+        }
+    }
+    let good = &contexts()[0];
+    for kind in 0..16 {
+        for limit in 0..4 {
+            c.add('g', good, &case(&[(kind, 0)], limit));
+        }
+        c.add('s', good, &case(&[(kind, 0)], 0));
+        c.add('s', good, &case(&[(HALT, 0), (kind, 0)], 0));
+    }
+    for call in ['g', 's'] {
+        for size in [65_536, 65_537] {
+            c.add(call, good, &case(&vec![(HALT, 0); size], 0));
+        }
+        for used in [65_536, 65_537] {
+            c.add(call, good, &Case { used, slots: vec![8; used], ..case(&[(HALT, 0)], 0) });
+        }
+    }
+    c.add('g', good, &case(&[(CALLER, 0), (JUMP, 0)], 12_289));
+    c.add('g', good, &case(&[(PUSH, 1), (STORE, 0), (PUSH, 1), (PUSH, 0), (DIV, 0)], 9));
+    c.add('g', good, &case(&[(PUSH, 1), (STORE, 0), (PUSH, 1), (STORE, u64::MAX)], 9));
+    for _ in 0..150 {
+        let one = d.case();
+        c.add('g', good, &one);
+    }
+    for _ in 0..50 {
+        let one = Case { limit: 0, ..d.case() };
+        c.add('s', good, &one);
     }
 }
 
 fn main() {
-    let mut x = 1u64;
-    for _ in 0..400 {
-        let mut program = Vec::new();
-        for i in 0..16 {
-            x = next(x);
-            let kind = if i < 4 { 0 } else { (x >> 33) % 24 };
-            x = next(x);
-            program.push(operation(kind, x >> 33));
-        }
-        let mut storage = Vec::new();
-        for _ in 0..8 {
-            x = next(x);
-            storage.push(x >> 33);
-        }
-        x = next(x);
-        let limit = (x >> 33) % 40;
-        x = next(x);
-        let used = ((x >> 33) % 9) as usize;
-        let run = |limit: u64| {
-            let mut vm = Vm::with_context(program.clone(), 7, storage[..used].to_vec());
-            let r = vm.run_with_gas(limit);
-            (r, vm.state().to_vec())
-        };
-        let (answer, after) = run(limit);
-        match answer {
-            Ok(stack) => {
-                let spent = (0..=limit).find(|g| run(*g).0.is_ok()).unwrap();
-                let mut s = stack.clone();
-                s.resize(4096, 0);
-                let mut m = after.clone();
-                m.extend_from_slice(&storage[after.len()..]);
-                println!("0 {spent} - {} {} {} 0 {} ", stack.len(), after.len(), digest(&s), digest(&m));
-            }
-            Err(e) => {
-                let (text, touched) = match e {
-                    VmError::InvalidProgram("empty program") => ("41".to_string(), false),
-                    VmError::InvalidProgram(_) => ("45".to_string(), false),
-                    VmError::OutOfGas { required, remaining } => (format!("46 {required} {remaining}"), true),
-                    VmError::StackUnderflow => ("47".to_string(), true),
-                    VmError::StackLimitExceeded => ("48".to_string(), true),
-                    VmError::DivisionByZero => ("49".to_string(), true),
-                    VmError::StorageLimitExceeded { requested, .. } => (format!("50 {requested}"), true),
-                    _ => unreachable!(),
-                };
-                assert!(after == storage[..used]);
-                let (s, w) = if touched { (0, 0) } else { (digest(&[9; 4096]), digest(&[9; 8])) };
-                println!("{text} {s} {w} {} ", digest(&storage));
-            }
-        }
+    let mut words = std::env::args().skip(1);
+    let folder = words.next().expect("the folder of crates/vm_vectors");
+    let document = std::fs::read_to_string(words.next().expect("oracle/vm_document.txt")).unwrap();
+    let (mut c, mut d) = (Cases::default(), Draw(88_172_645_463_325_252));
+    verifications(&mut c, &mut d);
+    kinds(&mut c);
+    arithmetic(&mut c);
+    limits(&mut c);
+    storage(&mut c);
+    stack_limit(&mut c);
+    drawn(&mut c, &mut d);
+    transitions(&mut c, &mut d);
+    let mut counts = String::new();
+    let names = [('v', "verify"), ('r', "run_with_gas"), ('g', "execute_state_transition_with_gas"), ('s', "execute_state_transition")];
+    for (call, name) in names {
+        let added = document.lines().filter(|l| l.starts_with(&format!("d{call}"))).count();
+        counts += &format!("{name}: {} of the original, {added} of document 01\n", c.calls[&call]);
     }
+    counts += "0 differ\n";
+    let text = format!("# Answers of the original.\n{}{document}", c.lines);
+    std::fs::write(format!("{folder}/stdin"), text).unwrap();
+    std::fs::write(format!("{folder}/stdout"), &counts).unwrap();
+    print!("{counts}");
+    for ((call, number), n) in &c.numbers {
+        println!("{call} {number}: {n}");
+    }
+    println!("{} bytes of the original's, {} of document 01's", c.lines.len(), document.len());
 }

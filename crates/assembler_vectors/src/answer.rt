@@ -1,8 +1,6 @@
 // What a call gives and leaves in the lent buffer, as text.
-use assembler::refusal::Refusal;
 use assembly::Answer;
-use expression::ExprError;
-use source::function::FunctionError;
+use numbers::Numbered;
 
 pub fn print(r: Answer, out: &[u8]) {
     match r {
@@ -20,7 +18,7 @@ pub fn print(r: Answer, out: &[u8]) {
             output(out, written);
         }
         Answer::Refused(why) => {
-            refusal(why);
+            refusal(numbers::of_refusal(why));
             rest(out, 0);
         }
     }
@@ -53,56 +51,16 @@ fn is_kept(out: &[u8], from: usize) -> bool {
     true
 }
 
-fn refusal(why: Refusal) {
-    match why {
-        Refusal::Contract => number(1),
-        Refusal::Vector => number(2),
-        Refusal::Function(e) => number(function_number(e)),
-        Refusal::NoKey(place) => carrying(8, place),
-        Refusal::NoColon(place) => carrying(9, place),
-        Refusal::NoDigit(place) => carrying(10, place),
-        Refusal::TooLarge(place) => carrying(11, place),
-        Refusal::NoEquals(line) => carrying(12, line),
-        Refusal::Expression(e, line) => carrying(expression_number(e), line),
-        Refusal::TooLong(line) => carrying(20, line),
-        Refusal::TooManyBindings => number(21),
-        Refusal::NoReturn => number(22),
-        Refusal::NoValue => number(23),
-        Refusal::NotExpected => number(24),
-        Refusal::BadStem => number(25),
-        Refusal::OutputTooLong => number(26),
+// The number, and the key's place or the line that 8 to 20 carry.
+fn refusal(why: Numbered) {
+    io::print_decimal(1, why.number);
+    if why.number < 8 {
+        return;
     }
-}
-
-fn function_number(e: FunctionError) -> u64 {
-    match e {
-        FunctionError::NoFunction => 3,
-        FunctionError::NoParameters => 4,
-        FunctionError::UnclosedParameters => 5,
-        FunctionError::NoBody => 6,
-        FunctionError::UnclosedBody => 7,
+    if why.number > 20 {
+        return;
     }
-}
-
-fn expression_number(e: ExprError) -> u64 {
-    match e {
-        ExprError::InvalidCharacter => 13,
-        ExprError::UnexpectedEnd => 14,
-        ExprError::UnbalancedParenthesis => 15,
-        ExprError::InvalidLiteral => 16,
-        ExprError::UnknownIdentifier => 17,
-        ExprError::TooDeep => 18,
-        ExprError::UnconsumedTokens => 19,
-    }
-}
-
-fn carrying(n: u64, value: usize) {
-    io::print_decimal(1, n);
-    spaced(value as u64);
-}
-
-fn number(n: u64) {
-    io::print_decimal(1, n);
+    spaced(why.first);
 }
 
 fn spaced(n: u64) {

@@ -1,6 +1,7 @@
-// Replays answers of the original assembler. A case on standard input is a line `CCCC VVVV SSS`, the lengths of the contract,
-// of the vector and of the stem, then these three and a line feed. Its answer is a line of document 01's number and values
-// and of what became of the lent buffer past the output (`kept` or `changed`), then on success the output.
+// Replays answers of the original assembler, and document 01's own where the original can't be asked. A case on standard input
+// is a line `W CCCCC VVVVV SSS`, who answers (`o` the original, `d` document 01) and the lengths of the contract, of the vector
+// and of the stem, then these three and a line feed. Its answer is a line of document 01's number and values and of what
+// became of the lent buffer past the output (`kept` or `changed`), then on success the output.
 mod answer;
 
 use number::Number;
@@ -8,7 +9,7 @@ ghost use Prim.Native.Nat.{_≤_};
 ghost use lib.ListN.{length};
 
 fn main() {
-    let mut input = [0u8; 524288];
+    let mut input = [0u8; 655360];
     let n = io::read_full(0, &mut input);
     replay(&input[..n]);
 }
@@ -16,13 +17,13 @@ fn main() {
 fn replay(input: &[u8]) {
     let mut at: usize = 0;
     while at < input.len() {
-        if input.len() - at < 14 {
+        if input.len() - at < 18 {
             return;
         }
-        let contract = at + 14;
-        let vector = end_of(input, contract, field(input, at, at + 4));
-        let stem = end_of(input, vector, field(input, at + 5, at + 9));
-        let end = end_of(input, stem, field(input, at + 10, at + 13));
+        let contract = at + 18;
+        let vector = end_of(input, contract, field(input, at + 2, at + 7));
+        let stem = end_of(input, vector, field(input, at + 8, at + 13));
+        let end = end_of(input, stem, field(input, at + 14, at + 17));
         case(
             &input[contract..vector],
             &input[vector..stem],

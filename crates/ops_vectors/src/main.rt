@@ -1,6 +1,7 @@
-// Replays outside vectors of the ops reader. A case on standard input is a line `KK OO NNNN`, the lengths of the lent
-// kinds, of the lent operands and of the text, then the text and a line feed. Its answer is a line of document 01's
-// number and values, a line of each whole buffer after the call, and the trimmed lines 0 to 3 in brackets.
+// Replays answers of the original ops reader, and document 01's own where the original can't be asked. A case on standard input
+// is a line `W KK OO NNNN`, who answers (`o` the original, `d` document 01) and the lengths of the lent kinds, of the lent
+// operands and of the text, then the text and a line feed. Its answer is a line of document 01's number and values, a line of
+// each whole buffer after the call, and the trimmed lines 0 to 3 in brackets.
 mod answer;
 
 use number::Number;
@@ -16,13 +17,13 @@ fn main() {
 fn replay(input: &[u8]) {
     let mut at: usize = 0;
     while at < input.len() {
-        if input.len() - at < 11 {
+        if input.len() - at < 13 {
             return;
         }
-        let start = at + 11;
-        let kinds = field(input, at, at + 2);
-        let operands = field(input, at + 3, at + 5);
-        let len = field(input, at + 6, at + 10);
+        let start = at + 13;
+        let kinds = field(input, at + 2, at + 4);
+        let operands = field(input, at + 5, at + 7);
+        let len = field(input, at + 8, at + 12);
         if input.len() - start <= len {
             return;
         }

@@ -1,9 +1,7 @@
 // What the calls that read a contract and its vector give, as text: the number of the refusal, or 0 and what was found.
-ghost use mathlib.Core.Path.{_≡_};
-ghost use Rattle.source.specs.Function.{functionRefusal};
 use super::hex;
+use assembler::refusal::Refusal;
 use source::function::Function;
-use source::function::FunctionError;
 use source::parameters::NextParameter;
 use source::vector::KeyValue;
 
@@ -30,7 +28,8 @@ fn function(contract: &[u8]) {
             hex::print(&contract[body_start..body_end]);
         }
         Function::Refused(e) => {
-            io::print_decimal(1, refusal(e));
+            let why = numbers::of_refusal(Refusal::Function(e));
+            io::print_decimal(1, why.number);
         }
     }
 }
@@ -52,18 +51,6 @@ fn parameters(text: &[u8], from: usize, end: usize) {
 fn spaced(name: &[u8]) {
     hex::print(name);
     io::write_all(1, b" ");
-}
-
-fn refusal(e: FunctionError) -> u64
-    ensures { λ r. ⌜ r ≡ functionRefusal e ⌝ }
-{
-    match e {
-        FunctionError::NoFunction => 3,
-        FunctionError::NoParameters => 4,
-        FunctionError::UnclosedParameters => 5,
-        FunctionError::NoBody => 6,
-        FunctionError::UnclosedBody => 7,
-    }
 }
 
 fn value(v: KeyValue) {

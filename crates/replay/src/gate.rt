@@ -1,10 +1,6 @@
 // What the chain gate gives for eight texts that stand in one, parted by a byte that no UTF-8 text has.
-ghost use mathlib.Core.Path.{_≡_};
 ghost use Prim.Native.Nat.{_≤_};
 ghost use lib.ListN.{length};
-ghost use Rattle.context.specs.Gate.{gateNumber, errorNumber};
-use context::ContextError;
-use context::Gate;
 use search::Found;
 
 pub fn print(call: u8, a: &[u8]) {
@@ -21,7 +17,7 @@ pub fn print(call: u8, a: &[u8]) {
         piece(a, 6),
         piece(a, 7),
     );
-    io::print_decimal(1, number(gate));
+    io::print_decimal(1, numbers::of_gate(gate));
 }
 
 // The text that has n before it; empty where there are fewer.
@@ -57,27 +53,5 @@ fn stop(s: &[u8], at: usize) -> usize
     match found {
         Found::At(i) => i,
         Found::Nothing => s.len(),
-    }
-}
-
-fn number(gate: Gate) -> u64
-    ensures { λ r. ⌜ r ≡ gateNumber gate ⌝ }
-{
-    match gate {
-        Gate::Passed => 0,
-        Gate::Refused(e) => refusal(e),
-    }
-}
-
-fn refusal(e: ContextError) -> u64
-    ensures { λ r. ⌜ r ≡ errorNumber e ⌝ }
-{
-    match e {
-        ContextError::InvalidChainId => 35,
-        ContextError::InvalidNetworkId => 36,
-        ContextError::InvalidGenesisId => 37,
-        ContextError::ProtocolMismatch => 38,
-        ContextError::VmMismatch => 39,
-        ContextError::GenesisMismatch => 40,
     }
 }

@@ -27,17 +27,20 @@ add-contract c = search needs
 add-field : tie.Need-add-field Inv-loop μ-loop
 add-field c = search needs
 
+add-field-2 : tie.Need-add-field-2 Inv-loop μ-loop
+add-field-2 c = search needs
+
 field-requires : tie.Need-field-requires Inv-loop μ-loop
 field-requires c κs = search needs
 
 end-of-requires : tie.Need-end-of-requires Inv-loop μ-loop
 end-of-requires c κs = search needs
 
-add-field-2 : tie.Need-add-field-2 Inv-loop μ-loop
-add-field-2 c = search needs
-
 add-field-3 : tie.Need-add-field-3 Inv-loop μ-loop
 add-field-3 c = search needs
+
+add-field-4 : tie.Need-add-field-4 Inv-loop μ-loop
+add-field-4 c = search needs
 
 field-requires-2 : tie.Need-field-requires-2 Inv-loop μ-loop
 field-requires-2 c κs = search needs
@@ -45,11 +48,11 @@ field-requires-2 c κs = search needs
 end-of-requires-2 : tie.Need-end-of-requires-2 Inv-loop μ-loop
 end-of-requires-2 c κs = search needs
 
-add-field-4 : tie.Need-add-field-4 Inv-loop μ-loop
-add-field-4 c = search needs
-
 add-field-5 : tie.Need-add-field-5 Inv-loop μ-loop
 add-field-5 c = search needs
+
+add-field-6 : tie.Need-add-field-6 Inv-loop μ-loop
+add-field-6 c = search needs
 
 field-requires-3 : tie.Need-field-requires-3 Inv-loop μ-loop
 field-requires-3 c κs = search needs
@@ -113,14 +116,15 @@ replay-spec =
     returns
     add-contract
     add-field
+    add-field-2
     field-requires
     end-of-requires
-    add-field-2
     add-field-3
+    add-field-4
     field-requires-2
     end-of-requires-2
-    add-field-4
     add-field-5
+    add-field-6
     field-requires-3
     end-of-requires-3
     sub-case

@@ -27,23 +27,26 @@ add-start c = search needs
 add-field : tie.Need-add-field Inv-loop μ-loop
 add-field c = search needs
 
-field-requires : tie.Need-field-requires Inv-loop μ-loop
-field-requires c κs = search needs
-
 add-field-2 : tie.Need-add-field-2 Inv-loop μ-loop
 add-field-2 c = search needs
+
+field-requires : tie.Need-field-requires Inv-loop μ-loop
+field-requires c κs = search needs
 
 add-field-3 : tie.Need-add-field-3 Inv-loop μ-loop
 add-field-3 c = search needs
 
-field-requires-2 : tie.Need-field-requires-2 Inv-loop μ-loop
-field-requires-2 c κs = search needs
-
 add-field-4 : tie.Need-add-field-4 Inv-loop μ-loop
 add-field-4 c = search needs
 
+field-requires-2 : tie.Need-field-requires-2 Inv-loop μ-loop
+field-requires-2 c κs = search needs
+
 add-field-5 : tie.Need-add-field-5 Inv-loop μ-loop
 add-field-5 c = search needs
+
+add-field-6 : tie.Need-add-field-6 Inv-loop μ-loop
+add-field-6 c = search needs
 
 field-requires-3 : tie.Need-field-requires-3 Inv-loop μ-loop
 field-requires-3 c κs = search needs
@@ -92,12 +95,13 @@ replay-spec =
     returns
     add-start
     add-field
-    field-requires
     add-field-2
+    field-requires
     add-field-3
-    field-requires-2
     add-field-4
+    field-requires-2
     add-field-5
+    add-field-6
     field-requires-3
     sub-if2
     returns-2

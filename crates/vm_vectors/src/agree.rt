@@ -1,0 +1,54 @@
+// Whether an answer and the buffers after its call are as a line lists them. A list names the first of what it is held
+// against, so an empty one asks nothing; only the answer's must have its number.
+use super::list;
+use numbers::Numbered;
+
+pub fn is_as_listed(
+    line: &[u8],
+    answer: Numbered,
+    stack: &[u64],
+    work: &[u64],
+    storage: &[u64],
+    numbers: &mut [u64],
+) -> bool {
+    let answered = is_answered(line, answer, numbers);
+    let left = is_left(line, stack, work, storage, numbers);
+    byte::both(answered, left)
+}
+
+fn is_answered(line: &[u8], answer: Numbered, numbers: &mut [u64]) -> bool {
+    let answered = is_answer(list::part(line, b'/', 6), answer, numbers);
+    let counted = has_first(list::part(line, b'/', 9), &[answer.second], numbers);
+    byte::both(answered, counted)
+}
+
+fn is_left(line: &[u8], stack: &[u64], work: &[u64], storage: &[u64], numbers: &mut [u64]) -> bool {
+    let items = has_first(list::part(line, b'/', 7), stack, numbers);
+    let slots = has_first(list::part(line, b'/', 8), storage, numbers);
+    let cleared = has_first(list::part(line, b'/', 10), work, numbers);
+    byte::both(items, byte::both(slots, cleared))
+}
+
+// The number and the values carried; of a success gas spent, items and used length.
+fn is_answer(text: &[u8], answer: Numbered, numbers: &mut [u64]) -> bool {
+    if text.len() == 0 {
+        return false;
+    }
+    if answer.number == 0 {
+        return has_first(
+            text,
+            &[answer.number, answer.first, answer.third, answer.fourth],
+            numbers,
+        );
+    }
+    has_first(
+        text,
+        &[answer.number, answer.first, answer.second, answer.third],
+        numbers,
+    )
+}
+
+fn has_first(text: &[u8], s: &[u64], numbers: &mut [u64]) -> bool {
+    let n = list::numbers(text, numbers);
+    list::starts_with(s, &numbers[..n])
+}
