@@ -6,39 +6,19 @@
 #![allow(dead_code)]
 #[path = "../../shared/docs/src/src/context.rs"]
 mod context;
+mod kinds;
 #[path = "../../shared/docs/src/src/ops.rs"]
 mod ops;
 #[path = "../../shared/docs/src/src/vm.rs"]
 mod vm;
+use kinds::kind_and_operand;
 use ops::{parse_ops, OpsError};
 use std::fmt::Write;
-use vm::Op;
 
 const LENT: usize = 18;
 const WORDS: [&str; 16] = [
     "Push", "Add", "Sub", "Mul", "Div", "Dup", "Swap", "Jump", "JumpIfNotZero", "Eq", "Lt", "Load", "Store", "Caller", "JumpIfZero", "Halt",
 ];
-
-fn kind_and_operand(op: &Op) -> (u8, u64) {
-    match *op {
-        Op::Push(v) => (0, v),
-        Op::Add => (1, 0),
-        Op::Sub => (2, 0),
-        Op::Mul => (3, 0),
-        Op::Div => (4, 0),
-        Op::Dup => (5, 0),
-        Op::Swap => (6, 0),
-        Op::Jump(t) => (7, t as u64),
-        Op::JumpIfNotZero(t) => (8, t as u64),
-        Op::Eq => (9, 0),
-        Op::Lt => (10, 0),
-        Op::Load(s) => (11, s as u64),
-        Op::Store(s) => (12, s as u64),
-        Op::Caller => (13, 0),
-        Op::JumpIfZero(t) => (14, t as u64),
-        Op::Halt => (15, 0),
-    }
-}
 
 /// The part that the original names, found again in the text.
 fn place(text: &str, line: &str, part: &str, whole: bool) -> (usize, usize) {

@@ -1,5 +1,5 @@
 // The cases of crates/replay that read a contract and its vector: what the original's `find_function` and
-// `json_u64_for_key` answer. Both are private there, so this text is compiled behind the original's and messages.rs (oracle/make).
+// `json_u64_for_key` answer. Both are private there, so this text is compiled behind the original's, messages.rs and words.rs (oracle/make).
 use std::fmt::Write;
 
 struct Cases {
@@ -35,17 +35,6 @@ impl Cases {
         };
         self.add('V', vector, key, answer);
     }
-}
-
-// All strings over an alphabet of at most n letters.
-fn words(alphabet: &[&str], n: usize) -> Vec<String> {
-    let mut all = vec![String::new()];
-    let mut last = all.clone();
-    for _ in 0..n {
-        last = last.iter().flat_map(|w| alphabet.iter().map(move |a| format!("{w}{a}"))).collect();
-        all.extend(last.iter().cloned());
-    }
-    all
 }
 
 fn function_cases(c: &mut Cases) {

@@ -1,5 +1,7 @@
 // The cases of crates/replay that call the text floor: what Rust's own `str`, `u64` and slices answer (oracle/make).
+mod words;
 use std::fmt::Write;
+use words::words;
 
 struct Cases {
     input: String,
@@ -65,17 +67,6 @@ impl Cases {
     fn product(&mut self, a: u64, b: u64) {
         self.add('m', &a.to_be_bytes(), &b.to_be_bytes(), a.wrapping_mul(b).to_string());
     }
-}
-
-// All strings over an alphabet of at most n letters.
-fn words(alphabet: &[&str], n: usize) -> Vec<String> {
-    let mut all = vec![String::new()];
-    let mut last = all.clone();
-    for _ in 0..n {
-        last = last.iter().flat_map(|w| alphabet.iter().map(move |a| format!("{w}{a}"))).collect();
-        all.extend(last.iter().cloned());
-    }
-    all
 }
 
 fn utf8_cases(c: &mut Cases) {

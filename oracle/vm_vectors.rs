@@ -7,11 +7,13 @@
 #![allow(dead_code)]
 #[path = "../../shared/docs/src/src/context.rs"]
 mod context;
+mod kinds;
 #[path = "../../shared/docs/src/src/vm.rs"]
 mod vm;
 use context::{ChainContext, ContextError};
+use kinds::op;
 use std::collections::{BTreeMap, HashSet};
-use vm::{Op, Vm, VmError};
+use vm::{Vm, VmError};
 
 type Operation = (u8, u64);
 
@@ -28,29 +30,6 @@ const STORE: u8 = 12;
 const CALLER: u8 = 13;
 const JUMP_IF_ZERO: u8 = 14;
 const HALT: u8 = 15;
-
-fn op(&(kind, operand): &Operation) -> Op {
-    let place = operand as usize;
-    match kind {
-        0 => Op::Push(operand),
-        1 => Op::Add,
-        2 => Op::Sub,
-        3 => Op::Mul,
-        4 => Op::Div,
-        5 => Op::Dup,
-        6 => Op::Swap,
-        7 => Op::Jump(place),
-        8 => Op::JumpIfNotZero(place),
-        9 => Op::Eq,
-        10 => Op::Lt,
-        11 => Op::Load(place),
-        12 => Op::Store(place),
-        13 => Op::Caller,
-        14 => Op::JumpIfZero(place),
-        15 => Op::Halt,
-        _ => unreachable!(),
-    }
-}
 
 fn context_number(e: &ContextError) -> u64 {
     match e {

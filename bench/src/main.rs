@@ -1,7 +1,7 @@
 //! The library beside the original, in one process, by turns on the same inputs: medians of the ratios, in Markdown.
 include!(concat!(env!("OUT_DIR"), "/original.rs"));
 mod inputs;
-#[path = "../../oracle/compare/src/kinds.rs"]
+#[path = "../../oracle/kinds.rs"]
 #[allow(dead_code)]
 mod kinds;
 #[path = "../../oracle/compare/src/library.rs"]

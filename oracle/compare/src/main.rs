@@ -3,6 +3,7 @@
 include!(concat!(env!("OUT_DIR"), "/original.rs"));
 mod assemble;
 mod gate;
+#[path = "../../kinds.rs"]
 mod kinds;
 mod library;
 mod read;
