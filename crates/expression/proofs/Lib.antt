@@ -1,7 +1,6 @@
 pub mod Steps
 pub mod Grammar
 pub mod Lookup
-pub mod Holding
 pub mod Signs
 pub mod Atoms
 pub mod Reading

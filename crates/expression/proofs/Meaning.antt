@@ -18,7 +18,7 @@ use Rattle.expression.specs.Tree.{Tree}
 use Rattle.expression.specs.Parse.{Env, done, enough, parseF, moreF, Meaning, tree, wrong, whole, meaning, expression}
 use Rattle.expression.specs.Figures.{Figures}
 use Rattle.expression.specs.Table.{Columns, columnsOf, columns, Holds}
-use Rattle.expression.specs.Answer.{refusal, numberOf, said, due, Short, Over, Answers}
+use Rattle.expression.specs.Answer.{numberOf, said, due, Short, Over, Answers}
 use Rattle.expression.specs.Parts.{wholeRead}
 use Rattle.expression.specs.Cycle.{Meets}
 use Rattle.expression.proofs.Signs.{none-of, next-of}
@@ -72,23 +72,6 @@ module _ (s : List ℕ) (v : Read) (t : Token) (e : t ≡ tokenAt s (v .next)) w
 
   pub whole-more : (t .start ≡ t .end → ⊥) → Refused UnconsumedTokens ≡ wholeRead (tokens (drop (v .next) s)) v
   whole-more h = rw (next-of s (v .next) t e h .list)
-
--- what an answer says of the expression: for a caller
-pub answer-tree : {s : List ℕ} {at : ℕ} {c : Columns} {v : Read} → Answers s at c (Done v) → (env : Env) → Holds s c env → (t : Tree) × ((meaning env (drop at s) ≡ tree t) × Figures t v)
-answer-tree {s} {at} {c} {v} a env h = go (meaning env (drop at s)) refl
-  where
-    go : (m : Meaning) → meaning env (drop at s) ≡ m → (t : Tree) × ((meaning env (drop at s) ≡ tree t) × Figures t v)
-    go (wrong n) e = absurd (let q : said (Done v) ≡ refusal n = a .is env h ∙ ap due e in let z : _≡_ {A = ℕ} 0 1 = cc in omega arith)
-    go (tree t) e =
-        let q : said (Done v) ≡ due (tree t) = a .is env h ∙ ap due e in
-        (t, (e, record { k = cc; p = cc; value = cc; len = cc; short = subst Short e (a .short env h) }))
-
-pub answer-refused : {s : List ℕ} {at : ℕ} {c : Columns} {x : ExprError} → Answers s at c (Refused x) → (env : Env) → Holds s c env → meaning env (drop at s) ≡ wrong (numberOf x)
-answer-refused {s} {at} {c} {x} a env h = go (meaning env (drop at s)) refl
-  where
-    go : (m : Meaning) → meaning env (drop at s) ≡ m → meaning env (drop at s) ≡ wrong (numberOf x)
-    go (wrong n) e = let q : refusal (numberOf x) ≡ refusal n = a .is env h ∙ ap due e in let r : n ≡ numberOf x = cc in e ∙ ap wrong r
-    go (tree t) e = absurd (let q : said (Refused x) ≡ due (tree t) = a .is env h ∙ ap due e in let z : _≡_ {A = ℕ} 0 1 = cc in omega arith)
 
 -- an empty text is no expression
 pub meaning-empty : (env : Env) → meaning env [] ≡ wrong 14

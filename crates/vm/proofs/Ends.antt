@@ -3,9 +3,9 @@ use Prim.Native.Nat.{ℕ, zero, suc, _+_, _-_, _≤_}
 use native.Mathlib.Omega.{arith}
 use native.Mathlib.Nat.{sub-zero}
 use mathlib.Core.Path.{_≡_, refl, sym, ap, _∙_}
-use mathlib.Core.List.{List, [], _∷_, _++_}
-use lib.ListN.{length, take, drop, replicate, length-append, length-take, length-drop}
-use lib.Seq.{take-suc, take-at, length-take-le}
+use mathlib.Core.List.{List, [], _∷_, _++_, append-assoc}
+use lib.ListN.{length, take, drop, replicate, length-append, length-take, length-drop, take-append-drop}
+use lib.Seq.{take-suc, take-at, length-take-le, drop-drop}
 use Rattle.machine.specs.declared.Regs.{Regs}
 use Rattle.machine.specs.declared.Refusal.{Refusal}
 use Rattle.machine.specs.Operation.{Op}
@@ -16,6 +16,7 @@ use Rattle.machine.proofs.Effects.{refused}
 use Rattle.vm.specs.declared.State.{State}
 use Rattle.vm.specs.declared.Answer.{Answer}
 use Rattle.vm.specs.declared.Answer.the-variants.{Success, Refused}
+use Rattle.vm.specs.Reach.{widenedOutcome}
 use Rattle.vm.specs.Transition.{up, ofRun, Meets}
 
 pub up-down : (n : ℕ) (xs : List ℕ) → n ≤ length xs → up (down n xs) ≡ take n xs
@@ -40,22 +41,24 @@ module _ (g : ℕ) (state : State) (r : Regs) (s w m s′ w′ : List ℕ) (same
   cleared : w′ ≡ replicate (length m) 0
   cleared = all-zero w w′ ew ∙ ap (λ (i : ℕ). replicate i 0) same
 
-  pub succeeded : (m′ : List ℕ) → r .code ≡ 1 → r .items ≤ length s → r .used ≤ length w
+  pub succeeded : (more : ℕ) (m′ : List ℕ) → r .code ≡ 1 → r .items ≤ length s → r .used ≤ length w → r .used + more ≤ length m
       → s′ ≡ take (r .items) s ++ replicate (length s - r .items) 0 → m′ ≡ take (r .used) w ++ drop (r .used) m
-      → Meets (ofRun g state (length s) m (outcomeOf s w r)) (Success (g - r .gas) (r .ops) (r .items) (record { used = r .used })) s′ w′ m′
-  succeeded m′ one hi hu es em =
+      → Meets (ofRun g state (length s) m (widenedOutcome (take more (drop (r .used) m)) (outcomeOf s w r))) (Success (g - r .gas) (r .ops) (r .items) (record { used = r .used + more })) s′ w′ m′
+  succeeded more m′ one hi hu hm es em =
       let d = length-down (r .items) s in
-      let u = length-take-le (r .used) w hu in
+      let b = take more (drop (r .used) m) in
+      let u : length (take (r .used) w ++ b) ≡ r .used + more = simp (length-append, length-take, length-drop) (omega arith) in
+      let e : drop (r .used) m ≡ b ++ drop (r .used + more) m = sym (take-append-drop more (drop (r .used) m)) ∙ ap (λ (t : List ℕ). b ++ t) (drop-drop more (r .used) m) in
       rw one (record {
         answer = rw (d, u);
         stack = rw (up-down (r .items) s hi, d) es;
         work = cleared;
-        storage = rw u em;
+        storage = rw (u, append-assoc, ← e) em;
       })
 
-  pub undone-by : (f : Refusal) → 2 ≤ r .code → f ≡ refusalOf (r .code) (r .note) (r .gas) → s′ ≡ take 0 s ++ replicate (length s - 0) 0
-      → Meets (ofRun g state (length s) m (outcomeOf s w r)) (Refused f) s′ w′ m
-  undone-by f two e es =
+  pub undone-by : (b : List ℕ) (f : Refusal) → 2 ≤ r .code → f ≡ refusalOf (r .code) (r .note) (r .gas) → s′ ≡ take 0 s ++ replicate (length s - 0) 0
+      → Meets (ofRun g state (length s) m (widenedOutcome b (outcomeOf s w r))) (Refused f) s′ w′ m
+  undone-by b f two e es =
       rw (refused (r .code) (r .note) (r .gas) (frameOf s w r) two) (record { answer = ap Refused e; stack = all-zero s s′ es; work = cleared; storage = refl })
 
 -- the same result, with the stack's length and the outcome named otherwise

@@ -1,5 +1,7 @@
 pub mod Laws
+pub mod Blocks
 pub mod Copies
+pub mod Reach
 pub mod Ends
 pub mod Transitions
 pub mod Examples

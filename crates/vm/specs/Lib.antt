@@ -1,3 +1,5 @@
 pub mod Verify
+pub mod Blocks
 pub mod Numbers
+pub mod Reach
 pub mod Transition

@@ -5,6 +5,7 @@ ghost use Rattle.vm.specs.Transition.{Meets, transitionOf};
 
 mod buffers;
 mod perform;
+mod slots;
 pub mod verify;
 
 use context::Gate;

@@ -1,15 +1,17 @@
-// The run behind the tests of lengths and gate: it works in the work buffer, and the storage is
-// written once, when the run has succeeded.
+// The run behind the tests of lengths and gate: it works in the work buffer on those of the used slots that the program
+// can reach, and the storage is written once, when the run has succeeded.
 ghost use mathlib.Core.Path.{_≡_};
-ghost use Prim.Native.Nat.{_≤_};
-ghost use lib.ListN.{length};
+ghost use Prim.Native.Nat.{_+_, _≤_};
+ghost use lib.ListN.{length, take, drop};
 ghost use Rattle.machine.specs.Registers.{outcomeOf, Held};
 ghost use Rattle.vm.specs.Verify.{verifyOf};
+ghost use Rattle.vm.specs.Reach.{widenedOutcome};
 ghost use Rattle.vm.specs.Transition.{Meets, Lent, performed, afterCheck, untouched, ofRun};
 use super::Answer;
 use super::Check;
 use super::State;
 use super::buffers;
+use super::slots;
 use super::verify;
 use machine::Regs;
 
@@ -55,31 +57,33 @@ fn run(
     ensures { λ a. ⌜ Meets (performed (now (kinds .entry)) (now (operands .entry)) caller «gas_limit» (now (stack .entry)) (now (storage .entry)) state) a (now (stack .exit)) (now (work .exit)) (now (storage .exit)) ⌝ }
 {
     let used = state.used;
-    buffers::copy_front(work, storage, used);
+    let reach = slots::reach(kinds, operands, used);
+    buffers::copy_front(work, storage, reach);
     let from = Regs {
         pos: 0,
         gas: gas_limit,
         items: 0,
-        used,
+        used: reach,
         ops: 0,
         code: 0,
         note: 0,
     };
     let r = metered::run(kinds, operands, caller, stack, work, from);
-    finish(gas_limit, r, stack, work, storage, state)
+    finish(gas_limit, r, used - reach, stack, work, storage, state)
 }
 
-// The answer of a run that has ended, and what it leaves in the buffers.
+// The answer of a run that has ended, and what it leaves in the buffers. Behind the slots that it used, `more` are in use.
 fn finish(
     gas_limit: u64,
     r: Regs,
+    more: usize,
     stack: &mut [u64],
     work: &mut [u64],
     storage: &mut [u64],
     state: State,
 ) -> Answer
-    requires { ⌜ (length (now work) ≡ length (now storage)) × (4096 ≤ length (now stack)) × Held (length (now work)) r × (1 ≤ r .code) × (r .gas ≤ «gas_limit») ⌝ }
-    ensures { λ a. ⌜ Meets (ofRun «gas_limit» state (length (now (stack .entry))) (now (storage .entry)) (outcomeOf (now (stack .entry)) (now (work .entry)) r)) a (now (stack .exit)) (now (work .exit)) (now (storage .exit)) ⌝ }
+    requires { ⌜ (length (now work) ≡ length (now storage)) × (4096 ≤ length (now stack)) × Held (length (now work)) r × (1 ≤ r .code) × (r .gas ≤ «gas_limit») × (r .code ≡ 1 → r .used + more ≤ length (now storage)) ⌝ }
+    ensures { λ a. ⌜ Meets (ofRun «gas_limit» state (length (now (stack .entry))) (now (storage .entry)) (widenedOutcome (take more (drop (r .used) (now (storage .entry)))) (outcomeOf (now (stack .entry)) (now (work .entry)) r))) a (now (stack .exit)) (now (work .exit)) (now (storage .exit)) ⌝ }
 {
     if r.code != 1 {
         buffers::clear_from(stack, 0);
@@ -95,6 +99,6 @@ fn finish(
         gas_spent: gas_limit - r.gas,
         operations: r.ops,
         items,
-        state: State { used },
+        state: State { used: used + more },
     }
 }

@@ -29,7 +29,7 @@ returns : tie.Need-returns
 returns c =
     let a = c .before .before .before .before .before .before .before .before .before .before .before .before .before .before .args in
     let p = c .before .before .before .before .before .before .before .before .before .before .before .before .before .before .pre in
-    undone-by (a .gas-limit) (a .state) (a .r) (a .stack .now) (a .work .now) (a .storage .now) _ _ (p .0) (c .before .before .before .clear-from2 .ensures) (c .refusal-of .result) (above (a .r .code) (p .3) (c .before .before .before .before .before .before .before .before .before .if1 .taken)) (c .refusal-of .ensures) (c .before .before .before .before .before .before .before .clear-from .ensures)
+    undone-by (a .gas-limit) (a .state) (a .r) (a .stack .now) (a .work .now) (a .storage .now) _ _ (p .0) (c .before .before .before .clear-from2 .ensures) _ (c .refusal-of .result) (above (a .r .code) (p .3) (c .before .before .before .before .before .before .before .before .before .if1 .taken)) (c .refusal-of .ensures) (c .before .before .before .before .before .before .before .clear-from .ensures)
 
 clear-from-requires-3 : tie.Need-clear-from-requires-3
 clear-from-requires-3 c κs = omega (arith, c .before .before .before .before .before .before .pre)
@@ -40,8 +40,11 @@ copy-front-requires c κs = omega (arith, c .before .before .before .before .bef
 clear-from-requires-4 : tie.Need-clear-from-requires-4
 clear-from-requires-4 c κs = search needs
 
-sub-t25 : tie.Need-sub-t25
-sub-t25 c = c .before .before .before .before .before .before .before .before .before .before .before .before .before .before .before .before .before .before .before .pre .4
+sub-t26 : tie.Need-sub-t26
+sub-t26 c = c .before .before .before .before .before .before .before .before .before .before .before .before .before .before .before .before .before .before .before .pre .4
+
+add-t27 : tie.Need-add-t27
+add-t27 c = let p = c .before .before .before .before .before .before .before .before .before .before .before .before .before .before .before .before .before .before .before .pre in omega (arith, p .5 (c .before .before .before .before .before .before .before .before .before .before .before .before .before .before .if1 .left))
 
 same-length-3 : tie.Need-same-length-3
 same-length-3 c = search needs
@@ -56,7 +59,7 @@ returns-2 : tie.Need-returns-2
 returns-2 c =
     let a = c .before .before .before .before .before .before .before .before .before .before .before .before .before .before .before .before .before .before .before .args in
     let p = c .before .before .before .before .before .before .before .before .before .before .before .before .before .before .before .before .before .before .before .pre in
-    succeeded (a .gas-limit) (a .state) (a .r) (a .stack .now) (a .work .now) (a .storage .now) _ _ (p .0) (c .before .before .before .clear-from4 .ensures) _ (c .before .before .before .before .before .before .before .before .before .before .before .before .before .before .if1 .left) (omega (arith, p)) (p .2 .used) (c .before .before .before .before .before .before .before .before .before .before .before .before .clear-from3 .ensures) (c .before .before .before .before .before .before .before .copy-front .ensures)
+    succeeded (a .gas-limit) (a .state) (a .r) (a .stack .now) (a .work .now) (a .storage .now) _ _ (p .0) (c .before .before .before .clear-from4 .ensures) (a .more) _ (c .before .before .before .before .before .before .before .before .before .before .before .before .before .before .if1 .left) (omega (arith, p)) (p .2 .used) (p .5 (c .before .before .before .before .before .before .before .before .before .before .before .before .before .before .if1 .left)) (c .before .before .before .before .before .before .before .before .before .before .before .before .clear-from3 .ensures) (c .before .before .before .before .before .before .before .copy-front .ensures)
 
 pub finish-spec : {M : Type 1} → statement M
 finish-spec =
@@ -71,7 +74,8 @@ finish-spec =
     clear-from-requires-3
     copy-front-requires
     clear-from-requires-4
-    sub-t25
+    sub-t26
+    add-t27
     same-length-3
     same-length-4
     same-length-5
