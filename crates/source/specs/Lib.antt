@@ -3,3 +3,4 @@ pub mod Function
 pub mod Parameters
 pub mod Cursor
 pub mod Vector
+pub mod Marked

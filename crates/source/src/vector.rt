@@ -1,9 +1,7 @@
 // The vector's numbers.
 ghost use mathlib.Core.Path.{_≡_};
-ghost use Prim.Native.Nat.{_<_};
-ghost use lib.ListN.{length, drop};
-ghost use Rattle.search.specs.First.{prefixOf, firstAt};
-ghost use Rattle.source.specs.Vector.{quoted, leadingNumber, vectorNumber};
+ghost use Rattle.source.specs.Vector.{leadingNumber, vectorNumber};
+use crate::key::find_quoted;
 use number::Value;
 use search::Found;
 
@@ -44,31 +42,4 @@ fn leading_number(text: &[u8]) -> KeyValue
         Value::Is(n) => KeyValue::Is(n),
         Value::TooLarge => KeyValue::TooLarge,
     }
-}
-
-// The first place of a key in double quotes.
-fn find_quoted(s: &[u8], key: &[u8]) -> Found
-    ensures { λ r. ⌜ r ≡ firstAt (quoted (now (key .entry))) (now (s .entry)) 0 ⌝ }
-{
-    for i in 0..s.len() {
-        if is_quoted_at(s, key, i) {
-            return Found::At(i);
-        }
-    }
-    Found::Nothing
-}
-
-// Whether a key stands in double quotes at a place.
-fn is_quoted_at(s: &[u8], key: &[u8], at: usize) -> bool
-    requires { ⌜ at < length (now s) ⌝ }
-    ensures { λ r. ⌜ r ≡ prefixOf (quoted (now (key .entry))) (drop at (now (s .entry))) ⌝ }
-{
-    if s[at] != b'"' {
-        return false;
-    }
-    let start = at + 1;
-    if !search::starts_with(s, key, start) {
-        return false;
-    }
-    search::starts_with(s, b"\"", start + key.len())
 }

@@ -1,24 +1,22 @@
--- `source::vector::find_quoted` meets its contract: at each place that is passed the quoted key does not stand.
-use Prim.Native.Nat.{_-_}
-use mathlib.Core.Path.{_≡_, sym, _∙_}
+-- `source::key::quoted_before` meets its contract: at each place that is passed the quoted key does not stand.
+use Prim.Native.Nat.{_-_, _≤_}
+use mathlib.Core.Path.{_≡_, refl, sym, ap, _∙_}
 use native.Mathlib.Omega.{arith}
-use lib.ListN.{length}
-use denote.Ref.{now}
 use Rattle.search.specs.First.{firstAt}
-use Rattle.search.proofs.Laws.{hit, miss, no-room}
+use Rattle.search.proofs.Laws.{hit, miss}
 use Rattle.source.specs.Vector.{quoted}
 use borrow.Author.Needs.{needs}
-use Rattle.source.proofs.vector.find_quoted.Statement.{statement}
-use Rattle.source.proofs.vector.find_quoted.Tie as tie
+use Rattle.source.proofs.key.quoted_before.Statement.{statement}
+use Rattle.source.proofs.key.quoted_before.Tie as tie
 
 abbrev Inv-loop : tie.InvT-loop
-Inv-loop s key i₀ i-end i = firstAt (quoted key) s 0 ≡ firstAt (quoted key) s i
+Inv-loop s key at end i₀ i = (i ≤ end) × (firstAt (quoted key) s at ≡ firstAt (quoted key) s i)
 
 abbrev μ-loop : tie.MeasureT-loop
-μ-loop s key i₀ i-end i = length s - i
+μ-loop s key at end i₀ i = end - i
 
 loop-holds : tie.Need-loop-holds Inv-loop μ-loop
-loop-holds c = search needs
+loop-holds c = (omega arith, refl)
 
 is-quoted-at-requires : tie.Need-is-quoted-at-requires Inv-loop μ-loop
 is-quoted-at-requires c κs = search needs
@@ -27,7 +25,7 @@ returns : tie.Need-returns Inv-loop μ-loop
 returns c =
     let a = c .before .before .before .before .before .before .args in
     let l = c .before .before .before .loop in
-    sym (l .inv ∙ hit (quoted (now (a .key))) (now (a .s)) (l .i) (omega arith) (sym (c .before .is-quoted-at .ensures) ∙ c .if1 .taken))
+    l .inv .1 ∙ hit (quoted (a .key .now)) (a .s .now) (l .i) (omega arith) (sym (c .before .is-quoted-at .ensures) ∙ c .if1 .taken)
 
 add-i : tie.Need-add-i Inv-loop μ-loop
 add-i c = search needs
@@ -39,16 +37,17 @@ loop-again : tie.Need-loop-again Inv-loop μ-loop
 loop-again c =
     let a = c .before .before .before .before .before .before .args in
     let l = c .before .before .before .loop in
-    l .inv ∙ miss (quoted (now (a .key))) (now (a .s)) (l .i) (sym (c .before .is-quoted-at .ensures) ∙ c .if1 .left)
+    (omega arith, l .inv .1 ∙ miss (quoted (a .key .now)) (a .s .now) (l .i) (sym (c .before .is-quoted-at .ensures) ∙ c .if1 .left))
 
 returns-2 : tie.Need-returns-2 Inv-loop μ-loop
 returns-2 c =
     let a = c .before .before .before .before .args in
     let l = c .before .loop in
-    sym (l .inv ∙ no-room (quoted (now (a .key))) (now (a .s)) (l .i) (omega arith))
+    let z : l .i ≡ a .end = omega arith in
+    l .inv .1 ∙ ap (firstAt (quoted (a .key .now)) (a .s .now)) z
 
-pub find-quoted-spec : {M : Type 1} → statement M
-find-quoted-spec =
+pub quoted-before-spec : {M : Type 1} → statement M
+quoted-before-spec =
     tie.close
     (tie.spec
     Inv-loop

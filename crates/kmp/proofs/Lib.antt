@@ -1,0 +1,4 @@
+pub mod Shifts
+pub mod Filling
+pub mod Walking
+mod Examples

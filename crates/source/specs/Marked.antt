@@ -1,0 +1,29 @@
+-- What the steps of the search for a key in double quotes tell.
+use Prim.Native.Nat.{ℕ, _+_, _<_, _≤_}
+use mathlib.Core.Path.{_≡_}
+use mathlib.Core.List.{List}
+use lib.ListN.{length, getD, take}
+use Rattle.search.specs.declared.Found.{Found}
+use Rattle.search.specs.First.{firstAt}
+use Rattle.search.specs.Scan.{orElse}
+use Rattle.source.specs.Vector.{quoted}
+use Rattle.source.specs.declared.key.Mark.{Mark}
+
+-- there is room at each place from `at` up to end
+pub record Room (s key : List ℕ) (at end : ℕ) : Type 0 where
+  pub ordered : at ≤ end
+  pub room : end + length key < length s
+
+-- r is the first place from `at` on and before end, where there is one
+abbrev pub FirstBefore : List ℕ → List ℕ → ℕ → ℕ → Found → Type 0
+FirstBefore s key at end r = firstAt (quoted key) s at ≡ orElse r (firstAt (quoted key) s end)
+
+-- a byte and its place in the quoted key
+pub record Marks (key : List ℕ) (m : Mark) : Type 0 where
+  pub within : m .place < length key + 2
+  pub is : getD (quoted key) (m .place) 0 ≡ m .byte
+
+-- a pattern's array starts with the quoted key
+pub record Holds (pattern key : List ℕ) : Type 0 where
+  pub size : length pattern ≡ 65536
+  pub starts : take (length key + 2) pattern ≡ quoted key
