@@ -92,6 +92,11 @@ pub fn unfriendly() -> Vec<Contract> {
             format!("{}x{}x", "\"".repeat(30_001), "\"".repeat(30_001)),
         ),
         key("a key of 30,000 quotes and a letter, vector of quotes (refused, 8)", &format!("{quotes}x"), "\"".repeat(65_000)),
+        key(
+            "a key of 30,000 bytes, a letter and a quote by turns but once, vector of quotes and letters by turns (refused, 8)",
+            &format!("{}y{}", "z\"".repeat(14_000), "\"z".repeat(1000)),
+            "\"z".repeat(32_000),
+        ),
         key("a key of a letter and 30,000 quotes, vector of quotes (refused, 8)", &format!("x{quotes}"), "\"".repeat(65_000)),
         key(
             "256 keys of 250 quotes and a letter, found at the end of quotes",
@@ -157,6 +162,16 @@ pub fn loops() -> Vec<(&'static str, Program)> {
             vec![(0, n), (5, 0), (5, 0), (3, 0), (0, 3), (4, 0), (0, 7), (10, 0), (14, 9), (0, 1), (2, 0), (5, 0), (8, 1), (15, 0)],
         ),
         ("65,536 operations in a row, arithmetic", (0..65_536).map(|i| (if i % 2 == 0 && i > 0 { [1, 2, 3][i / 2 % 3] } else { 13 }, 0)).collect()),
+    ]
+}
+
+/// Programs that load and store, over 65,536 used slots.
+pub fn reaching() -> Vec<(&'static str, Program)> {
+    let halt_first = std::iter::once((15, 0)).chain((1..4000).map(|i| (11, i))).collect();
+    vec![
+        ("Load 3, Push 1, Add, Store 2, Halt", vec![(11, 3), (0, 1), (1, 0), (12, 2), (15, 0)]),
+        ("Load 65535, Push 1, Add, Store 2, Halt", vec![(11, 65_535), (0, 1), (1, 0), (12, 2), (15, 0)]),
+        ("Halt, then 3,999 times Load", halt_first),
     ]
 }
 

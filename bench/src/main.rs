@@ -132,7 +132,14 @@ fn verifying() {
     let jumps: Program = (0..65_536).map(|i| ([7, 8, 14][i % 3], (i * 7 % 65_536) as u64)).collect();
     let none: Program = (0..65_536).map(|i| ([0, 1, 5, 11, 12][i % 5], i as u64)).collect();
     let mixed: Program = (0..65_536).map(|i| ((i * 2_654_435_761usize >> 9) as u8 % 16, (i * 7 % 65_536) as u64)).collect();
-    for (name, program) in [("65,536 operations, no jumps", none), ("65,536 jumps", jumps), ("65,536 operations of all kinds", mixed)] {
+    let large: Program = none.iter().map(|&(k, v)| (k, v + 65_536)).collect();
+    for (name, program) in [
+        ("65,536 operations, no jumps", none),
+        ("65,536 operations, no jumps, operands of 65,536 and more", large),
+        ("65,536 jumps", jumps),
+        ("65,536 operations of all kinds", mixed),
+        ("tally, 6 operations", inputs::short().swap_remove(0).1),
+    ] {
         let (kinds, operands): (Vec<u8>, Vec<u64>) = program.iter().copied().unzip();
         let vm = Vm::with_context(program.iter().map(kinds::op).collect(), 7, vec![]);
         let mut answer: Answer = [0; 8];
@@ -189,10 +196,11 @@ fn runs() {
     for transition in [false, true] {
         let what = if transition { "Transitions" } else { "Runs" };
         head(&format!("{what}: short programs; the memset is of the stack and work buffers"), true);
-        let refused = [("out of gas at the third of 6 operations", inputs::short().swap_remove(0).1, 3)];
-        let cases = inputs::short().into_iter().map(|(n, p)| (n, p, 1000)).chain(refused);
-        for (name, program, limit) in cases {
-            for used in [0, 4, 65_536] {
+        let refused = [("out of gas at the third of 6 operations", inputs::short().swap_remove(0).1, 3, &[0, 4, 65_536][..])];
+        let short = inputs::short().into_iter().map(|(n, p)| (n, p, 1000, &[0, 4, 65_536][..]));
+        let reaching = inputs::reaching().into_iter().map(|(n, p)| (n, p, 1000, &[65_536][..]));
+        for (name, program, limit, lengths) in short.chain(refused).chain(reaching) {
+            for &used in lengths {
                 let (m, mut vm) = Machine::new(&program, used, used);
                 let m = std::cell::RefCell::new(m);
                 let mut original = || match transition {
