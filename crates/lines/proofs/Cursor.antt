@@ -15,12 +15,13 @@ use Rattle.search.specs.declared.Found.the-variants.{At, Nothing}
 use Rattle.search.specs.First.{firstFrom, firstAt}
 use Rattle.search.proofs.Prefix.{other}
 use Rattle.search.proofs.Laws.{from-miss, within}
-use Rattle.lines.specs.Lines.{front, feedNext, lines}
+use Rattle.lines.specs.Lines.{front, feedNext, lines, feedFree}
 use Rattle.lines.specs.Cursor.{feedFrom, placeOr, span, headOf, firstLine, lineFrom, lineAt, visited, IsLine}
 use Rattle.lines.specs.declared.Line.{Line}
 use Rattle.lines.specs.declared.Step.{Step}
 use Rattle.lines.specs.declared.Step.the-variants.{Next, Done}
 use Rattle.lines.proofs.Laws.{lines-other, no-return, no-feed, and-false, by-start}
+use Rattle.lines.proofs.Written.{free-cons}
 
 -- how many bytes stand before the first line feed: all of them where there is none
 abbrev feedAt : List ℕ → ℕ
@@ -169,6 +170,35 @@ feed-bounds s at h =
     let n = length-drop at s in
     let e = feed-from s at h in
     let f = feed-le (drop at s) in (omega arith, omega arith)
+
+-- what stands from a place to the first line feed
+pub record Fed (s : List ℕ) (at : ℕ) : Type 0 where
+  pub before : List ℕ
+  pub free : feedFree before ≡ true
+  pub stands : drop at s ≡ before ++ 10 ∷ drop (feedFrom s at + 1) s
+  pub place : feedFrom s at ≡ at + length before
+
+fed-from : (u : List ℕ) → feedAt u < length u → (x : List ℕ) × (feedFree x ≡ true) × (u ≡ x ++ 10 ∷ drop (feedAt u + 1) u) × (feedAt u ≡ length x)
+fed-from [] h = absurd (omega arith)
+fed-from (a ∷ s) h =
+    by-eqb a 10 (λ e. rw e ([], refl, refl, refl))
+    (λ g. let y = feed-other a s g in
+    let r = fed-from s (omega arith) in
+    let z : feedAt (a ∷ s) + 1 ≡ suc (feedAt s + 1) = omega arith in
+    (a ∷ r .0, free-cons a (r .0) g ∙ r .1, ap (λ (t : List ℕ). a ∷ t) (r .2 ∙ ap (λ (i : ℕ). r .0 ++ 10 ∷ drop i (a ∷ s)) (sym z)), y ∙ ap suc (r .3)))
+
+pub fed : (s : List ℕ) (at : ℕ) → at ≤ length s → feedFrom s at < length s → Fed s at
+fed s at h k =
+    let n = length-drop at s in
+    let e = feed-from s at h in
+    let r = fed-from (drop at s) (omega arith) in
+    let z : at + (feedAt (drop at s) + 1) ≡ feedFrom s at + 1 = omega arith in
+    record {
+      before = r .0;
+      free = r .1;
+      stands = r .2 ∙ ap (λ (t : List ℕ). r .0 ++ 10 ∷ t) (drop-drop (feedAt (drop at s) + 1) at s ∙ ap (λ (i : ℕ). drop i s) z);
+      place = e ∙ ap (λ (m : ℕ). at + m) (r .3);
+    }
 
 -- the line at a place by its line feed: none, with nothing before it, with a carriage return before it, with another byte
 module _ (s : List ℕ) (at : ℕ) (h : at < length s) where

@@ -44,7 +44,7 @@ pub fn line_at(s: &[u8], at: usize) -> Step
 pub fn line_feed(s: &[u8], at: usize) -> usize
     ensures { λ r. ⌜ r ≡ feedFrom (now (s .entry)) at ⌝ }
 {
-    let found = search::find_byte(s, b'\n', at);
+    let found = search::find_far_byte(s, b'\n', at);
     match found {
         Found::At(i) => i,
         Found::Nothing => s.len(),

@@ -36,7 +36,7 @@ said {text} {at} k v n h = record { is = λ k' v' n' e line. h line ∙ same k' 
     same : (k' v' n' : ℕ) → Op k v n ≡ Op k' v' n' → _≡_ {A = Reached} (record { read = LineRead.Op k v; next = n }) (record { read = LineRead.Op k' v'; next = n' })
     same k' v' n' e = cc
 
-span-free : (s t : List ℕ) → feedFree s ≡ true → span (s ++ (10 ∷ t)) ≡ suc (length s)
+pub span-free : (s t : List ℕ) → feedFree s ≡ true → span (s ++ (10 ∷ t)) ≡ suc (length s)
 span-free [] t e = refl
 span-free (a ∷ s) t e =
     by-eqb a 10

@@ -11,8 +11,7 @@ use Rattle.utf8.proofs.Lead.{one-is}
 use Rattle.utf8.proofs.Encoding.{append}
 use Rattle.lines.specs.Lines.{lines, feedFree, lessReturn}
 use Rattle.lines.proofs.Written.{free-cons, line-then}
-use Rattle.trim.specs.Trim.{startTrimmed, endTrimmed, trimmed}
-use Rattle.trim.proofs.Laws.{start-stays}
+use Rattle.trim.specs.Blank as Blank
 use Rattle.number.specs.Decimal.{decimal}
 use Rattle.number.proofs.Decimal.{allDigits-decimal, length-positive, round-trip}
 use Rattle.ops.specs.Kinds.{kindOf}
@@ -22,8 +21,7 @@ use Rattle.ops.specs.Written.{shown, written, writtenAll, remark, remark
 use Rattle.ops.specs.declared.line.LineRead.the-variants.{Skip, Op}
 use Rattle.ops.specs.declared.OpsError.the-variants.{NotUtf8}
 use Rattle.ops.proofs.PlainLines.{digits-graphic, Reads, reads, plain-lines}
-use Rattle.ops.proofs.Suffix.{end-start}
-use Rattle.ops.proofs.Trimmed.{skip-read}
+use Rattle.ops.proofs.SkippedLines.{remark-kept, remark-skip}
 
 -- an operation's line
 shown-reads : (o : Operation) → IsOperation o → Reads (o .kind) (decimal (o .operand)) (o .operand)
@@ -51,26 +49,11 @@ read-written text n (one {a = o} {l = os} p ps) (suc room) h =
     ∙ ap (followedBy (cleared o)) (read-written text (n + 1) ps room (omega arith))
 
 -- a remark is skipped
-remark-skip : (y : List ℕ) (line start : ℕ) → lineOf line start (35 ∷ y) ≡ Skip
-remark-skip y line start =
-    let s : List ℕ = 35 ∷ y in
-    let t : startTrimmed s ≡ s = start-stays 35 y refl (λ e. omega arith) (λ e f. omega arith) in
-    let e = end-start s in
-    skip-read s (startTrimmed s) (trimmed s) refl refl line start (ap (λ (x : List ℕ). skipped (endTrimmed x)) t ∙ first (endTrimmed s) (e .0) (e .1))
-  where
-    first : (z p : List ℕ) → 35 ∷ y ≡ z ++ p → skipped z ≡ true
-    first [] p e = refl
-    first (c ∷ z) p e = let q : c ≡ 35 = cc in eq-eqb c 35 q
-
 remark-line : (x : List ℕ) → IsRemark x → (t : List ℕ) → (y : List ℕ) × (lines (remark x ++ t) ≡ (35 ∷ y) ∷ lines t)
 remark-line x p t =
     let f : feedFree (35 ∷ x) ≡ true = free-cons 35 x (λ e. omega arith) ∙ p .oneLine in
     let e = ap lines (append-assoc (35 ∷ x) (10 ∷ []) t) ∙ line-then (35 ∷ x) t f in
-    let k = kept x in (k .0, e ∙ ap (λ (l : List ℕ). l ∷ lines t) (k .1))
-  where
-    kept : (x : List ℕ) → (y : List ℕ) × (lessReturn (35 ∷ x) ≡ 35 ∷ y)
-    kept [] = ([], refl)
-    kept (b ∷ x) = (lessReturn (b ∷ x), refl)
+    let k = remark-kept x in (k .0, e ∙ ap (λ (l : List ℕ). l ∷ lines t) (k .1))
 
 pub read-remarks : (text : List ℕ) (n : ℕ) {xs : List (List ℕ)} → Each IsRemark xs → (t : List ℕ) (room : ℕ)
     → readLines text n (lines (remarks xs ++ t)) room ≡ readLines text (n + length xs) (lines t) room
@@ -80,7 +63,7 @@ read-remarks text n (one {a = x} {l = xs} p ps) t room =
     let z : n + 1 + length xs ≡ n + suc (length xs) = omega arith in
     ap (λ (s : List ℕ). readLines text n (lines s) room) (append-assoc (remark x) (remarks xs) t)
     ∙ ap (λ (ls : List (List ℕ)). readLines text n ls room) (r .1)
-    ∙ ap (thenRead (n + 1) room (readLines text (n + 1) (lines (remarks xs ++ t)))) (remark-skip (r .0) (n + 1) (startOf n text))
+    ∙ ap (thenRead (n + 1) room (readLines text (n + 1) (lines (remarks xs ++ t)))) (remark-skip Blank.none (r .0) (n + 1) (startOf n text))
     ∙ read-remarks text (n + 1) ps t room
     ∙ ap (λ (m : ℕ). readLines text m (lines t) room) z
 

@@ -13,12 +13,19 @@ use Rattle.ops.specs.Ops.{Operation, Reading, ops, readLines, someRead, 
 use Rattle.ops.specs.declared.ParsedOps.{ParsedOps}
 use Rattle.ops.specs.declared.line.LineRead.the-variants as LineRead
 use Rattle.ops.specs.declared.line.Reached.{Reached}
+use Rattle.ops.specs.declared.line.Skipped.{Skipped}
+use Rattle.ops.specs.declared.line.Skipped.the-variants as Skipped
 use Rattle.ops.specs.declared.plain.Plain.{Plain}
 use Rattle.ops.specs.declared.plain.Plain.the-variants as Plain
 
 -- the line that starts at a place, its number being line
 abbrev pub lineReadAt : List ℕ → ℕ → ℕ → Reached
 lineReadAt text at line = record { read = lineOf line at (firstLine (drop at text)); next = at + span (drop at text) }
+
+-- where a line is said to be skipped, it is
+abbrev pub SkippedRead : List ℕ → ℕ → Skipped → Type 0
+SkippedRead text at (Skipped.To next) = (line : ℕ) → lineReadAt text at line ≡ record { read = LineRead.Skip; next = next }
+SkippedRead text at Skipped.No = Unit
 
 -- where a line is said to be an operation, it is
 pub record PlainRead (text : List ℕ) (at : ℕ) (r : Plain) : Type 0 where

@@ -4,6 +4,7 @@ use super::kind::Parted;
 use super::kind::part;
 use super::plain::Plain;
 use super::plain::plain_line;
+use super::word::one;
 use byte::either;
 use lines::Step;
 use number::Number;
@@ -11,7 +12,7 @@ ghost use mathlib.Core.Path.{_≡_};
 ghost use Prim.Native.Nat.{_+_, _-_, _^_, _<_, _≤_};
 ghost use lib.ListN.{length, take, drop};
 ghost use Rattle.ops.specs.Line.{badNumber, operandOf, skipped, lineOf};
-ghost use Rattle.ops.specs.Passes.{lineReadAt};
+ghost use Rattle.ops.specs.Passes.{lineReadAt, SkippedRead};
 
 pub enum LineRead {
     Skip,
@@ -23,6 +24,12 @@ pub enum LineRead {
 pub struct Reached {
     pub read: LineRead,
     pub next: usize,
+}
+
+// Where the line behind one starts that is known to be skipped.
+pub enum Skipped {
+    To(usize),
+    No,
 }
 
 // The line that starts at a place, its number being line.
@@ -39,8 +46,43 @@ pub fn line_read_at(text: &[u8], at: usize, line: usize) -> Reached
             read: LineRead::Op { kind, operand },
             next,
         },
-        Plain::Other => any_line_at(text, at, line),
+        Plain::Other => other_line_at(text, at, line),
     }
+}
+
+// A line that is not plain.
+fn other_line_at(text: &[u8], at: usize, line: usize) -> Reached
+    ensures { λ r. ⌜ r ≡ lineReadAt (now (text .entry)) at line ⌝ }
+{
+    let skipped = skipped_line_at(text, at);
+    match skipped {
+        Skipped::To(next) => Reached {
+            read: LineRead::Skip,
+            next,
+        },
+        Skipped::No => any_line_at(text, at, line),
+    }
+}
+
+// A line that is White_Space alone, or a remark behind White_Space, and ends in a line feed.
+fn skipped_line_at(text: &[u8], at: usize) -> Skipped
+    ensures { λ r. ⌜ SkippedRead (now (text .entry)) at r ⌝ }
+{
+    if text.len() <= at {
+        return Skipped::No;
+    }
+    let first = trim::blanks_end(text, at);
+    if one(text, first, b'\n') {
+        return Skipped::To(first + 1);
+    }
+    if !one(text, first, b'#') {
+        return Skipped::No;
+    }
+    let feed = lines::line_feed(text, first);
+    if feed < text.len() {
+        return Skipped::To(feed + 1);
+    }
+    Skipped::No
 }
 
 fn any_line_at(text: &[u8], at: usize, line: usize) -> Reached

@@ -1,3 +1,4 @@
 pub mod Prefix
 pub mod Laws
+pub mod Placed
 pub mod Examples

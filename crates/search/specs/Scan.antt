@@ -27,3 +27,9 @@ pub record Passed (p s : List ℕ) (at i : ℕ) : Type 0 where
 -- unless a test says yes, the search from `at` on may go on from end
 abbrev pub Clear : List ℕ → List ℕ → ℕ → ℕ → Bool → Type 0
 Clear p s at end r = r ≡ false → firstAt p s at ≡ firstAt p s end
+
+-- of the k bytes from `at` on m stand before the first place of p, or p stands at none of their places and m is n
+pub record Least (p s : List ℕ) (at n k m : ℕ) : Type 0 where
+  pub within : m ≤ n
+  pub none : m ≡ n → firstAt p s at ≡ firstAt p s (at + k)
+  pub some : m < n → (m < k) × (firstAt p s at ≡ At (at + m))

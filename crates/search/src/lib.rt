@@ -4,12 +4,12 @@ use byte::both;
 use byte::either;
 ghost use mathlib.Core.Path.{_≡_};
 ghost use mathlib.Core.List.{[], _∷_};
-ghost use mathlib.Core.Bool.{true};
+ghost use mathlib.Core.Bool.{true, cond};
 ghost use Prim.Native.Nat.{_+_, _<_, _≤_};
-ghost use lib.Dec.{leb};
+ghost use lib.Dec.{leb, ltb};
 ghost use lib.ListN.{length, drop};
 ghost use Rattle.search.specs.First.{prefixOf, firstAt};
-ghost use Rattle.search.specs.Scan.{orElse, Places, Passed, Clear};
+ghost use Rattle.search.specs.Scan.{orElse, Places, Passed, Clear, Least};
 
 // How many places a block has.
 const BLOCK: usize = 16;
@@ -32,6 +32,47 @@ pub fn find_byte(s: &[u8], b: u8, at: usize) -> Found
         Found::At(i) => Found::At(i),
         Found::Nothing => find_by_blocks(s, b, near),
     }
+}
+
+// The same where the byte is likely to be farther: whole blocks of 64 first.
+pub fn find_far_byte(s: &[u8], b: u8, at: usize) -> Found
+    ensures { λ r. ⌜ r ≡ firstAt (b ∷ []) (now (s .entry)) at ⌝ }
+{
+    let mut from = at;
+    while has_room(s, 64, from) {
+        let k = place_in(s, b, from, 64);
+        if k < 64 {
+            return Found::At(from + k as usize);
+        }
+        from += 64;
+    }
+    find_byte(s, b, from)
+}
+
+// How many of the n bytes from a place on stand before the first b, or n.
+fn place_in(s: &[u8], b: u8, at: usize, n: u8) -> u8
+    requires { ⌜ at + n ≤ length (now s) ⌝ }
+    ensures { λ r. ⌜ Least (b ∷ []) (now (s .entry)) at n n r ⌝ }
+{
+    let mut least = n;
+    let mut k: u8 = 0;
+    while k < n {
+        least = smaller(least, pick(s[at + k as usize] == b, k, n));
+        k += 1;
+    }
+    least
+}
+
+fn smaller(a: u8, b: u8) -> u8
+    ensures { λ r. ⌜ r ≡ cond (ltb a b) a b ⌝ }
+{
+    if a < b { a } else { b }
+}
+
+fn pick(test: bool, yes: u8, no: u8) -> u8
+    ensures { λ r. ⌜ r ≡ cond test yes no ⌝ }
+{
+    if test { yes } else { no }
 }
 
 pub fn starts_with(s: &[u8], p: &[u8], at: usize) -> bool

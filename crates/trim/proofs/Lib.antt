@@ -1,4 +1,5 @@
 pub mod White
 pub mod Laws
 pub mod Steps
+pub mod Blanks
 mod Examples

@@ -1,9 +1,10 @@
 // A text without the White_Space at its start and its end, as a part of what was lent.
 ghost use mathlib.Core.Path.{_≡_};
-ghost use Prim.Native.Nat.{_-_, _≤_, _<_};
+ghost use Prim.Native.Nat.{_+_, _-_, _≤_, _<_};
 ghost use lib.ListN.{length, getD};
 ghost use Rattle.trim.specs.Trim.{TrimStart, TrimEnd, Trim, white1, white2, white3};
 ghost use Rattle.trim.specs.Step.{WhiteAt, WhiteBefore};
+ghost use Rattle.trim.specs.Blank.{Blanks};
 use byte::both;
 use byte::either;
 use byte::in_range;
@@ -40,6 +41,54 @@ pub fn trim_end<'a>(s: &'a [u8]) -> &'a [u8]
         e -= n;
     }
     &s[..e]
+}
+
+// A place behind White_Space that stands from a position on, with no line feed in it.
+pub fn blanks_end(s: &[u8], at: usize) -> usize
+    requires { ⌜ at ≤ length (now s) ⌝ }
+    ensures { λ r. ⌜ Blanks (now (s .entry)) at r ⌝ }
+{
+    let mut i = at;
+    while i < s.len() {
+        let n = blank_at(s, i);
+        if n == 0 {
+            break;
+        }
+        i += n;
+    }
+    i
+}
+
+// How many bytes the White_Space character at a position has that is no line feed, or 0.
+fn blank_at(s: &[u8], at: usize) -> usize
+    requires { ⌜ at < length (now s) ⌝ }
+    ensures { λ r. ⌜ Blanks (now (s .entry)) at (at + r) ⌝ }
+{
+    let a = s[at];
+    if is_white1(a) {
+        if a == b'\n' {
+            return 0;
+        }
+        return 1;
+    }
+    if a <= 0x7F {
+        return 0;
+    }
+    wide_blank_at(s, at)
+}
+
+// The same at a byte that is not ASCII.
+fn wide_blank_at(s: &[u8], at: usize) -> usize
+    requires { ⌜ at < length (now s) ⌝ }
+    ensures { λ r. ⌜ Blanks (now (s .entry)) at (at + r) ⌝ }
+{
+    if s.len() - at < 3 {
+        return 0;
+    }
+    if is_white3(s[at], s[at + 1], s[at + 2]) {
+        return 3;
+    }
+    0
 }
 
 // How many bytes the White_Space character at a position has, or 0 where none stands.

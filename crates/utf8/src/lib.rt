@@ -1,30 +1,136 @@
 // Whether a text is UTF-8, by RFC 3629.
 use byte::both;
+use byte::either;
 use byte::in_range;
 ghost use mathlib.Core.Path.{_≡_};
-ghost use mathlib.Core.Bool.{cond};
+ghost use mathlib.Core.Bool.{true, cond};
 ghost use Prim.Native.Nat.{ℕ, _+_, _≤_, _<_};
 ghost use lib.ListN.{length, getD};
 ghost use Rattle.utf8.specs.Utf8.{utf8, tail, two, three, four};
 ghost use Rattle.utf8.specs.Passed.{Step, Passed, Largest, Ascii};
+ghost use Rattle.utf8.specs.Windows.{opened, follows, Follow};
 
 pub fn is_utf8(s: &[u8]) -> bool
     ensures { λ r. ⌜ r ≡ utf8 (now (s .entry)) ⌝ }
 {
     let mut i: usize = 0;
     while i < s.len() {
-        if is_ascii(s, i, 64) {
-            i += 64;
-        } else {
+        let mut next = blocks(s, i);
+        if next == i {
             let end = block_end(s, i);
-            let next = characters(s, i, end);
+            next = characters(s, i, end);
             if next < end {
                 return false;
             }
-            i = next;
         }
+        i = next;
     }
     true
+}
+
+// Passes blocks of 64 bytes as long as they are seen to be UTF-8.
+fn blocks(s: &[u8], at: usize) -> usize
+    requires { ⌜ at ≤ length (now s) ⌝ }
+    ensures { λ r. ⌜ Passed (now (s .entry)) at at r ⌝ }
+{
+    let mut i = at;
+    while i < s.len() {
+        let n = block(s, i);
+        if n == 0 {
+            break;
+        }
+        i += n;
+    }
+    i
+}
+
+// How many bytes are passed of the 64 at a position: all of them where they are ASCII, else those of whole
+// characters, or 0 where it is not seen that they are UTF-8.
+fn block(s: &[u8], at: usize) -> usize
+    requires { ⌜ at < length (now s) ⌝ }
+    ensures { λ r. ⌜ Passed (now (s .entry)) at at (at + r) ⌝ }
+{
+    if is_ascii(s, at, 64) {
+        return 64;
+    }
+    if at < 3 {
+        return 0;
+    }
+    if s.len() - at < 64 {
+        return 0;
+    }
+    let start = at - 3;
+    if is_open_at(s, start) {
+        return 0;
+    }
+    if !all_follow(s, start, 64) {
+        return 0;
+    }
+    let n = 64 - open_len(s[start + 64], s[start + 65], s[start + 66]);
+    if is_open_at(s, start + n) {
+        return 0;
+    }
+    n
+}
+
+// Whether each of n bytes follows the three before it, of which the first stands at a position.
+fn all_follow(s: &[u8], at: usize, n: usize) -> bool
+    requires { ⌜ at + n + 3 ≤ length (now s) ⌝ }
+    ensures { λ r. ⌜ (r ≡ true → Follow (now (s .entry)) at n) ⌝ }
+{
+    let mut all = true;
+    let mut k: usize = 0;
+    while k < n {
+        let i = at + k;
+        all = both(all, does_follow(s[i], s[i + 1], s[i + 2], s[i + 3]));
+        k += 1;
+    }
+    all
+}
+
+fn does_follow(a: u8, b: u8, c: u8, d: u8) -> bool
+    ensures { λ r. ⌜ r ≡ follows a b c d ⌝ }
+{
+    let lo = pick(c == 0xE0, 0xA0, pick(c == 0xF0, 0x90, 0x80));
+    let hi = pick(c == 0xED, 0x9F, pick(c == 0xF4, 0x8F, 0xBF));
+    let first = either(d <= 0x7F, in_range(0xC2, 0xF4, d));
+    choose(is_open(a, b, c), in_range(lo, hi, d), first)
+}
+
+fn is_open(a: u8, b: u8, c: u8) -> bool
+    ensures { λ r. ⌜ r ≡ opened a b c ⌝ }
+{
+    either(either(0xC0 <= c, 0xE0 <= b), 0xF0 <= a)
+}
+
+// Whether a character is not complete behind the three bytes at a position.
+fn is_open_at(s: &[u8], at: usize) -> bool
+    requires { ⌜ at + 3 ≤ length (now s) ⌝ }
+    ensures { λ r. ⌜ r ≡ opened (getD (now (s .entry)) at 0) (getD (now (s .entry)) (at + 1) 0) (getD (now (s .entry)) (at + 2) 0) ⌝ }
+{
+    is_open(s[at], s[at + 1], s[at + 2])
+}
+
+// How many of three bytes belong to a character that is not complete behind them.
+fn open_len(a: u8, b: u8, c: u8) -> usize
+    ensures { λ r. ⌜ r ≤ 3 ⌝ }
+{
+    if 0xC0 <= c {
+        return 1;
+    }
+    if 0xE0 <= b {
+        return 2;
+    }
+    if 0xF0 <= a {
+        return 3;
+    }
+    0
+}
+
+fn choose(test: bool, yes: bool, no: bool) -> bool
+    ensures { λ r. ⌜ r ≡ cond test yes no ⌝ }
+{
+    if test { yes } else { no }
 }
 
 // Where the block of 64 bytes that starts at a position ends, or the text.

@@ -18,18 +18,8 @@ abbrev μ-loop : tie.MeasureT-loop
 loop-holds : tie.Need-loop-holds Inv-loop μ-loop
 loop-holds c = search needs
 
-is-ascii-requires : tie.Need-is-ascii-requires Inv-loop μ-loop
-is-ascii-requires c κs = search needs
-
-add-i : tie.Need-add-i Inv-loop μ-loop
-add-i c = let h = c .before .is-ascii .ensures .fits (c .if1 .taken) in omega arith
-
-loop-less : tie.Need-loop-less Inv-loop μ-loop
-loop-less c = let h = c .before .is-ascii .ensures .fits (c .if1 .taken) in omega arith
-
-loop-again : tie.Need-loop-again Inv-loop μ-loop
-loop-again c =
-    (c .before .is-ascii .ensures .fits (c .if1 .taken), c .before .before .before .loop .inv .1 ∙ c .before .is-ascii .ensures .same (c .if1 .taken))
+blocks-requires : tie.Need-blocks-requires Inv-loop μ-loop
+blocks-requires c κs = search needs
 
 block-end-requires : tie.Need-block-end-requires Inv-loop μ-loop
 block-end-requires c κs = search needs
@@ -42,12 +32,18 @@ returns c =
     let l = c .before .before .before .before .before .before in
     sym (l .loop .inv .1 ∙ c .before .characters .ensures .same ∙ c .before .characters .ensures .stopped (c .if2 .taken))
 
+loop-less : tie.Need-loop-less Inv-loop μ-loop
+loop-less c = let h = c .before .characters .ensures .fits in omega arith
+
+loop-again : tie.Need-loop-again Inv-loop μ-loop
+loop-again c =
+    (c .before .characters .ensures .fits, c .before .before .before .before .before .before .loop .inv .1 ∙ c .before .characters .ensures .same)
+
 loop-less-2 : tie.Need-loop-less-2 Inv-loop μ-loop
-loop-less-2 c = let h = c .before .characters .ensures .fits in omega arith
+loop-less-2 c = let h = c .before .blocks2 .ensures .on in let k = c .before .blocks2 .ensures .fits in omega (arith, c .if1 .left)
 
 loop-again-2 : tie.Need-loop-again-2 Inv-loop μ-loop
-loop-again-2 c =
-    (c .before .characters .ensures .fits, c .before .before .before .before .before .before .loop .inv .1 ∙ c .before .characters .ensures .same)
+loop-again-2 c = (c .before .blocks2 .ensures .fits, c .before .before .before .loop .inv .1 ∙ c .before .blocks2 .ensures .same)
 
 returns-2 : tie.Need-returns-2 Inv-loop μ-loop
 returns-2 c = sym (c .before .loop .inv .1 ∙ ap utf8 (drop-of-length-le _ (c .loop-test .left)))
@@ -59,13 +55,12 @@ is-utf8-spec =
     Inv-loop
     μ-loop
     loop-holds
-    is-ascii-requires
-    add-i
-    loop-less
-    loop-again
+    blocks-requires
     block-end-requires
     characters-requires
     returns
+    loop-less
+    loop-again
     loop-less-2
     loop-again-2
     returns-2)

@@ -14,8 +14,8 @@ enum-known-plain c = search needs
 enum-told : tie.Need-enum-told
 enum-told c = search needs
 
-any-line-at-requires : tie.Need-any-line-at-requires
-any-line-at-requires c κs = search needs
+other-line-at-requires : tie.Need-other-line-at-requires
+other-line-at-requires c κs = search needs
 
 returns : tie.Need-returns
 returns c = sym (c .before .before .before .plain-line .ensures .is _ _ _ (c .before .plain .given .1) (c .before .before .before .before .before .args .line))
@@ -30,6 +30,6 @@ line-read-at-spec =
     plain-line-requires
     enum-known-plain
     enum-told
-    any-line-at-requires
+    other-line-at-requires
     returns
     returns-2)

@@ -1,0 +1,113 @@
+-- Lines of White_Space alone, and remarks behind White_Space.
+use Prim.Native.Nat.{ℕ, suc, _+_, _<_, _≤_}
+use mathlib.Core.Path.{_≡_, refl, sym, ap, ap₂, _∙_}
+use mathlib.Core.List.{List, [], _∷_, _++_, append-assoc, append-nil}
+use mathlib.Core.Bool.{Bool, true, false}
+use borrow.Author.Tests.{eq-eqb, ne-eqb}
+use native.Mathlib.Omega.{arith}
+use lib.ListN.{length, getD, drop, length-append}
+use Rattle.byte.proofs.Tests.{never, by-eqb}
+use Rattle.search.specs.First.{prefixOf}
+use Rattle.search.proofs.Prefix.{split}
+use Rattle.lines.specs.Lines.{lines, feedFree, lessReturn}
+use Rattle.lines.specs.Cursor.{feedFrom, span, headOf, firstLine}
+use Rattle.lines.proofs.Written.{free-cons, free-append, line-then}
+use Rattle.lines.proofs.Cursor.{fed}
+use Rattle.trim.specs.Trim.{startTrimmed, endTrimmed, trimmed}
+use Rattle.trim.specs.Blank.{Blank, none, one, three, Blanks}
+use Rattle.trim.proofs.Laws.{start-stays}
+use Rattle.trim.proofs.Blanks.{wide, start-blank}
+use Rattle.ops.specs.Line.{skipped, lineOf}
+use Rattle.ops.specs.Passes.{lineReadAt}
+use Rattle.ops.specs.declared.line.LineRead.{LineRead}
+use Rattle.ops.specs.declared.line.LineRead.the-variants.{Skip}
+use Rattle.ops.proofs.PlainReads.{span-free}
+use Rattle.ops.proofs.Suffix.{end-start}
+use Rattle.ops.proofs.Trimmed.{skip-read}
+
+-- White_Space within a line has no line feed, and stays such without a carriage return at its end
+blank-free : {b : List ℕ} → Blank b → feedFree b ≡ true
+blank-free none = refl
+blank-free (one {a} {s} e n h) = free-cons a s n ∙ blank-free h
+blank-free (three {a} {b} {c} {s} e h) =
+    let w = wide a b c e in
+    free-cons a (b ∷ c ∷ s) (λ q. omega arith) ∙ free-cons b (c ∷ s) (λ q. omega arith) ∙ free-cons c s (λ q. omega arith) ∙ blank-free h
+
+less-blank : {b : List ℕ} → Blank b → Blank (lessReturn b)
+less-blank none = none
+less-blank (one {a = a} {s = []} e n h) = by-eqb a 13 (λ q. rw q none) (λ q. rw (ne-eqb a 13 q, lessReturn) (one e n none))
+less-blank (one {a = a} {s = c ∷ s} e n h) = one e n (less-blank h)
+less-blank (three {a = a} {b = b} {c = c} {s = []} e h) =
+    let w = wide a b c e in
+    rw (ne-eqb c 13 (λ q. omega arith), lessReturn) (three e none)
+less-blank (three {a = a} {b = b} {c = c} {s = d ∷ s} e h) = three e (less-blank h)
+
+less-append : (x : List ℕ) (c : ℕ) (s : List ℕ) → lessReturn (x ++ c ∷ s) ≡ x ++ lessReturn (c ∷ s)
+less-append [] c s = refl
+less-append (a ∷ []) c s = refl
+less-append (a ∷ b ∷ x) c s = ap (λ (t : List ℕ). a ∷ t) (less-append (b ∷ x) c s)
+
+-- the line at a place, by what stands before the line feed
+line-is : (text : List ℕ) (at line : ℕ) (l t : List ℕ) (next : ℕ) (x : LineRead) → drop at text ≡ l ++ 10 ∷ t → feedFree l ≡ true → next ≡ at + suc (length l)
+    → lineOf line at (lessReturn l) ≡ x → lineReadAt text at line ≡ record { read = x; next = next }
+line-is text at line l t next x e f p q =
+    ap₂ (λ x y. record { read = x; next = y })
+    (ap (λ (s : List ℕ). lineOf line at (firstLine s)) e ∙ ap (λ ls. lineOf line at (headOf ls)) (line-then l t f) ∙ q)
+    (ap (λ (s : List ℕ). at + span s) e ∙ ap (λ (m : ℕ). at + m) (span-free l t f) ∙ sym p)
+
+-- White_Space alone is skipped
+blank-skip : {b : List ℕ} → Blank b → (line start : ℕ) → lineOf line start b ≡ Skip
+blank-skip {b} h line start =
+    let t : startTrimmed b ≡ [] = ap startTrimmed (sym (append-nil b)) ∙ start-blank h [] in
+    skip-read b (startTrimmed b) (trimmed b) refl refl line start (ap (λ (x : List ℕ). skipped (endTrimmed x)) t)
+
+-- so is a remark
+pub remark-kept : (x : List ℕ) → (y : List ℕ) × (lessReturn (35 ∷ x) ≡ 35 ∷ y)
+remark-kept [] = ([], refl)
+remark-kept (b ∷ x) = (lessReturn (b ∷ x), refl)
+
+pub remark-skip : {b : List ℕ} → Blank b → (y : List ℕ) (line start : ℕ) → lineOf line start (b ++ 35 ∷ y) ≡ Skip
+remark-skip {b} h y line start =
+    let s : List ℕ = 35 ∷ y in
+    let t : startTrimmed (b ++ s) ≡ s = start-blank h s ∙ start-stays 35 y refl (λ e. omega arith) (λ e f. omega arith) in
+    let e = end-start s in
+    skip-read (b ++ s) (startTrimmed (b ++ s)) (trimmed (b ++ s)) refl refl line start
+    (ap (λ (x : List ℕ). skipped (endTrimmed x)) t ∙ first (endTrimmed s) (e .0) (e .1))
+  where
+    first : (z p : List ℕ) → 35 ∷ y ≡ z ++ p → skipped z ≡ true
+    first [] p e = refl
+    first (c ∷ z) p e = let q : c ≡ 35 = cc in eq-eqb c 35 q
+
+module _ (text : List ℕ) (at first : ℕ) (b : Blanks text at first) (line : ℕ) where
+  pub blank-read : prefixOf (10 ∷ []) (drop first text) ≡ true → lineReadAt text at line ≡ record { read = Skip; next = first + 1 }
+  blank-read e =
+      let l = b .between in
+      let p = b .place in
+      line-is text at line l (drop 1 (drop first text)) (first + 1) Skip
+      (b .stands ∙ ap (λ (s : List ℕ). l ++ s) (split (10 ∷ []) (drop first text) e)) (blank-free (b .is)) (omega arith)
+      (blank-skip (less-blank (b .is)) line at)
+
+  pub remark-read : prefixOf (35 ∷ []) (drop first text) ≡ true → feedFrom text first < length text
+      → lineReadAt text at line ≡ record { read = Skip; next = feedFrom text first + 1 }
+  remark-read e h =
+      let r = fed text first (b .fits) h in
+      go (r .before) (r .free) (r .stands) (r .place)
+    where
+      feed : ℕ
+      feed = feedFrom text first
+
+      go : (x : List ℕ) → feedFree x ≡ true → drop first text ≡ x ++ 10 ∷ drop (feed + 1) text → feed ≡ first + length x
+          → lineReadAt text at line ≡ record { read = Skip; next = feed + 1 }
+      go [] f d p = never (sym (ap (prefixOf (35 ∷ [])) d) ∙ e)
+      go (c ∷ x) f d p =
+          let l = b .between in
+          let q : drop first text ≡ 35 ∷ drop 1 (drop first text) = split (35 ∷ []) (drop first text) e in
+          let z : c ≡ 35 = cc in
+          let n = b .place in
+          let k = remark-kept x in
+          line-is text at line (l ++ c ∷ x) (drop (feed + 1) text) (feed + 1) Skip
+          (b .stands ∙ ap (λ (s : List ℕ). l ++ s) d ∙ sym (append-assoc l (c ∷ x) (10 ∷ drop (feed + 1) text)))
+          (free-append l (c ∷ x) (blank-free (b .is)) ∙ f)
+          (omega (arith, length-append l (c ∷ x)))
+          (ap (lineOf line at) (less-append l c x ∙ ap (λ (a : ℕ). l ++ lessReturn (a ∷ x)) z ∙ ap (λ (s : List ℕ). l ++ s) (k .1))
+          ∙ remark-skip (b .is) (k .0) line at)
