@@ -6,13 +6,12 @@ use mathlib.Core.Bool.{Bool, true, false, cond, _&&_}
 use borrow.Author.Tests.{eq-eqb, ne-eqb, lt-ltb, le-ltb}
 use native.Mathlib.Omega.{arith}
 use lib.Dec.{eqb, ltb}
-use lib.ListN.{length, getD, take, drop, length-drop, length-take, drop-of-length-le}
+use lib.ListN.{length, getD, take, drop, length-drop, drop-of-length-le}
 use lib.Seq.{drop-drop, getD-drop}
 use Rattle.byte.proofs.Parts.{next}
 use Rattle.byte.proofs.Tests.{choice, by-eqb, by-leb}
-use Rattle.search.specs.declared.Found.{Found}
 use Rattle.search.specs.declared.Found.the-variants.{At, Nothing}
-use Rattle.search.specs.First.{firstFrom, firstAt}
+use Rattle.search.specs.First.{firstFrom}
 use Rattle.search.proofs.Prefix.{other}
 use Rattle.search.proofs.Laws.{from-miss, within}
 use Rattle.lines.specs.Lines.{front, feedNext, lines, feedFree}

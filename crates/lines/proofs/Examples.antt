@@ -1,7 +1,6 @@
 -- The documentation of `str::lines`, its examples and its corners.
-use Prim.Native.Nat.{ℕ}
 use mathlib.Core.Path.{_≡_, refl}
-use mathlib.Core.List.{List, [], _∷_}
+use mathlib.Core.List.{[], _∷_}
 use Rattle.lines.specs.Lines.{lines}
 use Rattle.lines.specs.Cursor.{lineAt}
 use Rattle.lines.specs.declared.Step.the-variants.{Next, Done}

@@ -1,11 +1,11 @@
 -- Laws of the lines of a text.
 use Prim.Native.Nat.{ℕ}
-use mathlib.Core.Path.{_≡_, refl, sym, ap, _∙_}
-use mathlib.Core.List.{List, [], _∷_, _++_}
+use mathlib.Core.Path.{_≡_, refl, ap}
+use mathlib.Core.List.{List, [], _∷_}
 use mathlib.Core.Bool.{Bool, true, false, cond, _&&_}
-use borrow.Author.Tests.{eq-eqb, ne-eqb, eqb-true}
+use borrow.Author.Tests.{ne-eqb, eqb-true}
 use lib.Dec.{eqb}
-use Rattle.byte.proofs.Tests.{by-eqb, by-bool, never, choice}
+use Rattle.byte.proofs.Tests.{by-eqb, by-bool, never}
 use Rattle.lines.specs.Lines.{front, feedNext, lines}
 
 -- a text by its first element

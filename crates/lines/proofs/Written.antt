@@ -2,11 +2,10 @@
 use Prim.Native.Nat.{ℕ}
 use mathlib.Core.Path.{_≡_, refl, sym, ap, _∙_}
 use mathlib.Core.List.{List, [], _∷_, _++_}
-use mathlib.Core.Bool.{Bool, true, false, cond, _&&_}
+use mathlib.Core.Bool.{true}
 use borrow.Author.Tests.{ne-eqb}
-use Rattle.byte.proofs.Tests.{by-eqb, and-left, and-right, never}
-use lib.Dec.{eqb}
-use Rattle.lines.specs.Lines.{front, feedNext, lines, feedFree, lessReturn}
+use Rattle.byte.proofs.Tests.{by-eqb, never}
+use Rattle.lines.specs.Lines.{front, lines, feedFree, lessReturn}
 use Rattle.lines.proofs.Laws.{lines-other, no-return, no-feed}
 
 pub free-cons : (a : ℕ) (x : List ℕ) → (a ≡ 10 → ⊥) → feedFree (a ∷ x) ≡ feedFree x

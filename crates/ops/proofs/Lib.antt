@@ -2,7 +2,7 @@ pub mod Words
 pub mod Suffix
 pub mod PlainLines
 pub mod PlainReads
-pub mod SkippedLines
+pub mod BlankLines
 pub mod Written
 pub mod Parsing
 pub mod Filling

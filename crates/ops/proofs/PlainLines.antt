@@ -17,7 +17,7 @@ use Rattle.trim.specs.Trim.{white1, startTrimmed, trimmed}
 use Rattle.trim.proofs.Laws.{trimmed-kept}
 use Rattle.number.specs.Decimal.{digit, allDigits, numberOf}
 use Rattle.number.specs.declared.Number.the-variants.{Is}
-use Rattle.ops.specs.Kinds.{Kind, alone, kinds, kindOf, partOf, parted}
+use Rattle.ops.specs.Kinds.{Kind, alone, kinds, kindOf, lineWith, partOf, parted}
 use Rattle.ops.specs.Line.{skipped, ofNumber, partRead, lineOf}
 use Rattle.ops.specs.declared.line.LineRead.the-variants.{Op}
 use Rattle.ops.proofs.Trimmed.{part-read}
@@ -129,22 +129,25 @@ drop-word : (w d : List ℕ) → drop (suc (length w)) (w ++ (32 ∷ d)) ≡ d
 drop-word [] d = refl
 drop-word (a ∷ w) d = drop-word w d
 
--- a kind's line, whatever digits write its operand
-abbrev pub lineWith : ℕ → List ℕ → List ℕ
-lineWith k d = kindOf k .word ++ cond (kindOf k .operand) (32 ∷ d) []
-
--- it stands by itself, and is read as its kind and the number
+-- a kind's line stands by itself and starts with a letter, and a line that is it when trimmed is read as the kind and the number
 pub record Reads (k : ℕ) (d : List ℕ) (v : ℕ) : Type 0 where
   pub plain : Plain (lineWith k d)
-  pub is : (line start : ℕ) → lineOf line start (lineWith k d) ≡ Op k (cond (kindOf k .operand) v 0)
+  pub letter : within 65 90 (getD (lineWith k d) 0 0) ≡ true
+  pub is : (line start : ℕ) (l : List ℕ) → trimmed l ≡ lineWith k d → lineOf line start l ≡ Op k (cond (kindOf k .operand) v 0)
 
 module _ (d : List ℕ) (v : ℕ) (g : graphics d ≡ true) (h : 0 < length d) (e : numberOf d ≡ Is v) where
-  line-plain : (w : List ℕ) (b : Bool) → (within 65 90 (getD w 0 0) && graphics w) ≡ true → Plain (w ++ cond b (32 ∷ d) []) × (skipped (w ++ cond b (32 ∷ d) []) ≡ false)
+  record Line (l : List ℕ) : Type 0 where
+    plain : Plain l
+    letter : within 65 90 (getD l 0 0) ≡ true
+    said : skipped l ≡ false
+
+  line-plain : (w : List ℕ) (b : Bool) → (within 65 90 (getD w 0 0) && graphics w) ≡ true → Line (w ++ cond b (32 ∷ d) [])
   line-plain [] b e = never e
   line-plain (a ∷ w) b e =
       let f = and-right (within 65 90 a) (graphics (a ∷ w)) e in
-      let h = between 65 90 a (and-left (within 65 90 a) (graphics (a ∷ w)) e) in
-      (line b f, ne-eqb a 35 (λ e. omega arith))
+      let i = and-left (within 65 90 a) (graphics (a ∷ w)) e in
+      let h = between 65 90 a i in
+      record { plain = line b f; letter = i; said = ne-eqb a 35 (λ e. omega arith) }
     where
       line : (b : Bool) → graphics (a ∷ w) ≡ true → Plain ((a ∷ w) ++ cond b (32 ∷ d) [])
       line true f = plain-number a w f d g h
@@ -167,14 +170,13 @@ module _ (d : List ℕ) (v : ℕ) (g : graphics d ≡ true) (h : 0 < length d) (
   pub reads : (k : ℕ) → k < 16 → Reads k d v
   reads k p =
       let q = line-plain (kindOf k .word) (kindOf k .operand) (told k p d .1) in
-      record { plain = q .0; is = λ line start. by-part q line start }
+      record { plain = q .plain; letter = q .letter; is = λ line start l e. by-part q line start l e }
     where
-      by-part : Plain (lineWith k d) × (skipped (lineWith k d) ≡ false) → (line start : ℕ) → lineOf line start (lineWith k d) ≡ Op k (cond (kindOf k .operand) v 0)
-      by-part q line start =
+      by-part : Line (lineWith k d) → (line start : ℕ) (l : List ℕ) → trimmed l ≡ lineWith k d → lineOf line start l ≡ Op k (cond (kindOf k .operand) v 0)
+      by-part q line start l t =
           let s = lineWith k d in
-          let t = q .0 .untrimmed in
-          let place = start + (length s - length (startTrimmed s)) in
-          part-read s (startTrimmed s) (trimmed s) refl refl line start (parted (trimmed s)) (ap skipped t ∙ q .1) refl
+          let place = start + (length l - length (startTrimmed l)) in
+          part-read l (startTrimmed l) (trimmed l) refl refl line start (parted (trimmed l)) (ap skipped t ∙ q .said) refl
           ∙ ap (λ (t : List ℕ). partRead line place t (parted t)) t
           ∙ ap (partRead line place s) (told k p d .0)
           ∙ part-is line place k (kindOf k .word) (kindOf k .operand)

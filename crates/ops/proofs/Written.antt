@@ -3,13 +3,12 @@ use Prim.Native.Nat.{ℕ, zero, suc, _+_, _-_, _<_, _≤_}
 use mathlib.Core.Path.{_≡_, refl, sym, ap, _∙_}
 use mathlib.Core.List.{List, [], _∷_, _++_, map, append-assoc}
 use mathlib.Core.Bool.{Bool, true, false, cond}
-use borrow.Author.Tests.{eq-eqb}
 use native.Mathlib.Omega.{arith}
 use lib.ListN.{length}
 use Rattle.utf8.specs.Utf8.{utf8}
 use Rattle.utf8.proofs.Lead.{one-is}
 use Rattle.utf8.proofs.Encoding.{append}
-use Rattle.lines.specs.Lines.{lines, feedFree, lessReturn}
+use Rattle.lines.specs.Lines.{lines, feedFree}
 use Rattle.lines.proofs.Written.{free-cons, line-then}
 use Rattle.trim.specs.Blank as Blank
 use Rattle.number.specs.Decimal.{decimal}
@@ -18,10 +17,10 @@ use Rattle.ops.specs.Kinds.{kindOf}
 use Rattle.ops.specs.Line.{skipped, lineOf}
 use Rattle.ops.specs.Ops.{Operation, Reading, ops, refused, startOf, followedBy, thenRead, readLines, someRead, readText}
 use Rattle.ops.specs.Written.{shown, written, writtenAll, remark, remarks, cleared, IsOperation, IsRemark, Each, none, one}
-use Rattle.ops.specs.declared.line.LineRead.the-variants.{Skip, Op}
+use Rattle.ops.specs.declared.line.LineRead.the-variants.{Op}
 use Rattle.ops.specs.declared.OpsError.the-variants.{NotUtf8}
 use Rattle.ops.proofs.PlainLines.{digits-graphic, Reads, reads, plain-lines}
-use Rattle.ops.proofs.SkippedLines.{remark-kept, remark-skip}
+use Rattle.ops.proofs.BlankLines.{remark-kept, remark-skip}
 
 -- an operation's line
 shown-reads : (o : Operation) → IsOperation o → Reads (o .kind) (decimal (o .operand)) (o .operand)
@@ -30,7 +29,7 @@ shown-reads o p =
     reads (decimal v) v (digits-graphic (decimal v) (allDigits-decimal v)) (length-positive v) (round-trip v (p .operand)) (o .kind) (p .kind)
 
 pub shown-read : (o : Operation) → IsOperation o → (line start : ℕ) → lineOf line start (shown o) ≡ Op (o .kind) (cleared o .operand)
-shown-read o p line start = shown-reads o p .is line start
+shown-read o p line start = let r = shown-reads o p in r .is line start (shown o) (r .plain .untrimmed)
 
 pub written-utf8 : (o : Operation) → IsOperation o → utf8 (written o) ≡ true
 written-utf8 o p = append (shown o) (10 ∷ []) (shown-reads o p .plain .valid)

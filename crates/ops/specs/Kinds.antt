@@ -47,6 +47,10 @@ kinds =
 abbrev pub kindOf : ℕ → Kind
 kindOf k = getD kinds k (alone "")
 
+-- a kind's word, and behind it a space and digits where an operand follows
+abbrev pub lineWith : ℕ → List ℕ → List ℕ
+lineWith k d = kindOf k .word ++ cond (kindOf k .operand) (32 ∷ d) []
+
 -- a trimmed line is the kind's word and nothing else, or starts with the word and a space
 abbrev pub fits : Kind → List ℕ → Bool
 fits w t = cond (w .operand) (prefixOf (w .word ++ 32 ∷ []) t) (prefixOf (w .word) t && eqb (length t) (length (w .word)))

@@ -3,16 +3,18 @@ use super::OpsError;
 use super::kind::Parted;
 use super::kind::part;
 use super::plain::Plain;
-use super::plain::plain_line;
+use super::plain::plain_at;
 use super::word::one;
 use byte::either;
+use byte::in_range;
 use lines::Step;
 use number::Number;
 ghost use mathlib.Core.Path.{_≡_};
 ghost use Prim.Native.Nat.{_+_, _-_, _^_, _<_, _≤_};
 ghost use lib.ListN.{length, take, drop};
 ghost use Rattle.ops.specs.Line.{badNumber, operandOf, skipped, lineOf};
-ghost use Rattle.ops.specs.Passes.{lineReadAt, SkippedRead};
+ghost use Rattle.trim.specs.Blank.{Blanks};
+ghost use Rattle.ops.specs.Passes.{lineReadAt, KnownRead};
 
 pub enum LineRead {
     Skip,
@@ -26,19 +28,20 @@ pub struct Reached {
     pub next: usize,
 }
 
-// Where the line behind one starts that is known to be skipped.
-pub enum Skipped {
-    To(usize),
-    No,
+// What a line says and where the next one starts, as far as it is known from the line's start on.
+pub enum Known {
+    Op { kind: u8, operand: u64, next: usize },
+    Skip(usize),
+    Unknown,
 }
 
 // The line that starts at a place, its number being line.
 pub fn line_read_at(text: &[u8], at: usize, line: usize) -> Reached
     ensures { λ r. ⌜ r ≡ lineReadAt (now (text .entry)) at line ⌝ }
 {
-    let plain = plain_line(text, at);
-    match plain {
-        Plain::Op {
+    let known = known_line_at(text, at);
+    match known {
+        Known::Op {
             kind,
             operand,
             next,
@@ -46,43 +49,78 @@ pub fn line_read_at(text: &[u8], at: usize, line: usize) -> Reached
             read: LineRead::Op { kind, operand },
             next,
         },
-        Plain::Other => other_line_at(text, at, line),
-    }
-}
-
-// A line that is not plain.
-fn other_line_at(text: &[u8], at: usize, line: usize) -> Reached
-    ensures { λ r. ⌜ r ≡ lineReadAt (now (text .entry)) at line ⌝ }
-{
-    let skipped = skipped_line_at(text, at);
-    match skipped {
-        Skipped::To(next) => Reached {
+        Known::Skip(next) => Reached {
             read: LineRead::Skip,
             next,
         },
-        Skipped::No => any_line_at(text, at, line),
+        Known::Unknown => any_line_at(text, at, line),
     }
 }
 
-// A line that is White_Space alone, or a remark behind White_Space, and ends in a line feed.
-fn skipped_line_at(text: &[u8], at: usize) -> Skipped
-    ensures { λ r. ⌜ SkippedRead (now (text .entry)) at r ⌝ }
+fn known_line_at(text: &[u8], at: usize) -> Known
+    ensures { λ r. ⌜ KnownRead (now (text .entry)) at r ⌝ }
 {
     if text.len() <= at {
-        return Skipped::No;
+        return Known::Unknown;
     }
-    let first = trim::blanks_end(text, at);
+    let first = first_at(text, at);
+    operation_line_at(text, at, first)
+}
+
+// A place behind White_Space at the start of a line.
+fn first_at(text: &[u8], at: usize) -> usize
+    requires { ⌜ at < length (now text) ⌝ }
+    ensures { λ r. ⌜ Blanks (now (text .entry)) at r ⌝ }
+{
+    if in_range(b'$', 0x7F, text[at]) {
+        return at;
+    }
+    trim::blanks_end(text, at)
+}
+
+// An operation with White_Space before it, from at to first, and behind it; or a line that is skipped.
+fn operation_line_at(text: &[u8], at: usize, first: usize) -> Known
+    requires { ⌜ Blanks (now text) at first ⌝ }
+    ensures { λ r. ⌜ KnownRead (now (text .entry)) at r ⌝ }
+{
+    let plain = plain_at(text, first);
+    let Plain::Op { kind, operand, end } = plain else {
+        return skipped_line_at(text, at, first);
+    };
+    if one(text, end, b'\n') {
+        return Known::Op {
+            kind,
+            operand,
+            next: end + 1,
+        };
+    }
+    let feed = trim::blanks_end(text, end);
+    if !one(text, feed, b'\n') {
+        return Known::Unknown;
+    }
+    Known::Op {
+        kind,
+        operand,
+        next: feed + 1,
+    }
+}
+
+// White_Space alone, or a remark with White_Space before it, from at to first.
+fn skipped_line_at(text: &[u8], at: usize, first: usize) -> Known
+    requires { ⌜ Blanks (now text) at first ⌝ }
+    ensures { λ r. ⌜ KnownRead (now (text .entry)) at r ⌝ }
+{
     if one(text, first, b'\n') {
-        return Skipped::To(first + 1);
+        return Known::Skip(first + 1);
     }
     if !one(text, first, b'#') {
-        return Skipped::No;
+        return Known::Unknown;
     }
     let feed = lines::line_feed(text, first);
     if feed < text.len() {
-        return Skipped::To(feed + 1);
+        return Known::Skip(feed + 1);
     }
-    Skipped::No
+    Known::Unknown
 }
 
 fn any_line_at(text: &[u8], at: usize, line: usize) -> Reached

@@ -1,94 +1,92 @@
-// Lines as the assembler writes them, read from their start on, with no look for their end first.
+// An operation as the assembler writes it, read from its start on, with no look for the line's end first.
 use super::word::four;
 use super::word::one;
 use super::word::two;
 use byte::both;
+use byte::widen;
 use number::Value;
 ghost use mathlib.Core.Path.{_≡_};
 ghost use mathlib.Core.Bool.{true, cond};
-ghost use Prim.Native.Nat.{_<_};
+ghost use Prim.Native.Nat.{_<_, _≤_};
 ghost use lib.ListN.{length};
 ghost use Rattle.ops.specs.Passes.{PlainRead, WordAt};
 
+// An operation, and where it ends.
 pub enum Plain {
-    Op { kind: u8, operand: u64, next: usize },
+    Op { kind: u8, operand: u64, end: usize },
     Other,
 }
 
-// The line at a place, if it is a word and a line feed, or a word, a space, digits and a line feed.
-pub fn plain_line(text: &[u8], at: usize) -> Plain
+// The operation at a place, if a word, or a word, a space and digits stand there.
+pub fn plain_at(text: &[u8], at: usize) -> Plain
+    requires { ⌜ at ≤ length (now text) ⌝ }
     ensures { λ r. ⌜ PlainRead (now (text .entry)) at r ⌝ }
 {
-    if text.len() <= at {
+    if text.len() - at < 2 {
         return Plain::Other;
     }
-    let first = text[at];
-    match first {
-        b'P' => {
+    let sum = sum_of(text[at], text[at + 1]);
+    match sum {
+        0 => alone(two(text, at, b'L', b't'), 10, at + 2),
+        2 => {
+            let mul = both(two(text, at, b'M', b'u'), one(text, at + 2, b'l'));
+            alone(mul, 3, at + 3)
+        }
+        5 => {
             let push = both(
                 four(text, at, b'P', b'u', b's', b'h'),
                 one(text, at + 4, b' '),
             );
             operand(text, at, push, 0, at + 5)
         }
-        b'A' => alone(four(text, at, b'A', b'd', b'd', b'\n'), 1, at + 4),
-        b'S' => sub_swap_store(text, at),
-        b'M' => alone(four(text, at, b'M', b'u', b'l', b'\n'), 3, at + 4),
-        b'D' => div_dup(text, at),
-        b'J' => jumps(text, at),
-        b'E' => alone(
-            both(two(text, at, b'E', b'q'), one(text, at + 2, b'\n')),
-            9,
-            at + 3,
-        ),
-        b'L' => lt_load(text, at),
-        b'C' => {
-            let rest = both(two(text, at + 4, b'e', b'r'), one(text, at + 6, b'\n'));
-            alone(
-                both(four(text, at, b'C', b'a', b'l', b'l'), rest),
-                13,
-                at + 7,
-            )
-        }
-        b'H' => {
-            let halt = both(
-                four(text, at, b'H', b'a', b'l', b't'),
-                one(text, at + 4, b'\n'),
+        7 => {
+            let store = both(
+                four(text, at, b'S', b't', b'o', b'r'),
+                two(text, at + 4, b'e', b' '),
             );
-            alone(halt, 15, at + 5)
+            operand(text, at, store, 12, at + 6)
         }
+        8 => {
+            let sub = both(two(text, at, b'S', b'u'), one(text, at + 2, b'b'));
+            alone(sub, 2, at + 3)
+        }
+        10 => alone(four(text, at, b'S', b'w', b'a', b'p'), 6, at + 4),
+        36 => {
+            let caller = both(
+                four(text, at, b'C', b'a', b'l', b'l'),
+                two(text, at + 4, b'e', b'r'),
+            );
+            alone(caller, 13, at + 6)
+        }
+        37 => {
+            let add = both(two(text, at, b'A', b'd'), one(text, at + 2, b'd'));
+            alone(add, 1, at + 3)
+        }
+        41 => alone(four(text, at, b'H', b'a', b'l', b't'), 15, at + 4),
+        45 => {
+            let div = both(two(text, at, b'D', b'i'), one(text, at + 2, b'v'));
+            alone(div, 4, at + 3)
+        }
+        54 => alone(two(text, at, b'E', b'q'), 9, at + 2),
+        57 => {
+            let dup = both(two(text, at, b'D', b'u'), one(text, at + 2, b'p'));
+            alone(dup, 5, at + 3)
+        }
+        59 => {
+            let load = both(
+                four(text, at, b'L', b'o', b'a', b'd'),
+                one(text, at + 4, b' '),
+            );
+            operand(text, at, load, 11, at + 5)
+        }
+        63 => jumps(text, at),
         _ => Plain::Other,
     }
 }
 
-fn sub_swap_store(text: &[u8], at: usize) -> Plain
-    requires { ⌜ at < length (now text) ⌝ }
-    ensures { λ r. ⌜ PlainRead (now (text .entry)) at r ⌝ }
-{
-    if four(text, at, b'S', b'u', b'b', b'\n') {
-        return alone(true, 2, at + 4);
-    }
-    if both(
-        four(text, at, b'S', b'w', b'a', b'p'),
-        one(text, at + 4, b'\n'),
-    ) {
-        return alone(true, 6, at + 5);
-    }
-    let store = both(
-        four(text, at, b'S', b't', b'o', b'r'),
-        two(text, at + 4, b'e', b' '),
-    );
-    operand(text, at, store, 12, at + 6)
-}
-
-fn div_dup(text: &[u8], at: usize) -> Plain
-    requires { ⌜ at < length (now text) ⌝ }
-    ensures { λ r. ⌜ PlainRead (now (text .entry)) at r ⌝ }
-{
-    if four(text, at, b'D', b'i', b'v', b'\n') {
-        return alone(true, 4, at + 4);
-    }
-    alone(four(text, at, b'D', b'u', b'p', b'\n'), 5, at + 4)
+// No two words, those of the jumps apart, have the same sum of their first two bytes modulo 64.
+fn sum_of(a: u8, b: u8) -> u64 {
+    (widen(a) + widen(b)) % 64
 }
 
 fn jumps(text: &[u8], at: usize) -> Plain
@@ -118,28 +116,14 @@ fn jumps(text: &[u8], at: usize) -> Plain
     operand(text, at, both(jump, if_not_zero), 8, at + 14)
 }
 
-fn lt_load(text: &[u8], at: usize) -> Plain
-    requires { ⌜ at < length (now text) ⌝ }
-    ensures { λ r. ⌜ PlainRead (now (text .entry)) at r ⌝ }
-{
-    if both(two(text, at, b'L', b't'), one(text, at + 2, b'\n')) {
-        return alone(true, 10, at + 3);
-    }
-    let load = both(
-        four(text, at, b'L', b'o', b'a', b'd'),
-        one(text, at + 4, b' '),
-    );
-    operand(text, at, load, 11, at + 5)
-}
-
-fn alone(fits: bool, kind: u8, next: usize) -> Plain
-    ensures { λ r. ⌜ r ≡ cond fits (Plain.Op kind 0 next) Plain.Other ⌝ }
+fn alone(fits: bool, kind: u8, end: usize) -> Plain
+    ensures { λ r. ⌜ r ≡ cond fits (Plain.Op kind 0 end) Plain.Other ⌝ }
 {
     if fits {
         Plain::Op {
             kind,
             operand: 0,
-            next,
+            end,
         }
     } else {
         Plain::Other
@@ -163,13 +147,9 @@ fn operand(text: &[u8], at: usize, fits: bool, kind: u8, digits: usize) -> Plain
     let Value::Is(operand) = value else {
         return Plain::Other;
     };
-    let end = digits + len;
-    if !one(text, end, b'\n') {
-        return Plain::Other;
-    }
     Plain::Op {
         kind,
         operand,
-        next: end + 1,
+        end: digits + len,
     }
 }

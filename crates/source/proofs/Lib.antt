@@ -6,6 +6,7 @@ pub mod Names
 pub mod Pieces
 pub mod Cursor
 pub mod Quoted
+pub mod Quotes
 pub mod Keys
 pub mod Numbers
 mod Examples

@@ -57,7 +57,7 @@ module _ (s key : List ℕ) (at : ℕ) (h : at + length key + 1 < length s) (t :
 
 -- the bytes of a key in double quotes
 module _ (key : List ℕ) where
-  closing-quote : getD (quoted key) (length key + 1) 0 ≡ 0x22
+  pub closing-quote : getD (quoted key) (length key + 1) 0 ≡ 0x22
   closing-quote =
       let e : length key + 1 ≡ suc (length key + 0) = omega arith in
       ap (λ (k : ℕ). getD (quoted key) k 0) e ∙ getD-append-add key (0x22 ∷ []) 0 0

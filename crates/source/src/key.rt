@@ -1,6 +1,6 @@
 // The first place of a key in double quotes. Blocks of places are passed by a test that has no branch. What it costs to try places one by
 // one is bounded: beyond the bound the search is that of Knuth, Morris and Pratt, so that no key takes more than linear time in a vector of
-// an assembly.
+// an assembly. A key of quotes alone has a search of its own.
 ghost use mathlib.Core.Path.{_≡_};
 ghost use mathlib.Core.Bool.{true};
 ghost use Prim.Native.Nat.{_+_, _<_, _≤_};
@@ -8,7 +8,7 @@ ghost use lib.ListN.{length, drop};
 ghost use Rattle.search.specs.First.{prefixOf, firstAt};
 ghost use Rattle.search.specs.Scan.{Clear};
 ghost use Rattle.source.specs.Vector.{quoted};
-ghost use Rattle.source.specs.Marked.{Marks, Room, FirstBefore, Holds};
+ghost use Rattle.source.specs.Marked.{Quotes, Marks, Room, FirstBefore, Other, Holds};
 use byte::both;
 use byte::either;
 use search::Found;
@@ -65,6 +65,9 @@ fn find_by_blocks(s: &[u8], key: &[u8], at: usize, stop: usize) -> Found
     let mut i = at;
     while BLOCK <= stop - i {
         if any_agrees(s, key, mark, i, BLOCK) {
+            if mark.place == 0 {
+                return find_quotes(s, key, i, stop);
+            }
             if left < key.len() {
                 return find_far(s, key, i, stop);
             }
@@ -90,6 +93,9 @@ fn find_last(s: &[u8], key: &[u8], mark: Mark, left: usize, at: usize, stop: usi
     if !any_agrees(s, key, mark, at, stop - at) {
         return Found::Nothing;
     }
+    if mark.place == 0 {
+        return find_quotes(s, key, at, stop);
+    }
     if left < key.len() {
         return find_far(s, key, at, stop);
     }
@@ -112,6 +118,39 @@ fn mark_of(key: &[u8]) -> Mark
         place: 0,
         byte: b'"',
     }
+}
+
+// The first place of a key of quotes alone. It stands at no place whose window, as long as the key in double quotes, has another byte. No
+// byte is read more than twice.
+fn find_quotes(s: &[u8], key: &[u8], at: usize, stop: usize) -> Found
+    requires { ⌜ (at ≤ stop) × (stop + length (now key) + 1 ≡ length (now s)) × Quotes (quoted (now key)) 0 (length (now key) + 2) ⌝ }
+    ensures { λ r. ⌜ r ≡ firstAt (quoted (now (key .entry))) (now (s .entry)) at ⌝ }
+{
+    let mut i = at;
+    while i < stop {
+        let end = i + key.len() + 2;
+        let other = last_other(s, i, end);
+        match other {
+            Found::At(j) => i = j + 1,
+            Found::Nothing => return Found::At(i),
+        }
+    }
+    Found::Nothing
+}
+
+// The last place from a place on and before end at which no quote stands.
+fn last_other(s: &[u8], from: usize, end: usize) -> Found
+    requires { ⌜ (from ≤ end) × (end ≤ length (now s)) ⌝ }
+    ensures { λ r. ⌜ Other (now (s .entry)) from end r ⌝ }
+{
+    let mut k = end;
+    while from < k {
+        k -= 1;
+        if s[k] != b'"' {
+            return Found::At(k);
+        }
+    }
+    Found::Nothing
 }
 
 // Whether the key agrees at one of the n places from a place on.

@@ -1,9 +1,9 @@
 -- The syntax of RFC 3629, section 4, describes what section 3 encodes: `utf8 s ≡ true` just where `Valid s`.
-use Prim.Native.Nat.{ℕ, suc, _+_, _-_, _*_, _/_, _%_, _<_, _≤_}
+use Prim.Native.Nat.{ℕ, _+_, _-_, _*_, _/_, _%_, _<_, _≤_}
 use mathlib.Core.Path.{_≡_, refl, sym, ap, _∙_}
 use mathlib.Core.List.{List, [], _∷_, _++_, append-assoc, append-nil}
 use mathlib.Core.Bool.{Bool, true, false, cond, _&&_, _||_}
-use borrow.Author.Tests.{le-leb, lt-leb, leb-true, leb-false, eqb-true, eqb-false, eq-eqb, ne-eqb}
+use borrow.Author.Tests.{le-leb, lt-leb, leb-true, eqb-true, ne-eqb}
 use native.Mathlib.Omega.{arith}
 use lib.Dec.{leb, eqb}
 use Rattle.utf8.specs.Utf8.{utf8, after, after2, after3, tail, two, three, four}

@@ -1,7 +1,6 @@
 -- RFC 3629, section 7, and the sequences that its sections 3 and 10 warn of.
-use Prim.Native.Nat.{ℕ}
 use mathlib.Core.Path.{_≡_, refl}
-use mathlib.Core.List.{List, [], _∷_}
+use mathlib.Core.List.{[], _∷_}
 use mathlib.Core.Bool.{true, false}
 use Rattle.utf8.specs.Utf8.{utf8}
 use Rattle.utf8.specs.Encode.{encodes, scalar}

@@ -3,7 +3,7 @@ use Prim.Native.Nat.{ℕ, zero, suc, _+_, _<_, _≤_}
 use mathlib.Core.Path.{_≡_, refl, sym, ap, _∙_}
 use mathlib.Core.List.{List, [], _∷_}
 use mathlib.Core.Bool.{Bool, true, false, cond, _&&_, _||_}
-use borrow.Author.Tests.{le-leb, lt-leb, leb-true, leb-false, ne-eqb}
+use borrow.Author.Tests.{le-leb, lt-leb, leb-true, ne-eqb}
 use native.Mathlib.Omega.{arith}
 use lib.Dec.{eqb, leb}
 use native.Mathlib.Nat.{le-trans}
@@ -11,8 +11,8 @@ use lib.ListN.{length, getD, drop}
 use lib.Seq.{drop-drop}
 use Rattle.byte.specs.Range.{within}
 use Rattle.byte.proofs.Parts.{next}
-use Rattle.byte.proofs.Tests.{never, and-left, and-right, and-both, by-or, by-bool, by-leb, between, inside}
-use Rattle.utf8.specs.Utf8.{utf8, tail, two, three, four}
+use Rattle.byte.proofs.Tests.{never, and-left, and-right, and-both, by-or, by-leb, between, inside}
+use Rattle.utf8.specs.Utf8.{utf8, tail}
 use Rattle.utf8.specs.Passed.{Passed}
 use Rattle.utf8.specs.Windows.{opened, lowest, highest, follows, whole, Follow}
 use Rattle.utf8.proofs.Lead.{one-is, two-is, three-is, four-is}

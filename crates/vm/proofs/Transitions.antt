@@ -7,14 +7,13 @@ use lib.ListN.{length, take}
 use Rattle.context.specs.declared.Gate.{Gate}
 use Rattle.machine.specs.declared.Refusal.{Refusal}
 use Rattle.machine.specs.Operation.{decode}
-use Rattle.machine.specs.Machine.{Frame, Outcome, next, done, stop, whole}
+use Rattle.machine.specs.Machine.{Outcome, next, done, stop, whole}
 use Rattle.machine.proofs.Runs.{Counted, whole-bounded}
 use Rattle.vm.specs.declared.State.{State}
 use Rattle.vm.specs.declared.Check.{Check}
 use Rattle.vm.specs.declared.Check.the-variants as check
-use Rattle.vm.specs.declared.Answer.{Answer}
 use Rattle.vm.specs.declared.Answer.the-variants.{Success, Refused}
-use Rattle.vm.specs.Transition.{Result, untouched, ofRun, afterCheck, checksOf, transitionOf}
+use Rattle.vm.specs.Transition.{untouched, ofRun, afterCheck, checksOf, transitionOf}
 
 module _ (gate : Gate) (ks vs : List ℕ) (c g : ℕ) (s w m : List ℕ) (state : State) where
   pub refused-keeps : (f : Refusal) → transitionOf gate ks vs c g s w m state .answer ≡ Refused f

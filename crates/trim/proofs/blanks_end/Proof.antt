@@ -1,6 +1,6 @@
 -- `trim::blanks_end` meets its contract: one character after the other.
 -- Assumes nothing.
-use Prim.Native.Nat.{ℕ, _-_}
+use Prim.Native.Nat.{_-_}
 use mathlib.Core.Path.{refl}
 use lib.ListN.{length}
 use denote.Ref.{now}

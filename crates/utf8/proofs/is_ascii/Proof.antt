@@ -1,6 +1,5 @@
 -- `utf8::is_ascii` meets its contract: a block whose largest byte is ASCII is passed.
 -- Assumes nothing.
-use Prim.Native.Nat.{_≤_}
 use borrow.Author.Tests.{leb-true}
 use native.Mathlib.Omega.{arith}
 use denote.Ref.{now}

@@ -1,7 +1,7 @@
 -- `utf8::is_utf8` meets its contract: the whole text is UTF-8 where what is left of it is.
 -- Assumes nothing.
 use Prim.Native.Nat.{_-_, _≤_}
-use mathlib.Core.Path.{_≡_, refl, sym, ap, _∙_}
+use mathlib.Core.Path.{_≡_, sym, ap, _∙_}
 use native.Mathlib.Omega.{arith}
 use lib.ListN.{length, drop, drop-of-length-le}
 use Rattle.utf8.specs.Utf8.{utf8}

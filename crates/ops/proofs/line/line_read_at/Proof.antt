@@ -1,35 +1,49 @@
--- `line::line_read_at` meets its contract: a plain line is what stands there.
+-- `line::line_read_at` meets its contract: what is known from the start on is what the line says.
 -- Assumes nothing.
-use mathlib.Core.Path.{sym}
+use mathlib.Core.Path.{sym, subst}
+use denote.Ref.{now}
+use Rattle.ops.specs.Passes.{KnownRead}
 use borrow.Author.Needs.{needs}
 use Rattle.ops.proofs.line.line_read_at.Statement.{statement}
 use Rattle.ops.proofs.line.line_read_at.Tie as tie
 
-plain-line-requires : tie.Need-plain-line-requires
-plain-line-requires c κs = search needs
+known-line-at-requires : tie.Need-known-line-at-requires
+known-line-at-requires c κs = search needs
 
-enum-known-plain : tie.Need-enum-known-plain
-enum-known-plain c = search needs
+enum-known-known : tie.Need-enum-known-known
+enum-known-known c = search needs
+
+enum-known-known-2 : tie.Need-enum-known-known-2
+enum-known-known-2 c = search needs
 
 enum-told : tie.Need-enum-told
 enum-told c = search needs
 
-other-line-at-requires : tie.Need-other-line-at-requires
-other-line-at-requires c κs = search needs
+any-line-at-requires : tie.Need-any-line-at-requires
+any-line-at-requires c κs = search needs
 
 returns : tie.Need-returns
-returns c = sym (c .before .before .before .plain-line .ensures .is _ _ _ (c .before .plain .given .1) (c .before .before .before .before .before .args .line))
+returns c =
+    let a = c .before .before .before .before .before .args in
+    sym (subst (KnownRead (now (a .text)) (a .at)) (c .before .known .given .1) (c .before .before .before .known-line-at .ensures) (a .line))
 
 returns-2 : tie.Need-returns-2
-returns-2 c = search needs
+returns-2 c =
+    let a = c .before .before .before .before .before .args in
+    sym (subst (KnownRead (now (a .text)) (a .at)) (c .before .known2 .given .1) (c .before .before .before .known-line-at .ensures) (a .line))
+
+returns-3 : tie.Need-returns-3
+returns-3 c = search needs
 
 pub line-read-at-spec : {M : Type 1} → statement M
 line-read-at-spec =
     tie.close
     (tie.spec
-    plain-line-requires
-    enum-known-plain
+    known-line-at-requires
+    enum-known-known
+    enum-known-known-2
     enum-told
-    other-line-at-requires
+    any-line-at-requires
     returns
-    returns-2)
+    returns-2
+    returns-3)

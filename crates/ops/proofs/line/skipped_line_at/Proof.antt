@@ -6,33 +6,27 @@ use borrow.Author.Tests.{not-false}
 use lib.ListN.{length}
 use denote.Ref.{now}
 use Rattle.ops.specs.declared.line.LineRead.the-variants.{Skip}
-use Rattle.ops.proofs.SkippedLines.{blank-read, remark-read}
+use Rattle.ops.proofs.BlankLines.{blank-read, remark-read}
 use borrow.Author.Needs.{needs}
 use Rattle.ops.proofs.line.skipped_line_at.Statement.{statement}
 use Rattle.ops.proofs.line.skipped_line_at.Tie as tie
 
-returns : tie.Need-returns
-returns c = search needs
-
-blanks-end-requires : tie.Need-blanks-end-requires
-blanks-end-requires c κs = search needs
-
 one-requires : tie.Need-one-requires
 one-requires c κs = search needs
 
-add-t8 : tie.Need-add-t8
-add-t8 c = search needs
+add-t6 : tie.Need-add-t6
+add-t6 c = search needs
 
-returns-2 : tie.Need-returns-2
-returns-2 c =
-    let a = c .before .before .before .before .before .args in
-    λ line. blank-read (now (a .text)) (a .at) _ (c .before .before .blanks-end .ensures) line (sym (c .before .one .ensures) ∙ c .if2 .taken)
+returns : tie.Need-returns
+returns c =
+    let a = c .before .before .before .args in
+    λ line. blank-read (now (a .text)) (a .at) (a .first) (c .before .before .before .pre) line (sym (c .before .one .ensures) ∙ c .if1 .taken)
 
 one-requires-2 : tie.Need-one-requires-2
 one-requires-2 c κs = search needs
 
-returns-3 : tie.Need-returns-3
-returns-3 c = search needs
+returns-2 : tie.Need-returns-2
+returns-2 c = search needs
 
 line-feed-requires : tie.Need-line-feed-requires
 line-feed-requires c κs = search needs
@@ -40,30 +34,28 @@ line-feed-requires c κs = search needs
 add-t10 : tie.Need-add-t10
 add-t10 c = search needs
 
-returns-4 : tie.Need-returns-4
-returns-4 c =
-    let a = c .before .before .before .before .before .before .before .before .before .args in
+returns-3 : tie.Need-returns-3
+returns-3 c =
+    let a = c .before .before .before .before .before .before .before .args in
     let text = now (a .text) in
     let f = c .before .line-feed .ensures in
-    λ line. remark-read text (a .at) _ (c .before .before .before .before .before .before .blanks-end .ensures) line
-    (sym (c .before .before .before .one2 .ensures) ∙ not-false _ (c .before .before .if3 .left)) (subst (λ (n : ℕ). n < length text) f (c .if4 .taken))
+    λ line. remark-read text (a .at) (a .first) (c .before .before .before .before .before .before .before .pre) line
+    (sym (c .before .before .before .one2 .ensures) ∙ not-false _ (c .before .before .if2 .left)) (subst (λ (n : ℕ). n < length text) f (c .if3 .taken))
     ∙ ap (λ (n : ℕ). record { read = Skip; next = n + 1 }) (sym f)
 
-returns-5 : tie.Need-returns-5
-returns-5 c = search needs
+returns-4 : tie.Need-returns-4
+returns-4 c = search needs
 
 pub skipped-line-at-spec : {M : Type 1} → statement M
 skipped-line-at-spec =
     tie.close
     (tie.spec
-    returns
-    blanks-end-requires
     one-requires
-    add-t8
-    returns-2
+    add-t6
+    returns
     one-requires-2
-    returns-3
+    returns-2
     line-feed-requires
     add-t10
-    returns-4
-    returns-5)
+    returns-3
+    returns-4)

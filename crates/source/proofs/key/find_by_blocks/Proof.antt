@@ -29,11 +29,19 @@ sub-loop c = search needs
 any-agrees-requires : tie.Need-any-agrees-requires Inv-loop μ-loop
 any-agrees-requires c κs = search needs
 
+find-quotes-requires : tie.Need-find-quotes-requires Inv-loop μ-loop
+find-quotes-requires c κs =
+    let w = c .before .before .before .before .before .before .before .before .before in
+    (c .before .before .before .before .before .loop .inv .0, w .pre .1, c .before .before .before .before .before .before .mark-of .ensures .quotes (c .if2 .taken))
+
+returns : tie.Need-returns Inv-loop μ-loop
+returns c = c .find-quotes .ensures ∙ sym (c .before .before .before .before .before .before .loop .inv .1)
+
 find-far-requires : tie.Need-find-far-requires Inv-loop μ-loop
 find-far-requires c κs = search needs
 
-returns : tie.Need-returns Inv-loop μ-loop
-returns c = c .find-far .ensures ∙ sym (c .before .before .before .before .before .loop .inv .1)
+returns-2 : tie.Need-returns-2 Inv-loop μ-loop
+returns-2 c = c .find-far .ensures ∙ sym (c .before .before .before .before .before .before .before .loop .inv .1)
 
 sub-left : tie.Need-sub-left Inv-loop μ-loop
 sub-left c = search needs
@@ -47,8 +55,8 @@ quoted-before-requires c κs = search needs
 enum-known-found : tie.Need-enum-known-found Inv-loop μ-loop
 enum-known-found c = search needs
 
-returns-2 : tie.Need-returns-2 Inv-loop μ-loop
-returns-2 c = sym (c .before .before .before .before .before .before .before .before .before .loop .inv .1 ∙ rw (c .before .found .given .1) at (c .before .before .before .quoted-before .ensures))
+returns-3 : tie.Need-returns-3 Inv-loop μ-loop
+returns-3 c = sym (c .before .before .before .before .before .before .before .before .before .before .before .loop .inv .1 ∙ rw (c .before .found .given .1) at (c .before .before .before .quoted-before .ensures))
 
 enum-told : tie.Need-enum-told Inv-loop μ-loop
 enum-told c = search needs
@@ -57,7 +65,7 @@ loop-less : tie.Need-loop-less Inv-loop μ-loop
 loop-less c = omega (arith, c .before .before .before .near-end .ensures .2 (omega arith))
 
 loop-again : tie.Need-loop-again Inv-loop μ-loop
-loop-again c = (omega arith, c .before .before .before .before .before .before .before .before .loop .inv .1 ∙ rw (c .enum-told .given .1) at (c .before .before .quoted-before .ensures))
+loop-again c = (omega arith, c .before .before .before .before .before .before .before .before .before .before .loop .inv .1 ∙ rw (c .enum-told .given .1) at (c .before .before .quoted-before .ensures))
 
 add-i : tie.Need-add-i Inv-loop μ-loop
 add-i c = search needs
@@ -71,8 +79,8 @@ loop-again-2 c = (omega arith, c .before .before .before .loop .inv .1 ∙ c .be
 find-last-requires : tie.Need-find-last-requires Inv-loop μ-loop
 find-last-requires c κs = search needs
 
-returns-3 : tie.Need-returns-3 Inv-loop μ-loop
-returns-3 c = c .find-last .ensures ∙ sym (c .before .before .loop .inv .1)
+returns-4 : tie.Need-returns-4 Inv-loop μ-loop
+returns-4 c = c .find-last .ensures ∙ sym (c .before .before .loop .inv .1)
 
 pub find-by-blocks-spec : {M : Type 1} → statement M
 find-by-blocks-spec =
@@ -85,13 +93,15 @@ find-by-blocks-spec =
     loop-holds
     sub-loop
     any-agrees-requires
-    find-far-requires
+    find-quotes-requires
     returns
+    find-far-requires
+    returns-2
     sub-left
     near-end-requires
     quoted-before-requires
     enum-known-found
-    returns-2
+    returns-3
     enum-told
     loop-less
     loop-again
@@ -99,4 +109,4 @@ find-by-blocks-spec =
     loop-less-2
     loop-again-2
     find-last-requires
-    returns-3)
+    returns-4)

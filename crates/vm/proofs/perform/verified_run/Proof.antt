@@ -1,5 +1,5 @@
 -- `perform::verified_run` meets its contract: the verifier's refusal, or the run.
-use mathlib.Core.Path.{_≡_, refl, sym, _∙_}
+use mathlib.Core.Path.{refl, sym, _∙_}
 use borrow.Author.Needs.{needs}
 use Rattle.vm.proofs.perform.verified_run.Statement.{statement}
 use Rattle.vm.proofs.perform.verified_run.Tie as tie

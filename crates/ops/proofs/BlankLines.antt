@@ -1,29 +1,38 @@
--- Lines of White_Space alone, and remarks behind White_Space.
-use Prim.Native.Nat.{ℕ, suc, _+_, _<_, _≤_}
+-- Lines with White_Space at their start and their end, read from their start on.
+use Prim.Native.Nat.{ℕ, suc, _+_, _<_}
 use mathlib.Core.Path.{_≡_, refl, sym, ap, ap₂, _∙_}
 use mathlib.Core.List.{List, [], _∷_, _++_, append-assoc, append-nil}
-use mathlib.Core.Bool.{Bool, true, false}
+use mathlib.Core.Bool.{true, false}
 use borrow.Author.Tests.{eq-eqb, ne-eqb}
 use native.Mathlib.Omega.{arith}
 use lib.ListN.{length, getD, drop, length-append}
-use Rattle.byte.proofs.Tests.{never, by-eqb}
+use Rattle.byte.specs.Range.{within}
+use Rattle.byte.proofs.Tests.{never, by-eqb, between, above}
 use Rattle.search.specs.First.{prefixOf}
 use Rattle.search.proofs.Prefix.{split}
-use Rattle.lines.specs.Lines.{lines, feedFree, lessReturn}
+use Rattle.lines.specs.Lines.{feedFree, lessReturn}
 use Rattle.lines.specs.Cursor.{feedFrom, span, headOf, firstLine}
 use Rattle.lines.proofs.Written.{free-cons, free-append, line-then}
 use Rattle.lines.proofs.Cursor.{fed}
-use Rattle.trim.specs.Trim.{startTrimmed, endTrimmed, trimmed}
+use Rattle.trim.specs.Trim.{white1, startTrimmed, endTrimmed, trimmed}
 use Rattle.trim.specs.Blank.{Blank, none, one, three, Blanks}
 use Rattle.trim.proofs.Laws.{start-stays}
-use Rattle.trim.proofs.Blanks.{wide, start-blank}
+use Rattle.trim.proofs.Blanks.{wide, start-blank, end-blank}
+use Rattle.ops.specs.Kinds.{lineWith}
 use Rattle.ops.specs.Line.{skipped, lineOf}
-use Rattle.ops.specs.Passes.{lineReadAt}
+use Rattle.ops.specs.Passes.{lineReadAt, OperationAt}
 use Rattle.ops.specs.declared.line.LineRead.{LineRead}
-use Rattle.ops.specs.declared.line.LineRead.the-variants.{Skip}
-use Rattle.ops.proofs.PlainReads.{span-free}
+use Rattle.ops.specs.declared.line.LineRead.the-variants.{Skip, Op}
+use Rattle.ops.proofs.PlainLines.{digits-graphic, Reads, reads}
 use Rattle.ops.proofs.Suffix.{end-start}
 use Rattle.ops.proofs.Trimmed.{skip-read}
+
+span-free : (s t : List ℕ) → feedFree s ≡ true → span (s ++ (10 ∷ t)) ≡ suc (length s)
+span-free [] t e = refl
+span-free (a ∷ s) t e =
+    by-eqb a 10
+    (λ h. never (sym (rw h refl) ∙ e))
+    (λ h. rw (ne-eqb a 10 h, span) (ap suc (span-free s t (sym (free-cons a s h) ∙ e))))
 
 -- White_Space within a line has no line feed, and stays such without a carriage return at its end
 blank-free : {b : List ℕ} → Blank b → feedFree b ≡ true
@@ -46,6 +55,11 @@ less-append : (x : List ℕ) (c : ℕ) (s : List ℕ) → lessReturn (x ++ c ∷
 less-append [] c s = refl
 less-append (a ∷ []) c s = refl
 less-append (a ∷ b ∷ x) c s = ap (λ (t : List ℕ). a ∷ t) (less-append (b ∷ x) c s)
+
+-- behind a text that keeps its end
+less-behind : (x : List ℕ) {b : List ℕ} → lessReturn x ≡ x → Blank b → (y : List ℕ) × Blank y × (lessReturn (x ++ b) ≡ x ++ y)
+less-behind x {b = []} e h = ([], none, ap lessReturn (append-nil x) ∙ e ∙ sym (append-nil x))
+less-behind x {b = c ∷ s} e h = (lessReturn (c ∷ s), less-blank h, less-append x c s)
 
 -- the line at a place, by what stands before the line feed
 line-is : (text : List ℕ) (at line : ℕ) (l t : List ℕ) (next : ℕ) (x : LineRead) → drop at text ≡ l ++ 10 ∷ t → feedFree l ≡ true → next ≡ at + suc (length l)
@@ -77,6 +91,18 @@ remark-skip {b} h y line start =
     first : (z p : List ℕ) → 35 ∷ y ≡ z ++ p → skipped z ≡ true
     first [] p e = refl
     first (c ∷ z) p e = let q : c ≡ 35 = cc in eq-eqb c 35 q
+
+-- an operation between White_Space, when trimmed
+trim-between : {b y : List ℕ} → Blank b → Blank y → (w : List ℕ) → within 65 90 (getD w 0 0) ≡ true → trimmed w ≡ w → trimmed (b ++ (w ++ y)) ≡ w
+trim-between h k [] e t = never e
+trim-between {b} {y} h k (a ∷ w) e t =
+    ap endTrimmed (start-blank h (a ∷ w ++ y) ∙ stays (w ++ y)) ∙ end-blank k (a ∷ w) ∙ ap endTrimmed (sym (stays w)) ∙ t
+  where
+    stays : (s : List ℕ) → startTrimmed (a ∷ s) ≡ a ∷ s
+    stays s =
+        let r = between 65 90 a e in
+        let white : white1 a ≡ false = simp (above 0x09 0x0D a (omega arith), ne-eqb a 0x20 (λ e. omega arith)) in
+        start-stays a s white (λ p. omega arith) (λ p q. omega arith)
 
 module _ (text : List ℕ) (at first : ℕ) (b : Blanks text at first) (line : ℕ) where
   pub blank-read : prefixOf (10 ∷ []) (drop first text) ≡ true → lineReadAt text at line ≡ record { read = Skip; next = first + 1 }
@@ -111,3 +137,33 @@ module _ (text : List ℕ) (at first : ℕ) (b : Blanks text at first) (line : �
           (omega (arith, length-append l (c ∷ x)))
           (ap (lineOf line at) (less-append l c x ∙ ap (λ (a : ℕ). l ++ lessReturn (a ∷ x)) z ∙ ap (λ (s : List ℕ). l ++ s) (k .1))
           ∙ remark-skip (b .is) (k .0) line at)
+
+  pub operation-read : (k v end feed : ℕ) → OperationAt text first k v end → Blanks text end feed → prefixOf (10 ∷ []) (drop feed text) ≡ true
+      → lineReadAt text at line ≡ record { read = Op k v; next = feed + 1 }
+  operation-read k v end feed o n h =
+      let d = o .digits in
+      let r = reads d (o .number) (digits-graphic d (o .all)) (o .some) (o .is) k (o .below) in
+      go (lineWith k d) r refl
+    where
+      go : (w : List ℕ) → Reads k (o .digits) (o .number) → w ≡ lineWith k (o .digits) → lineReadAt text at line ≡ record { read = Op k v; next = feed + 1 }
+      go w r u =
+          let l = b .between in
+          let y = n .between in
+          let t = drop 1 (drop feed text) in
+          let p = b .place in
+          let q = o .place in
+          let m = n .place in
+          let e = kept w (rw u (r .letter)) (rw u (r .plain .unreturned)) in
+          let s = less-behind (l ++ w) e (n .is) in
+          line-is text at line ((l ++ w) ++ y) t (feed + 1) (Op k v)
+          (b .stands ∙ ap (λ (s : List ℕ). l ++ s) (o .stands ∙ ap₂ _++_ (sym u) (n .stands ∙ ap (λ (s : List ℕ). y ++ s) (split (10 ∷ []) (drop feed text) h)))
+          ∙ sym (append-assoc l w (y ++ 10 ∷ t)) ∙ sym (append-assoc (l ++ w) y (10 ∷ t)))
+          (free-append (l ++ w) y (free-append l w (blank-free (b .is)) ∙ rw u (r .plain .free)) ∙ blank-free (n .is))
+          (omega (arith, length-append (l ++ w) y, length-append l w, ap length u))
+          (ap (lineOf line at) (s .2 ∙ append-assoc l w (s .0))
+          ∙ r .is line at (l ++ (w ++ s .0)) (trim-between (b .is) (s .1) w (rw u (r .letter)) (rw u (r .plain .untrimmed)) ∙ u)
+          ∙ ap (Op k) (sym (o .operand)))
+        where
+          kept : (w : List ℕ) → within 65 90 (getD w 0 0) ≡ true → lessReturn w ≡ w → lessReturn (b .between ++ w) ≡ b .between ++ w
+          kept [] e f = never e
+          kept (c ∷ w) e f = less-append (b .between) c w ∙ ap (λ (s : List ℕ). b .between ++ s) f
