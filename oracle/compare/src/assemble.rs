@@ -287,6 +287,35 @@ impl Comparison {
         }
     }
 
+    /// Keys that their vector nearly repeats: made of a period with bytes changed, among parts of the quoted key and of its period.
+    fn keys(&mut self, d: &mut Draw, n: usize) {
+        for _ in 0..n {
+            let period: Vec<u8> = (0..1 + d.below(4)).map(|_| b"\"\"zx"[d.below(4)]).collect();
+            let most = 1 + d.below(400);
+            let mut key: Vec<u8> = period.iter().copied().cycle().take(1 + d.below(most)).collect();
+            for _ in 0..d.below(3) {
+                let at = d.below(key.len());
+                key[at] = b"\"zxy"[d.below(4)];
+            }
+            let quoted = [&b"\""[..], &key, b"\""].concat();
+            let mut vector = b"\"expected\":1".to_vec();
+            for _ in 0..d.below(12) {
+                match d.below(4) {
+                    0 => vector.extend_from_slice(&quoted[..d.below(quoted.len() + 1)]),
+                    1 => vector.extend_from_slice(&quoted[d.below(quoted.len())..]),
+                    2 => vector.push(b"\"zxy"[d.below(4)]),
+                    _ => vector.extend(period.iter().cycle().take(d.below(most + 40))),
+                }
+            }
+            if d.one_in(2) {
+                vector.extend_from_slice(&quoted);
+            }
+            vector.extend_from_slice(b":7");
+            let contract = [&b"fn f("[..], &key, b"){return 1}"].concat();
+            self.case(Case { contract, vector, stem: b"t".to_vec(), room: 0 });
+        }
+    }
+
     fn drawn(&mut self, d: &mut Draw, n: usize) {
         for i in 0..n {
             let (contract, keys) = drawn_contract(d);
@@ -424,6 +453,7 @@ pub fn compare(rounds: u64) -> Comparison {
         let mut d = Draw::new(1000 + round);
         c.limits(&mut d);
         c.grown(&mut d, 500);
+        c.keys(&mut d, 200_000);
         c.drawn(&mut d, 400_000);
     }
     fs::remove_dir_all(&c.folder).unwrap();

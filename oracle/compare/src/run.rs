@@ -387,9 +387,13 @@ impl Comparison {
 
     fn drawn(&mut self, d: &mut Draw, n: usize) {
         for i in 0..n {
-            let program = drawn_program(d);
-            let lent = d.below(9);
-            let used = d.below(lent + 1);
+            let mut program = drawn_program(d);
+            // many slots for few operations in one of six, with slots of all of them
+            let lent = if d.one_in(6) { 8 * program.len() + d.below(9) } else { d.below(9) };
+            let used = if lent < 9 { d.below(lent + 1) } else { lent - d.below(9) };
+            for (_, slot) in program.iter_mut().filter(|o| lent > 8 && (o.0 == 11 || o.0 == 12)) {
+                *slot = d.below(used + 2) as u64;
+            }
             let stack = if d.one_in(8) { 4096 + d.below(40) } else { 4096 };
             let context = if d.one_in(3) { gate::drawn(d) } else { gate::good(d) };
             let entry = match i % 4 {
