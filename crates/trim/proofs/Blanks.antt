@@ -2,12 +2,13 @@
 use Prim.Native.Nat.{ℕ, _+_, _<_, _≤_}
 use mathlib.Core.Path.{_≡_, refl, sym, ap, _∙_}
 use mathlib.Core.List.{List, [], _∷_, _++_, append-assoc, reverse, reverse-cons, reverse-append}
-use mathlib.Core.Bool.{true}
+use mathlib.Core.Bool.{true, false}
 use native.Mathlib.Omega.{arith}
 use lib.ListN.{length, getD, drop, length-append}
+use Rattle.byte.proofs.Tests.{never}
 use Rattle.trim.specs.Trim.{white1, white2, white3, startTrimmed, back2, back3, back, endTrimmed}
-use Rattle.trim.specs.Blank.{Blank, none, one, three, Blanks}
-use Rattle.trim.proofs.White.{by-white3, not1, not2}
+use Rattle.trim.specs.Blank.{Blank, none, one, three, Blanks, NoBlank, BlankAt}
+use Rattle.trim.proofs.White.{by-white3, not1, not2, not3}
 use Rattle.trim.proofs.Laws.{yes1, yes3}
 use Rattle.trim.proofs.Steps.{at1, at3}
 
@@ -75,3 +76,24 @@ wide-blank s at h e =
       place = refl;
       fits = omega arith;
     }
+
+-- none stands at a line feed, at another byte of ASCII that is not White_Space, at three other bytes, and at the end
+module _ (s : List ℕ) (at : ℕ) where
+  pub at-feed : getD s at 0 ≡ 10 → NoBlank s at
+  at-feed e = record { narrow = λ h w. e; wide = λ h. not3 (getD s at 0) (getD s (at + 1) 0) (getD s (at + 2) 0) (λ p. omega arith) }
+
+  pub at-other : white1 (getD s at 0) ≡ false → getD s at 0 ≤ 0x7F → NoBlank s at
+  at-other e l = record { narrow = λ h w. never (sym e ∙ w); wide = λ h. not3 (getD s at 0) (getD s (at + 1) 0) (getD s (at + 2) 0) (λ p. omega arith) }
+
+  pub at-wide : 0x7F < getD s at 0 → (at + 2 < length s → white3 (getD s at 0) (getD s (at + 1) 0) (getD s (at + 2) 0) ≡ false) → NoBlank s at
+  at-wide l f = record { narrow = λ h w. never (sym (not1 (getD s at 0) (omega arith)) ∙ w); wide = f }
+
+  pub at-end : length s ≤ at → NoBlank s at
+  at-end l = record { narrow = λ h w. absurd (omega arith); wide = λ h. absurd (omega arith) }
+
+  -- the character that a test gives
+  pub found : (n : ℕ) → (n ≡ 0 → ⊥) → Blanks s at (at + n) → BlankAt s at n
+  found n k b = record { blanks = b; absent = λ e. absurd (k e) }
+
+  pub nothing : at ≤ length s → NoBlank s at → BlankAt s at 0
+  nothing h n = record { blanks = no-blanks s at (at + 0) h (omega arith); absent = λ e. n }

@@ -4,7 +4,7 @@ ghost use Prim.Native.Nat.{_+_, _-_, _≤_, _<_};
 ghost use lib.ListN.{length, getD};
 ghost use Rattle.trim.specs.Trim.{TrimStart, TrimEnd, Trim, white1, white2, white3};
 ghost use Rattle.trim.specs.Step.{WhiteAt, WhiteBefore};
-ghost use Rattle.trim.specs.Blank.{Blanks};
+ghost use Rattle.trim.specs.Blank.{BlankAt, BlanksTo};
 use byte::both;
 use byte::either;
 use byte::in_range;
@@ -43,10 +43,10 @@ pub fn trim_end<'a>(s: &'a [u8]) -> &'a [u8]
     &s[..e]
 }
 
-// A place behind White_Space that stands from a position on, with no line feed in it.
+// Where the White_Space ends that stands from a position on: that of one byte but line feeds, and that of three.
 pub fn blanks_end(s: &[u8], at: usize) -> usize
     requires { ⌜ at ≤ length (now s) ⌝ }
-    ensures { λ r. ⌜ Blanks (now (s .entry)) at r ⌝ }
+    ensures { λ r. ⌜ BlanksTo (now (s .entry)) at r ⌝ }
 {
     let mut i = at;
     while i < s.len() {
@@ -59,10 +59,10 @@ pub fn blanks_end(s: &[u8], at: usize) -> usize
     i
 }
 
-// How many bytes the White_Space character at a position has that is no line feed, or 0.
+// How many bytes the one of them at a position has, or 0 where none stands.
 fn blank_at(s: &[u8], at: usize) -> usize
     requires { ⌜ at < length (now s) ⌝ }
-    ensures { λ r. ⌜ Blanks (now (s .entry)) at (at + r) ⌝ }
+    ensures { λ r. ⌜ BlankAt (now (s .entry)) at r ⌝ }
 {
     let a = s[at];
     if is_white1(a) {
@@ -79,8 +79,8 @@ fn blank_at(s: &[u8], at: usize) -> usize
 
 // The same at a byte that is not ASCII.
 fn wide_blank_at(s: &[u8], at: usize) -> usize
-    requires { ⌜ at < length (now s) ⌝ }
-    ensures { λ r. ⌜ Blanks (now (s .entry)) at (at + r) ⌝ }
+    requires { ⌜ (at < length (now s)) × (0x7F < getD (now s) at 0) ⌝ }
+    ensures { λ r. ⌜ BlankAt (now (s .entry)) at r ⌝ }
 {
     if s.len() - at < 3 {
         return 0;

@@ -1,10 +1,9 @@
 -- `trim::blank_at` meets its contract: by the first byte.
 -- Assumes nothing.
-use Prim.Native.Nat.{_+_}
 use mathlib.Core.Path.{sym, _∙_}
 use native.Mathlib.Omega.{arith}
 use denote.Ref.{now}
-use Rattle.trim.proofs.Blanks.{no-blanks, one-blank}
+use Rattle.trim.proofs.Blanks.{one-blank, at-feed, at-other, found, nothing}
 use borrow.Author.Needs.{needs}
 use Rattle.trim.proofs.blank_at.Statement.{statement}
 use Rattle.trim.proofs.blank_at.Tie as tie
@@ -18,17 +17,17 @@ is-white1-requires c κs = search needs
 returns : tie.Need-returns
 returns c =
     let a = c .before .before .before .before .before .args in
-    no-blanks (now (a .s)) (a .at) (a .at + 0) (omega arith) (omega arith)
+    nothing (now (a .s)) (a .at) (omega arith) (at-feed (now (a .s)) (a .at) (c .if2 .taken))
 
 returns-2 : tie.Need-returns-2
 returns-2 c =
     let a = c .before .before .before .before .before .args in
-    one-blank (now (a .s)) (a .at) (omega arith) (sym (c .before .before .is-white1 .ensures) ∙ c .before .if1 .taken) (c .if2 .left)
+    found (now (a .s)) (a .at) 1 (λ e. omega arith) (one-blank (now (a .s)) (a .at) (omega arith) (sym (c .before .before .is-white1 .ensures) ∙ c .before .if1 .taken) (c .if2 .left))
 
 returns-3 : tie.Need-returns-3
 returns-3 c =
     let a = c .before .before .before .before .before .args in
-    no-blanks (now (a .s)) (a .at) (a .at + 0) (omega arith) (omega arith)
+    nothing (now (a .s)) (a .at) (omega arith) (at-other (now (a .s)) (a .at) (sym (c .before .before .is-white1 .ensures) ∙ c .before .if1 .left) (c .if3 .taken))
 
 wide-blank-at-requires : tie.Need-wide-blank-at-requires
 wide-blank-at-requires c κs = search needs

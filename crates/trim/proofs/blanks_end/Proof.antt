@@ -5,7 +5,7 @@ use mathlib.Core.Path.{refl}
 use lib.ListN.{length}
 use denote.Ref.{now}
 use Rattle.trim.specs.Blank.{Blanks}
-use Rattle.trim.proofs.Blanks.{no-blanks, more-blanks}
+use Rattle.trim.proofs.Blanks.{no-blanks, more-blanks, at-end}
 use borrow.Author.Needs.{needs}
 use Rattle.trim.proofs.blanks_end.Statement.{statement}
 use Rattle.trim.proofs.blanks_end.Tie as tie
@@ -33,13 +33,13 @@ loop-less c = search needs
 loop-again : tie.Need-loop-again Inv-loop μ-loop
 loop-again c =
     let a = c .before .before .before .before .before .args in
-    more-blanks (now (a .s)) (a .at) _ _ (c .before .before .before .loop .inv) (c .before .blank-at .ensures)
+    more-blanks (now (a .s)) (a .at) _ _ (c .before .before .before .loop .inv) (c .before .blank-at .ensures .blanks)
 
 returns : tie.Need-returns Inv-loop μ-loop
-returns c = search needs
+returns c = record { blanks = c .before .loop .inv; over = at-end _ _ (c .loop-test .left) }
 
 returns-2 : tie.Need-returns-2 Inv-loop μ-loop
-returns-2 c = search needs
+returns-2 c = record { blanks = c .before .before .before .loop .inv; over = c .before .blank-at .ensures .absent (c .if1 .taken) }
 
 pub blanks-end-spec : {M : Type 1} → statement M
 blanks-end-spec =

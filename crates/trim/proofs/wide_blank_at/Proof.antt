@@ -1,10 +1,9 @@
 -- `trim::wide_blank_at` meets its contract: by the test of the three bytes.
 -- Assumes nothing.
-use Prim.Native.Nat.{_+_}
 use mathlib.Core.Path.{sym, _∙_}
 use native.Mathlib.Omega.{arith}
 use denote.Ref.{now}
-use Rattle.trim.proofs.Blanks.{no-blanks, wide-blank}
+use Rattle.trim.proofs.Blanks.{wide-blank, at-wide, found, nothing}
 use borrow.Author.Needs.{needs}
 use Rattle.trim.proofs.wide_blank_at.Statement.{statement}
 use Rattle.trim.proofs.wide_blank_at.Tie as tie
@@ -15,7 +14,7 @@ sub-if1 c = search needs
 returns : tie.Need-returns
 returns c =
     let a = c .before .before .args in
-    no-blanks (now (a .s)) (a .at) (a .at + 0) (omega arith) (omega arith)
+    nothing (now (a .s)) (a .at) (omega arith) (at-wide (now (a .s)) (a .at) (omega arith) (λ h. absurd (omega arith)))
 
 shared-slice-read-is-white3 : tie.Need-shared-slice-read-is-white3
 shared-slice-read-is-white3 c = search needs
@@ -38,12 +37,12 @@ is-white3-requires c κs = search needs
 returns-2 : tie.Need-returns-2
 returns-2 c =
     let a = c .before .before .before .before .before .before .before .args in
-    wide-blank (now (a .s)) (a .at) (omega arith) (sym (c .before .is-white3 .ensures) ∙ c .if2 .taken)
+    found (now (a .s)) (a .at) 3 (λ e. omega arith) (wide-blank (now (a .s)) (a .at) (omega arith) (sym (c .before .is-white3 .ensures) ∙ c .if2 .taken))
 
 returns-3 : tie.Need-returns-3
 returns-3 c =
     let a = c .before .before .before .before .before .before .before .args in
-    no-blanks (now (a .s)) (a .at) (a .at + 0) (omega arith) (omega arith)
+    nothing (now (a .s)) (a .at) (omega arith) (at-wide (now (a .s)) (a .at) (omega arith) (λ h. sym (c .before .is-white3 .ensures) ∙ c .if2 .left))
 
 pub wide-blank-at-spec : {M : Type 1} → statement M
 wide-blank-at-spec =

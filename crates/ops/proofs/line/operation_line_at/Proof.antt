@@ -21,9 +21,6 @@ enum-known-plain c = search needs
 enum-told : tie.Need-enum-told
 enum-told c = search needs
 
-skipped-line-at-requires : tie.Need-skipped-line-at-requires
-skipped-line-at-requires c κs = search needs
-
 returns : tie.Need-returns
 returns c = search needs
 
@@ -68,7 +65,7 @@ returns-4 c =
     let text = now (a .text) in
     λ line. operation-read text (a .at) (a .first) (c .before .before .before .before .before .before .before .before .before .before .pre) line _ _ _ _
     (subst (PlainRead text (a .first)) (c .before .before .before .before .before .before .plain .given .1) (c .before .before .before .before .before .before .before .before .plain-at .ensures))
-    (c .before .before .blanks-end .ensures) (sym (c .before .one2 .ensures) ∙ not-false _ (c .if2 .left))
+    (c .before .before .blanks-end .ensures .blanks) (sym (c .before .one2 .ensures) ∙ not-false _ (c .if2 .left))
 
 pub operation-line-at-spec : {M : Type 1} → statement M
 operation-line-at-spec =
@@ -77,7 +74,6 @@ operation-line-at-spec =
     plain-at-requires
     enum-known-plain
     enum-told
-    skipped-line-at-requires
     returns
     one-requires
     add-t10
