@@ -63,38 +63,29 @@ fn known_line_at(text: &[u8], at: usize) -> Known
     if text.len() <= at {
         return Known::Unknown;
     }
-    if in_range(b'$', 0x7F, text[at]) {
-        return operation_line_at(text, at, at);
-    }
-    other_line_at(text, at, trim::blanks_end(text, at))
+    let first = first_at(text, at);
+    operation_line_at(text, at, first)
 }
 
-// White_Space alone, a remark or an operation, with White_Space before it, from at to first.
-fn other_line_at(text: &[u8], at: usize, first: usize) -> Known
-    requires { ⌜ Blanks (now text) at first ⌝ }
-    ensures { λ r. ⌜ KnownRead (now (text .entry)) at r ⌝ }
+// A place behind White_Space at the start of a line.
+fn first_at(text: &[u8], at: usize) -> usize
+    requires { ⌜ at < length (now text) ⌝ }
+    ensures { λ r. ⌜ Blanks (now (text .entry)) at r ⌝ }
 {
-    if one(text, first, b'\n') {
-        return Known::Skip(first + 1);
+    if in_range(b'$', 0x7F, text[at]) {
+        return at;
     }
-    if !one(text, first, b'#') {
-        return operation_line_at(text, at, first);
-    }
-    let feed = lines::line_feed(text, first);
-    if feed < text.len() {
-        return Known::Skip(feed + 1);
-    }
-    Known::Unknown
+    trim::blanks_end(text, at)
 }
 
-// An operation with White_Space before it, from at to first, and behind it.
+// An operation with White_Space before it, from at to first, and behind it; or a line that is skipped.
 fn operation_line_at(text: &[u8], at: usize, first: usize) -> Known
     requires { ⌜ Blanks (now text) at first ⌝ }
     ensures { λ r. ⌜ KnownRead (now (text .entry)) at r ⌝ }
 {
     let plain = plain_at(text, first);
     let Plain::Op { kind, operand, end } = plain else {
-        return Known::Unknown;
+        return skipped_line_at(text, at, first);
     };
     if one(text, end, b'\n') {
         return Known::Op {
@@ -112,6 +103,24 @@ fn operation_line_at(text: &[u8], at: usize, first: usize) -> Known
         operand,
         next: feed + 1,
     }
+}
+
+// White_Space alone, or a remark with White_Space before it, from at to first.
+fn skipped_line_at(text: &[u8], at: usize, first: usize) -> Known
+    requires { ⌜ Blanks (now text) at first ⌝ }
+    ensures { λ r. ⌜ KnownRead (now (text .entry)) at r ⌝ }
+{
+    if one(text, first, b'\n') {
+        return Known::Skip(first + 1);
+    }
+    if !one(text, first, b'#') {
+        return Known::Unknown;
+    }
+    let feed = lines::line_feed(text, first);
+    if feed < text.len() {
+        return Known::Skip(feed + 1);
+    }
+    Known::Unknown
 }
 
 fn any_line_at(text: &[u8], at: usize, line: usize) -> Reached

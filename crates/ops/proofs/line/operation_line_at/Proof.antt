@@ -21,6 +21,9 @@ enum-known-plain c = search needs
 enum-told : tie.Need-enum-told
 enum-told c = search needs
 
+skipped-line-at-requires : tie.Need-skipped-line-at-requires
+skipped-line-at-requires c κs = search needs
+
 returns : tie.Need-returns
 returns c = search needs
 
@@ -74,6 +77,7 @@ operation-line-at-spec =
     plain-at-requires
     enum-known-plain
     enum-told
+    skipped-line-at-requires
     returns
     one-requires
     add-t10

@@ -1,4 +1,4 @@
--- `line::other_line_at` meets its contract: White_Space alone and remarks are skipped, and anything else may be an operation.
+-- `line::skipped_line_at` meets its contract: White_Space alone and remarks are skipped.
 -- Assumes nothing.
 use Prim.Native.Nat.{ℕ, _+_, _<_}
 use mathlib.Core.Path.{sym, ap, subst, _∙_}
@@ -8,8 +8,8 @@ use denote.Ref.{now}
 use Rattle.ops.specs.declared.line.LineRead.the-variants.{Skip}
 use Rattle.ops.proofs.BlankLines.{blank-read, remark-read}
 use borrow.Author.Needs.{needs}
-use Rattle.ops.proofs.line.other_line_at.Statement.{statement}
-use Rattle.ops.proofs.line.other_line_at.Tie as tie
+use Rattle.ops.proofs.line.skipped_line_at.Statement.{statement}
+use Rattle.ops.proofs.line.skipped_line_at.Tie as tie
 
 one-requires : tie.Need-one-requires
 one-requires c κs = search needs
@@ -24,9 +24,6 @@ returns c =
 
 one-requires-2 : tie.Need-one-requires-2
 one-requires-2 c κs = search needs
-
-operation-line-at-requires : tie.Need-operation-line-at-requires
-operation-line-at-requires c κs = search needs
 
 returns-2 : tie.Need-returns-2
 returns-2 c = search needs
@@ -49,15 +46,14 @@ returns-3 c =
 returns-4 : tie.Need-returns-4
 returns-4 c = search needs
 
-pub other-line-at-spec : {M : Type 1} → statement M
-other-line-at-spec =
+pub skipped-line-at-spec : {M : Type 1} → statement M
+skipped-line-at-spec =
     tie.close
     (tie.spec
     one-requires
     add-t6
     returns
     one-requires-2
-    operation-line-at-requires
     returns-2
     line-feed-requires
     add-t10
