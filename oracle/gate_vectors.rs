@@ -3,10 +3,12 @@
 #[path = "../../shared/docs/src/src/context.rs"]
 #[allow(dead_code)]
 mod context;
-use context::{execution_gate, ChainContext, ContextError};
+mod gate_numbers;
+use context::{execution_gate, ChainContext};
+use gate_numbers::context_number;
 use std::fmt::Write;
 
-fn number(t: &[String; 8]) -> u32 {
+fn number(t: &[String; 8]) -> u64 {
     let context = ChainContext {
         chain_id: t[0].clone(),
         network_id: t[1].clone(),
@@ -16,12 +18,7 @@ fn number(t: &[String; 8]) -> u32 {
     };
     match execution_gate(&context, &t[5], &t[6], &t[7]) {
         Ok(()) => 0,
-        Err(ContextError::InvalidChainId) => 35,
-        Err(ContextError::InvalidNetworkId) => 36,
-        Err(ContextError::InvalidGenesisId) => 37,
-        Err(ContextError::ProtocolMismatch) => 38,
-        Err(ContextError::VmMismatch) => 39,
-        Err(ContextError::GenesisMismatch) => 40,
+        Err(e) => context_number(&e),
     }
 }
 

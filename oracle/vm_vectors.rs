@@ -7,10 +7,12 @@
 #![allow(dead_code)]
 #[path = "../../shared/docs/src/src/context.rs"]
 mod context;
+mod gate_numbers;
 mod kinds;
 #[path = "../../shared/docs/src/src/vm.rs"]
 mod vm;
-use context::{ChainContext, ContextError};
+use context::ChainContext;
+use gate_numbers::context_number;
 use kinds::op;
 use std::collections::{BTreeMap, HashSet};
 use vm::{Vm, VmError};
@@ -30,17 +32,6 @@ const STORE: u8 = 12;
 const CALLER: u8 = 13;
 const JUMP_IF_ZERO: u8 = 14;
 const HALT: u8 = 15;
-
-fn context_number(e: &ContextError) -> u64 {
-    match e {
-        ContextError::InvalidChainId => 35,
-        ContextError::InvalidNetworkId => 36,
-        ContextError::InvalidGenesisId => 37,
-        ContextError::ProtocolMismatch => 38,
-        ContextError::VmMismatch => 39,
-        ContextError::GenesisMismatch => 40,
-    }
-}
 
 /// Document 01's number of a refusal and what it carries. The original has one name for 43 and 50: 43 is its verifier's.
 fn refusal(e: &VmError, verifier: bool) -> Vec<u64> {

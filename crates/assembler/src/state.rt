@@ -102,7 +102,8 @@ pub fn put(table: Bindings, name: Span, expr: Span, k: u64, p: u64) -> Bindings
     t
 }
 
-// The same beside the table.
+// The same beside the table, at the binding's number. The loops call it with the count that the table had, which is below 256, and with the
+// figures that they gave to `put`.
 pub fn put_value(values: Values, i: usize, read: Read) -> Values
     requires { ⌜ (i < 256) × Small read ⌝ }
     ensures { λ r. ⌜ PutValue values i read r ⌝ }

@@ -43,7 +43,8 @@ pub fn trim_end<'a>(s: &'a [u8]) -> &'a [u8]
     &s[..e]
 }
 
-// Where the White_Space ends that stands from a position on: that of one byte but line feeds, and that of three.
+// Where the White_Space ends that stands from a position on: that of one byte but line feeds, and that of three. The ops reader calls it at
+// the start of a line of its text and behind an operation that it has read there.
 pub fn blanks_end(s: &[u8], at: usize) -> usize
     requires { ⌜ at ≤ length (now s) ⌝ }
     ensures { λ r. ⌜ BlanksTo (now (s .entry)) at r ⌝ }

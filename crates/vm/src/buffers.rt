@@ -1,4 +1,4 @@
-// Copies and zeros in the lent buffers.
+// Copies and zeros in the lent buffers. The run calls them with lengths that lie within both buffers, by the test of lengths (34).
 ghost use mathlib.Core.Path.{_≡_};
 ghost use mathlib.Core.List.{_++_};
 ghost use Prim.Native.Nat.{_-_, _≤_};

@@ -15,6 +15,7 @@ use super::slots;
 use super::verify;
 use machine::Regs;
 
+// `run_with_gas` and the transition come here behind their test of lengths (34).
 pub fn verified_run(
     kinds: &[u8],
     operands: &[u64],

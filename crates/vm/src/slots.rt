@@ -5,7 +5,7 @@ ghost use lib.ListN.{length};
 ghost use Rattle.vm.specs.Reach.{Enough, Reaches};
 
 // Of the used slots those below the result are all that the program names. Where it has more operations than an eighth
-// of the used slots, to look at it is no gain over copying them, and all of them are taken.
+// of the used slots, to look at it is no gain over copying them, and all of them are taken. `run` calls it behind the test of lengths (34).
 pub fn reach(kinds: &[u8], operands: &[u64], used: usize) -> usize
     requires { ⌜ length (now kinds) ≡ length (now operands) ⌝ }
     ensures { λ r. ⌜ Reaches (now (kinds .entry)) (now (operands .entry)) (length (now (kinds .entry))) used r ⌝ }

@@ -1,18 +1,8 @@
 //! `execution_gate`. Contexts are UTF-8, since the original's are `String`s.
-use crate::context::{execution_gate, ChainContext, ContextError};
+use crate::context::{execution_gate, ChainContext};
+use crate::gate_numbers::context_number;
 use crate::library;
 use crate::tally::*;
-
-pub fn number(e: &ContextError) -> u64 {
-    match e {
-        ContextError::InvalidChainId => 35,
-        ContextError::InvalidNetworkId => 36,
-        ContextError::InvalidGenesisId => 37,
-        ContextError::ProtocolMismatch => 38,
-        ContextError::VmMismatch => 39,
-        ContextError::GenesisMismatch => 40,
-    }
-}
 
 pub type Texts = [String; 8];
 
@@ -27,7 +17,7 @@ pub fn context(t: &Texts) -> ChainContext {
 }
 
 fn check(t: &Texts) -> Result<Seen, String> {
-    let wanted = execution_gate(&context(t), &t[5], &t[6], &t[7]).map_or_else(|e| number(&e), |_| 0);
+    let wanted = execution_gate(&context(t), &t[5], &t[6], &t[7]).map_or_else(|e| context_number(&e), |_| 0);
     let got = library::execution_gate(&t.each_ref().map(|s| s.as_bytes()));
     if got == wanted {
         Ok(Seen::Compared(got))

@@ -3,6 +3,8 @@
 include!(concat!(env!("OUT_DIR"), "/original.rs"));
 mod assemble;
 mod gate;
+#[path = "../../gate_numbers.rs"]
+mod gate_numbers;
 #[path = "../../kinds.rs"]
 mod kinds;
 mod library;

@@ -4,6 +4,7 @@
 //! before it; Halt, which is free, shows when every Halt is replaced by a jump to itself.
 use crate::assembler::{assemble_text, Assembled};
 use crate::gate::{self, Texts};
+use crate::gate_numbers::context_number;
 use crate::kinds::{kind_and_operand, op};
 use crate::library::{self, Answer};
 use crate::ops::parse_ops;
@@ -63,7 +64,7 @@ fn ask(ops: Vec<Op>, s: &Setting, limit: u64, storage: &[u64]) -> Asked {
 
 fn number(e: &VmError, used: usize) -> (u64, [u64; 2]) {
     match *e {
-        VmError::Context(ref c) => (gate::number(c), [0; 2]),
+        VmError::Context(ref c) => (context_number(c), [0; 2]),
         VmError::InvalidProgram("empty program") => (41, [0; 2]),
         VmError::ProgramTooLarge { size, .. } => (42, [size as u64, 0]),
         VmError::StorageLimitExceeded { requested, .. } if used > 65_536 => (43, [requested as u64, 0]),
