@@ -1,6 +1,7 @@
 // What a refusal carries, as a line or a key.
 ghost use mathlib.Core.Path.{_≡_};
-ghost use Rattle.assembler.specs.Numbers.{refusalOf};
+ghost use Rattle.numbered.specs.Numbered.{eight};
+ghost use Rattle.assembler.specs.Numbers.{refusalNumbered};
 ghost use Rattle.assemble.specs.Carried.{carried};
 use assembler::refusal::Refusal;
 
@@ -12,7 +13,7 @@ pub enum Place {
 }
 
 pub fn place_of(why: Refusal) -> Place
-    ensures { λ r. ⌜ carried r ≡ refusalOf why .values ⌝ }
+    ensures { λ r. ⌜ eight (carried r) ≡ refusalNumbered why .words ⌝ }
 {
     match why {
         Refusal::NoKey(place) => Place::Key(place),

@@ -24,7 +24,7 @@ pub fn unreadable(path: &[u8]) {
 }
 
 pub fn refused(why: Refusal) {
-    let refusal = numbers::of_refusal(why);
+    let refusal = why.numbered();
     let number = refusal.number;
     io::write_all(STDERR_FILENO, b"assemble: ");
     io::print_decimal(STDERR_FILENO, number);

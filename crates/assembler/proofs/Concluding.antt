@@ -31,11 +31,11 @@ use Rattle.assembler.specs.declared.state.Status.{Status}
 use Rattle.assembler.specs.declared.state.Status.the-variants.{Going, Refused}
 use Rattle.assembler.specs.declared.state.State as Code
 use Rattle.assembler.specs.Part.{part}
-use Rattle.assembler.specs.Refusal.{plain}
+use Rattle.numbered.specs.Numbered.{plain}
 use Rattle.assembler.specs.State.{State, Outcome, goes, andThen, started}
 use Rattle.assembler.specs.Parameters.{parametersBound}
 use Rattle.assembler.specs.Body.{linesRead}
-use Rattle.assembler.specs.Numbers.{refusalOf}
+use Rattle.assembler.specs.Numbers.{refusalNumbered}
 use Rattle.assembler.specs.Stored.{noBindings, noValues, nothingYet}
 use Rattle.assembler.specs.Held.{LastIs, Represents, Good, Leads, Follows, Within, isRefused}
 use Rattle.assembler.specs.Assembled.{Assembled, accepted, rejected, readable, bodyRead, compared, returned, concluded, functionRead, assembledTree}
@@ -44,7 +44,7 @@ use Rattle.assembler.proofs.Sourced.{env-none}
 use Rattle.assembler.proofs.Leading.{leads-off, by-leads, represents-later, leads-later}
 
 -- an answer that is refused
-pub concludes-off : {s : List ℕ} {o : Assembled} {r : Assembly} {why : Refusal} → r ≡ rejectedFor why → o ≡ rejected (refusalOf why) → Concludes s o r
+pub concludes-off : {s : List ℕ} {o : Assembled} {r : Assembly} {why : Refusal} → r ≡ rejectedFor why → o ≡ rejected (refusalNumbered why) → Concludes s o r
 concludes-off {s} {o} f e = subst (λ (x : Assembly). Concludes s o x) (sym f) (record { by = (e, refl) })
 
 pub concludes-on : {s : List ℕ} {o : Assembled} {r : Assembly} {st : State} {t : Tree} → Represents s (r .state) st → st .last ≡ some t → o ≡ accepted (r .expected) t → Concludes s o r
@@ -109,7 +109,7 @@ module _ (a : Code.State) (expected : ℕ) where
     is = λ s whole l.
         by-leads l
         (λ st q e. never (sym (ap isRefused b) ∙ ap isRefused (q .going)))
-        (λ other t e. concludes-off refl (ap (concluded expected) e ∙ ap (λ (w : Refusal). rejected (refusalOf w)) (ap (refusalIn why) (sym t ∙ b))));
+        (λ other t e. concludes-off refl (ap (concluded expected) e ∙ ap (λ (w : Refusal). rejected (refusalNumbered w)) (ap (refusalIn why) (sym t ∙ b))));
   }
 
   module _ (b : a .status ≡ Going) where
@@ -120,7 +120,7 @@ module _ (a : Code.State) (expected : ℕ) where
     pub end-nothing : a .last ≡ Last.Nothing → ConcludesAll a expected (rejectedFor NoReturn)
     end-nothing e = by-states (λ s st q. concludes-off refl (go s (st .last) (subst (λ (x : Last). LastIs s (a .table) (a .values) x (st .last)) e (q .last))))
       where
-        go : (s : List ℕ) (x : Option Tree) → LastIs s (a .table) (a .values) Last.Nothing x → returned expected x ≡ rejected (refusalOf NoReturn)
+        go : (s : List ℕ) (x : Option Tree) → LastIs s (a .table) (a .values) Last.Nothing x → returned expected x ≡ rejected (refusalNumbered NoReturn)
         go s none h = refl
         go s (some t) h = absurd h
 

@@ -9,7 +9,7 @@ use Rattle.token.specs.Token.{scan}
 use Rattle.expression.specs.Tree.{Tree, num, bin, valueOf, kOf, pOf}
 use Rattle.expression.specs.Parse.{parseF, meaning}
 use Rattle.ops.specs.Ascii.{ascii}
-use Rattle.assembler.specs.Refusal.{plain, carrying}
+use Rattle.numbered.specs.Numbered.{plain, carrying}
 use Rattle.assembler.specs.State.{refused, started, each}
 use Rattle.assembler.specs.Body.{linesRead}
 use Rattle.number.specs.Decimal.{decimal}
@@ -51,12 +51,12 @@ unfolding assembledTree each meaning parseF scan
 unused-division = refl
 
 -- `return a;` on line 2
-semicolon : assembledTree (ascii "fn f(){let a = 1\nreturn a;}") (ascii "\"expected\":1") ≡ rejected (carrying 13 2)
+semicolon : assembledTree (ascii "fn f(){let a = 1\nreturn a;}") (ascii "\"expected\":1") ≡ rejected (carrying 13 (2 ∷ []))
 unfolding assembledTree each meaning parseF scan
 semicolon = refl
 
 -- `let x = 1 // c` on line 3, behind an empty line and one that is a remark
-remark : assembledTree (ascii "fn f(){\n// r\nlet x = 1 // c}") (ascii "\"expected\":1") ≡ rejected (carrying 17 3)
+remark : assembledTree (ascii "fn f(){\n// r\nlet x = 1 // c}") (ascii "\"expected\":1") ≡ rejected (carrying 17 (3 ∷ []))
 unfolding assembledTree each meaning parseF scan
 remark = refl
 
@@ -81,7 +81,7 @@ unfolding assembledTree each meaning parseF scan
 not-expected = refl
 
 -- `let x 1` on line 1
-no-equals : assembledTree (ascii "fn f(){let x 1}") (ascii "\"expected\":1") ≡ rejected (carrying 12 1)
+no-equals : assembledTree (ascii "fn f(){let x 1}") (ascii "\"expected\":1") ≡ rejected (carrying 12 (1 ∷ []))
 unfolding assembledTree each meaning parseF scan
 no-equals = refl
 
@@ -96,12 +96,12 @@ unfolding assembledTree each meaning parseF scan
 fraction = refl
 
 -- a place counts the parameters that are kept
-kept-places : assembledTree (ascii "fn f(a,,b:u64){return a}") (ascii "\"a\":1,\"b\":x,\"expected\":1") ≡ rejected (carrying 10 2)
+kept-places : assembledTree (ascii "fn f(a,,b:u64){return a}") (ascii "\"a\":1,\"b\":x,\"expected\":1") ≡ rejected (carrying 10 (2 ∷ []))
 unfolding assembledTree each meaning parseF scan
 kept-places = refl
 
 -- `expected` has the place 0
-no-expected : assembledTree (ascii "fn f(a){}") ([]) ≡ rejected (carrying 8 0)
+no-expected : assembledTree (ascii "fn f(a){}") ([]) ≡ rejected (carrying 8 (0 ∷ []))
 unfolding assembledTree each meaning parseF scan
 no-expected = refl
 

@@ -18,7 +18,7 @@ use Rattle.assembler.specs.declared.state.Status.the-variants.{Going, Re
 use Rattle.assembler.specs.declared.state.State as Code
 use Rattle.assembler.specs.Part.{part}
 use Rattle.assembler.specs.State.{State, Outcome, goes, refused, bound}
-use Rattle.assembler.specs.Numbers.{refusalOf}
+use Rattle.assembler.specs.Numbers.{refusalNumbered}
 use Rattle.assembler.specs.Stored.{numberIn, Bound}
 use Rattle.assembler.specs.Held.{LastIs, Represents, LeadsBy, Leads}
 use Rattle.assembler.proofs.Holding.{holds-length, holds-later, holds-more}
@@ -28,12 +28,12 @@ module _ {s : List ℕ} {a : Code.State} {whole : Outcome} {rest : State → Out
   pub leads-on : {st : State} → Represents s a st → whole ≡ rest st → Leads s a whole rest
   leads-on {st} r e = record { by = subst (λ (x : Status). LeadsBy x s a whole rest) (sym (r .going)) (st, (r, e)) }
 
-  pub leads-off : {why : Refusal} → a .status ≡ Refused why → whole ≡ refused (refusalOf why) → Leads s a whole rest
+  pub leads-off : {why : Refusal} → a .status ≡ Refused why → whole ≡ refused (refusalNumbered why) → Leads s a whole rest
   leads-off f e = record { by = subst (λ (x : Status). LeadsBy x s a whole rest) (sym f) e }
 
 pub by-leads : {P : Type 0} {s : List ℕ} {a : Code.State} {whole : Outcome} {rest : State → Outcome} → Leads s a whole rest
     → ((st : State) → Represents s a st → whole ≡ rest st → P)
-    → ((why : Refusal) → a .status ≡ Refused why → whole ≡ refused (refusalOf why) → P)
+    → ((why : Refusal) → a .status ≡ Refused why → whole ≡ refused (refusalNumbered why) → P)
     → P
 by-leads {P} {s} {a} {whole} {rest} l on off = go (a .status) refl (l .by)
   where

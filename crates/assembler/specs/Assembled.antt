@@ -10,19 +10,20 @@ use Rattle.lines.specs.Lines.{lines}
 use Rattle.source.specs.declared.function.Places.{Places}
 use Rattle.source.specs.declared.function.Function.{Function}
 use Rattle.source.specs.declared.function.Function.the-variants.{Found, Refused}
-use Rattle.source.specs.Function.{functionOf, functionRefusal}
+use Rattle.source.specs.Function.{functionOf, functionErrorNumbered}
 use Rattle.source.specs.Parameters.{parameters}
 use Rattle.source.specs.Vector.{vectorNumber}
 use Rattle.expression.specs.Tree.{Tree, valueOf}
 use Rattle.assembler.specs.Part.{part}
-use Rattle.assembler.specs.Refusal.{Refusal, plain}
+use Rattle.numbered.specs.declared.Numbered.{Numbered}
+use Rattle.numbered.specs.Numbered.{plain}
 use Rattle.assembler.specs.State.{Outcome, goes, refused, andThen, started}
 use Rattle.assembler.specs.Parameters.{Keyed, is, lacks, keyed, parametersBound}
 use Rattle.assembler.specs.Body.{linesRead}
 
 pub data Assembled : Type 0 where
   accepted : ℕ → Tree → Assembled
-  rejected : Refusal → Assembled
+  rejected : Numbered → Assembled
 
 abbrev pub readable : List ℕ → Bool
 readable s = leb (length s) 65536 && utf8 s
@@ -56,7 +57,7 @@ expectedRead contract vector p (is expected) = concluded expected (bodyRead cont
 
 -- `expected` has the place 0
 abbrev pub functionRead : List ℕ → List ℕ → Function → Assembled
-functionRead contract vector (Refused e) = rejected (plain (functionRefusal e))
+functionRead contract vector (Refused e) = rejected (functionErrorNumbered e)
 functionRead contract vector (Found p) = expectedRead contract vector p (keyed (vectorNumber vector expectedKey) 0)
 
 unfoldable pub assembledTree : List ℕ → List ℕ → Assembled

@@ -14,7 +14,7 @@ use Rattle.assembler.specs.declared.state.Status.{Status}
 use Rattle.assembler.specs.declared.state.Status.the-variants.{Going, Refused}
 use Rattle.assembler.specs.declared.state.State as Code
 use Rattle.assembler.specs.State.{State, Outcome, goes}
-use Rattle.assembler.specs.Numbers.{refusalOf}
+use Rattle.assembler.specs.Numbers.{refusalNumbered}
 use Rattle.assembler.specs.Stored.{refusedAs, nothingYet}
 use Rattle.assembler.specs.Held.{LastIs, Represents, Leads}
 use Rattle.assembler.specs.Assembled.{Assembled, accepted, rejected, concluded}
@@ -34,7 +34,7 @@ rejectedFor why = record { state = refusedAs nothingYet why; expected = 0 }
 
 abbrev pub ConcludesBy : Status → List ℕ → Assembled → Assembly → Type 0
 ConcludesBy Going s o r = Accepts s o r
-ConcludesBy (Refused why) s o r = (o ≡ rejected (refusalOf why)) × (r ≡ rejectedFor why)
+ConcludesBy (Refused why) s o r = (o ≡ rejected (refusalNumbered why)) × (r ≡ rejectedFor why)
 
 -- the answer r says o of the contract s: its state holds the tree that is accepted, or the refusal
 pub record Concludes (s : List ℕ) (o : Assembled) (r : Assembly) : Type 0 where

@@ -27,7 +27,7 @@ use Rattle.assembler.specs.Part.{part}
 use Rattle.assembler.specs.Parameters.{Keyed, is, lacks}
 use Rattle.assembler.specs.State.{State, Outcome, goes, refused}
 use Rattle.assembler.specs.Body.{treeOr}
-use Rattle.assembler.specs.Numbers.{refusalOf}
+use Rattle.assembler.specs.Numbers.{refusalNumbered}
 
 -- the last return's expression stands in the text, and means t among the bindings made before its line
 pub record ReturnIs (s : List ℕ) (table : Bindings) (values : Values) (l : Returned) (t : Tree) : Type 0 where
@@ -61,7 +61,7 @@ pub record Good (s : List ℕ) (a : Code.State) : Type 0 where
 
 abbrev pub LeadsBy : Status → List ℕ → Code.State → Outcome → (State → Outcome) → Type 0
 LeadsBy Going s a whole rest = (st : State) × (Represents s a st × (whole ≡ rest st))
-LeadsBy (Refused why) s a whole rest = whole ≡ refused (refusalOf why)
+LeadsBy (Refused why) s a whole rest = whole ≡ refused (refusalNumbered why)
 
 -- the whole has come to a, and what is left to do of it is the rest; or a is its refusal
 pub record Leads (s : List ℕ) (a : Code.State) (whole : Outcome) (rest : State → Outcome) : Type 0 where
@@ -74,7 +74,7 @@ pub record Follows (s : List ℕ) (a : Code.State) (f : State → Outcome) (t : 
 -- the figures of an expression on a line, whose k is 32,768 at most; or its refusal
 abbrev pub Checks : Meaning → ℕ → Checked → Type 0
 Checks m line (Checked.Is v) = (t : Tree) × ((m ≡ tree t) × ((kOf t ≤ 32768) × Figures t v))
-Checks m line (Checked.Refused why) = (follows : Tree → Outcome) → treeOr m line follows ≡ refused (refusalOf why)
+Checks m line (Checked.Refused why) = (follows : Tree → Outcome) → treeOr m line follows ≡ refused (refusalNumbered why)
 
 -- in every environment that the table holds
 pub record ChecksAll (s : List ℕ) (c : Columns) (line : ℕ) (t : List ℕ) (r : Checked) : Type 0 where
@@ -95,4 +95,4 @@ pub record LetWithin (s : List ℕ) (name expr : Span) : Type 0 where
 
 abbrev pub keyedAs : Number → Keyed
 keyedAs (Number.Is n) = is n
-keyedAs (Number.Refused why) = lacks (refusalOf why)
+keyedAs (Number.Refused why) = lacks (refusalNumbered why)

@@ -1,5 +1,4 @@
 pub mod Part
-pub mod Refusal
 pub mod Statement
 pub mod State
 pub mod Parameters

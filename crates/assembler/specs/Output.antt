@@ -12,7 +12,8 @@ use Rattle.ops.specs.Ops.{Operation}
 use Rattle.ops.specs.Written.{writtenAll}
 use Rattle.expression.specs.Tree.{Tree, kOf, pOf}
 use Rattle.expression.specs.Written.{opsOf}
-use Rattle.assembler.specs.Refusal.{Refusal, plain}
+use Rattle.numbered.specs.declared.Numbered.{Numbered}
+use Rattle.numbered.specs.Numbered.{plain, carrying}
 use Rattle.assembler.specs.Assembled.{Assembled, accepted, rejected, assembledTree}
 
 -- not empty, at most 255 bytes, UTF-8, without a line feed
@@ -32,14 +33,18 @@ output stem expected t = header stem expected ++ writtenAll (operationsOf t)
 -- a success has the bytes written, k, p and the value; a contract is document 01's accepted where the answer is one
 pub data Answer : Type 0 where
   success : ℕ → ℕ → ℕ → ℕ → Answer
-  refusal : Refusal → Answer
+  refusal : Numbered → Answer
+
+abbrev pub assemblyNumbered : Answer → Numbered
+assemblyNumbered (success written k p value) = carrying 0 (written ∷ k ∷ p ∷ value ∷ [])
+assemblyNumbered (refusal r) = r
 
 -- the answer, and what is written at the start of the lent buffer
 pub record Assembly : Type 0 where
   pub answer : Answer
   pub text : List ℕ
 
-abbrev pub nothing : Refusal → Assembly
+abbrev pub nothing : Numbered → Assembly
 nothing r = record { answer = refusal r; text = [] }
 
 abbrev pub written : List ℕ → ℕ → Tree → ℕ → Assembly

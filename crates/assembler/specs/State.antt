@@ -7,7 +7,8 @@ use lib.Dec.{ltb}
 use lib.ListN.{length}
 use Rattle.expression.specs.Tree.{Tree}
 use Rattle.expression.specs.Parse.{Env}
-use Rattle.assembler.specs.Refusal.{Refusal, plain}
+use Rattle.numbered.specs.declared.Numbered.{Numbered}
+use Rattle.numbered.specs.Numbered.{plain}
 
 pub record State : Type 0 where
   pub env : Env
@@ -15,7 +16,7 @@ pub record State : Type 0 where
 
 pub data Outcome : Type 0 where
   goes : State → Outcome
-  refused : Refusal → Outcome
+  refused : Numbered → Outcome
 
 abbrev pub andThen : Outcome → (State → Outcome) → Outcome
 andThen (goes st) f = f st

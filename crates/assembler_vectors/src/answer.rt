@@ -1,6 +1,6 @@
 // What a call gives and leaves in the lent buffer, as text.
 use assembly::Answer;
-use numbers::Numbered;
+use numbered::Numbered;
 
 pub fn print(r: Answer, out: &[u8]) {
     match r {
@@ -18,7 +18,7 @@ pub fn print(r: Answer, out: &[u8]) {
             output(out, written);
         }
         Answer::Refused(why) => {
-            refusal(numbers::of_refusal(why));
+            refusal(why.numbered());
             rest(out, 0);
         }
     }
@@ -60,7 +60,8 @@ fn refusal(why: Numbered) {
     if why.number > 20 {
         return;
     }
-    spaced(why.first);
+    let words = why.words;
+    spaced(words[0]);
 }
 
 fn spaced(n: u64) {

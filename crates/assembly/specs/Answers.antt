@@ -6,7 +6,7 @@ use mathlib.Core.Bool.{true}
 use lib.ListN.{length}
 use Rattle.ops.specs.Ops.{onto}
 use Rattle.assembler.specs.declared.assembly.Assembly as Code
-use Rattle.assembler.specs.Numbers.{refusalOf}
+use Rattle.assembler.specs.Numbers.{refusalNumbered}
 use Rattle.assembler.specs.Assembled.{Assembled}
 use Rattle.assembler.specs.Concluded.{Accepts}
 use Rattle.assembler.specs.Output as Output
@@ -17,7 +17,7 @@ use Rattle.assembly.specs.declared.Answer.the-variants.{Success, Refused
 -- document 01's numbers and values of each case
 abbrev pub answerOf : Answer → Output.Answer
 answerOf (Success written k p value) = success written k p value
-answerOf (Refused why) = refusal (refusalOf why)
+answerOf (Refused why) = refusal (refusalNumbered why)
 
 -- the answer and the buffer are those of an assembly: its text stands at the start of the buffer, all else is as before
 pub record Assembles (a : Output.Assembly) (out after : List ℕ) (r : Answer) : Type 0 where

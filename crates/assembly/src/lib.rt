@@ -1,7 +1,8 @@
 // Assembly: a contract and its vector to ops text in a lent buffer.
+ghost use mathlib.Core.Path.{_≡_};
 ghost use lib.ListN.{length};
-ghost use Rattle.assembler.specs.Output.{assembled};
-ghost use Rattle.assembly.specs.Answers.{Assembles};
+ghost use Rattle.assembler.specs.Output.{assembled, assemblyNumbered};
+ghost use Rattle.assembly.specs.Answers.{answerOf, Assembles};
 
 mod header;
 mod output;
@@ -10,6 +11,8 @@ mod stem;
 use assembler::assembly::checked;
 use assembler::refusal::Refusal;
 use assembler::state::Status;
+use numbered::Numbered;
+use numbered::carrying_four;
 use output::write_output;
 use stem::stem_fits;
 
@@ -22,6 +25,22 @@ pub enum Answer {
         value: u64,
     },
     Refused(Refusal),
+}
+
+impl Answer {
+    pub fn numbered(self) -> Numbered
+        ensures { λ r. ⌜ r ≡ assemblyNumbered (answerOf self) ⌝ }
+    {
+        match self {
+            Answer::Success {
+                written,
+                k,
+                p,
+                value,
+            } => carrying_four(0, written as u64, k, p, value),
+            Answer::Refused(why) => why.numbered(),
+        }
+    }
 }
 
 // Nothing is written unless all of it fits.

@@ -3,24 +3,24 @@ use Prim.Native.Nat.{ℕ, _+_, _-_, min}
 use mathlib.Core.Path.{_≡_}
 use mathlib.Core.List.{List, [], _∷_}
 use lib.ListN.{length, take, drop}
+use Rattle.numbered.specs.declared.Numbered.{Numbered}
+use Rattle.numbered.specs.Numbered.{carrying}
 use Rattle.lines.specs.declared.Step.{Step}
 use Rattle.lines.specs.declared.Step.the-variants.{Next, Done}
 use Rattle.trim.specs.Trim.{trimmed, passed}
-use Rattle.ops.specs.Ops.{readText, answerOf, opsOf, kindsOf, operandsOf, onto, numberOfAnswer, valuesOfAnswer, lineNumbered}
-use Rattle.assembler.specs.Output.{Assembly}
+use Rattle.ops.specs.Ops.{readText, answerOf, opsOf, kindsOf, operandsOf, onto, lineNumbered}
+use Rattle.ops.specs.Numbers.{parsedOpsNumbered}
+use Rattle.assembler.specs.Output.{Assembly, assemblyNumbered}
 use Rattle.vm.specs.Transition.{Result}
 use Rattle.vm.specs.Numbers.{answerNumbered}
-use Rattle.numbers.specs.Numbered.{assemblyNumber, assemblyValues}
-use Rattle.atc_vm.specs.Words.{eight}
+use Rattle.atc_vm.specs.Words.{Tells}
 
 pub record Assembled (a : Assembly) (out outAfter words : List ℕ) (r : ℕ) : Type 0 where
-  pub number : r ≡ assemblyNumber (a .answer)
-  pub values : words ≡ eight (assemblyValues (a .answer))
+  pub tells : Tells (assemblyNumbered (a .answer)) words r
   pub buffer : outAfter ≡ onto (a .text) out
 
 pub record Read (text kinds operands kindsAfter operandsAfter words : List ℕ) (r : ℕ) : Type 0 where
-  pub number : r ≡ numberOfAnswer (answerOf (readText text (min (length kinds) (length operands))))
-  pub values : words ≡ eight (valuesOfAnswer (answerOf (readText text (min (length kinds) (length operands)))))
+  pub tells : Tells (parsedOpsNumbered (answerOf (readText text (min (length kinds) (length operands))))) words r
   pub kindsWritten : kindsAfter ≡ onto (kindsOf (opsOf (readText text (min (length kinds) (length operands))))) kinds
   pub operandsWritten : operandsAfter ≡ onto (operandsOf (opsOf (readText text (min (length kinds) (length operands))))) operands
 
@@ -31,12 +31,11 @@ placeIn text (Next l) =
     let line = take (l .end - l .start) (drop (l .start) text) in
     (l .start + passed line) ∷ length (trimmed line) ∷ []
 
-abbrev pub placeOf : List ℕ → ℕ → List ℕ
-placeOf text line = placeIn text (lineNumbered text line)
+abbrev pub placeNumbered : List ℕ → ℕ → Numbered
+placeNumbered text line = carrying 0 (placeIn text (lineNumbered text line))
 
 pub record Ran (t : Result) (stack work storage words : List ℕ) (r : ℕ) : Type 0 where
-  pub number : r ≡ answerNumbered (t .answer) .number
-  pub values : words ≡ eight (answerNumbered (t .answer) .carried)
+  pub tells : Tells (answerNumbered (t .answer)) words r
   pub stackLeft : stack ≡ t .stack
   pub workLeft : work ≡ t .work
   pub storageLeft : storage ≡ t .storage

@@ -1,25 +1,25 @@
 // The C ABI: each call of document 01, with its number as the result and what the answer carries in eight words.
 ghost use mathlib.Core.Path.{_≡_};
 ghost use lib.ListN.{length};
-ghost use Rattle.context.specs.Gate.{gateOf, gateNumber};
+ghost use Rattle.context.specs.Gate.{gateOf, gateNumbered};
 ghost use Rattle.context.specs.declared.Gate.the-variants as gate;
 ghost use Rattle.assembler.specs.Output.{assembled};
 ghost use Rattle.vm.specs.Verify.{verifyOf};
 ghost use Rattle.vm.specs.Numbers.{checkNumbered};
 ghost use Rattle.vm.specs.Transition.{transitionOf};
-ghost use Rattle.numbers.specs.Numbered.{Says};
-ghost use Rattle.atc_vm.specs.Words.{Tells, eight};
-ghost use Rattle.atc_vm.specs.Calls.{Assembled, Read, Ran, placeOf};
+ghost use Rattle.atc_vm.specs.Words.{Tells};
+ghost use Rattle.atc_vm.specs.Calls.{Assembled, Read, Ran, placeNumbered};
 use lines::Step;
-use numbers::Numbered;
+use numbered::Numbered;
+use numbered::carrying_two;
+use numbered::plain;
 use source::parameters::trimmed_span;
 use vm::State;
 
-// The number is the result, the values are the first of the eight words, and the others are 0.
 fn tell(answer: &mut [u64; 8], n: Numbered) -> u64
     ensures { λ r. ⌜ Tells n (now (answer .exit)) r ⌝ }
 {
-    *answer = [n.first, n.second, n.third, n.fourth, 0, 0, 0, 0];
+    *answer = n.words;
     n.number
 }
 
@@ -34,7 +34,7 @@ pub extern "C" fn atc_assemble(
     ensures { λ r. ⌜ Assembled (assembled (now (contract .entry)) (now (vector .entry)) (now (stem .entry)) (length (now (out .entry)))) (now (out .entry)) (now (out .exit)) (now (answer .exit)) r ⌝ }
 {
     let assembled = assembly::assemble(contract, vector, stem, out);
-    tell(answer, numbers::of_assembly(assembled))
+    tell(answer, assembled.numbered())
 }
 
 #[no_mangle]
@@ -47,40 +47,24 @@ pub extern "C" fn atc_parse_ops(
     ensures { λ r. ⌜ Read (now (text .entry)) (now (kinds .entry)) (now (operands .entry)) (now (kinds .exit)) (now (operands .exit)) (now (answer .exit)) r ⌝ }
 {
     let read = ops::parse_ops(text, kinds, operands);
-    tell(answer, numbers::of_reading(read))
+    tell(answer, read.numbered())
 }
 
 // The place and the length of the trimmed line of a number from 1; 0 and 0 where there is none.
 #[no_mangle]
 pub extern "C" fn atc_trimmed_line(text: &[u8], line: u64, answer: &mut [u64; 8]) -> u64
-    ensures { λ r. ⌜ (r ≡ 0) × (now (answer .exit) ≡ eight (placeOf (now (text .entry)) line)) ⌝ }
+    ensures { λ r. ⌜ Tells (placeNumbered (now (text .entry)) line) (now (answer .exit)) r ⌝ }
 {
     let step = ops::nth_line(text, line as usize);
     match step {
-        Step::Done => tell(
-            answer,
-            Numbered {
-                number: 0,
-                first: 0,
-                second: 0,
-                third: 0,
-                fourth: 0,
-            },
-        ),
+        Step::Done => tell(answer, plain(0)),
         Step::Next(l) => {
             let start = l.start;
             let end = l.end;
             let span = trimmed_span(&text[start..end]);
-            tell(
-                answer,
-                Numbered {
-                    number: 0,
-                    first: (start + span.start) as u64,
-                    second: (span.end - span.start) as u64,
-                    third: 0,
-                    fourth: 0,
-                },
-            )
+            let place = start + span.start;
+            let len = span.end - span.start;
+            tell(answer, carrying_two(0, place as u64, len as u64))
         }
     }
 }
@@ -96,7 +80,7 @@ pub extern "C" fn atc_execution_gate(
     expected_protocol: &[u8],
     expected_vm: &[u8],
 ) -> u64
-    ensures { λ r. ⌜ r ≡ gateNumber (gateOf (now («chain_id» .entry)) (now («network_id» .entry)) (now («genesis_id» .entry)) (now («protocol_version» .entry)) (now («vm_version» .entry)) (now («computed_genesis_id» .entry)) (now («expected_protocol» .entry)) (now («expected_vm» .entry))) ⌝ }
+    ensures { λ r. ⌜ r ≡ gateNumbered (gateOf (now («chain_id» .entry)) (now («network_id» .entry)) (now («genesis_id» .entry)) (now («protocol_version» .entry)) (now («vm_version» .entry)) (now («computed_genesis_id» .entry)) (now («expected_protocol» .entry)) (now («expected_vm» .entry))) .number ⌝ }
 {
     let gate = context::execution_gate(
         chain_id,
@@ -108,7 +92,8 @@ pub extern "C" fn atc_execution_gate(
         expected_protocol,
         expected_vm,
     );
-    numbers::of_gate(gate)
+    let told = gate.numbered();
+    told.number
 }
 
 #[no_mangle]
@@ -118,10 +103,10 @@ pub extern "C" fn atc_verify(
     used: u64,
     answer: &mut [u64; 8],
 ) -> u64
-    ensures { λ r. ⌜ (r ≡ checkNumbered (verifyOf (now (kinds .entry)) (now (operands .entry)) used) .number) × (now (answer .exit) ≡ eight (checkNumbered (verifyOf (now (kinds .entry)) (now (operands .entry)) used) .carried)) ⌝ }
+    ensures { λ r. ⌜ Tells (checkNumbered (verifyOf (now (kinds .entry)) (now (operands .entry)) used)) (now (answer .exit)) r ⌝ }
 {
     let check = vm::verify::verify(kinds, operands, used as usize);
-    tell(answer, numbers::of_check(check))
+    tell(answer, check.numbered())
 }
 
 #[no_mangle]
@@ -151,7 +136,7 @@ pub extern "C" fn atc_run_with_gas(
         storage,
         state,
     );
-    tell(answer, numbers::of_run(ran))
+    tell(answer, ran.numbered())
 }
 
 #[no_mangle]
@@ -197,7 +182,7 @@ pub extern "C" fn atc_execute_state_transition_with_gas(
         storage,
         state,
     );
-    tell(answer, numbers::of_run(ran))
+    tell(answer, ran.numbered())
 }
 
 #[no_mangle]

@@ -12,7 +12,7 @@ use Rattle.machine.specs.Operation.{decode}
 use Rattle.machine.specs.Machine.{runOf, whole}
 use Rattle.machine.specs.declared.Refusal.the-variants.{OutOfGas}
 use Rattle.vm.specs.declared.Answer.the-variants.{Success, Refused}
-use Rattle.vm.specs.Numbers.{plain}
+use Rattle.numbered.specs.Numbered.{plain, carrying}
 use Rattle.vm.specs.Verify.{operationsCheck}
 use Rattle.vm.specs.Transition.{up}
 use Rattle.expression.specs.Parse.{parseF, meaning}
@@ -76,7 +76,7 @@ short-out : (numbered (compileOf (tally 7 (lent 66 6)) .answer) ≡ plain 26) ×
 unfolding compileOf assembled output decimal assembledTree each meaning parseF scan contract vector
 short-out = (refl, refl)
 
-short-program : (numbered (compileOf (tally 7 (lent 67 5)) .answer) ≡ record { number = 32; carried = 8 ∷ [] }) × (compileOf (tally 7 (lent 67 5)) .left ≡ record { out = text; kinds = replicate 5 9; operands = replicate 5 9; stack = replicate 4096 9; work = 9 ∷ []; storage = 8 ∷ [] })
+short-program : (numbered (compileOf (tally 7 (lent 67 5)) .answer) ≡ carrying 32 (8 ∷ [])) × (compileOf (tally 7 (lent 67 5)) .left ≡ record { out = text; kinds = replicate 5 9; operands = replicate 5 9; stack = replicate 4096 9; work = 9 ∷ []; storage = 8 ∷ [] })
 unfolding compileOf assembled output decimal assembledTree each meaning parseF scan contract vector
 short-program = (refl, refl)
 

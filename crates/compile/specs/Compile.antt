@@ -3,6 +3,7 @@ use Prim.Native.Nat.{ℕ, min}
 use mathlib.Core.Path.{_≡_}
 use mathlib.Core.List.{List}
 use lib.ListN.{length}
+use Rattle.numbered.specs.declared.Numbered.{Numbered}
 use Rattle.ops.specs.Ops.{Operation, Reading, ops, refused, readText, kindsOf, operandsOf, onto}
 use Rattle.ops.specs.declared.OpsError.{OpsError}
 use Rattle.context.specs.declared.Gate.{Gate}
@@ -10,8 +11,7 @@ use Rattle.vm.specs.declared.State.{State}
 use Rattle.vm.specs.declared.Answer as vm
 use Rattle.vm.specs.Transition as Transition
 use Rattle.vm.specs.Transition.{transitionOf}
-use Rattle.assembler.specs.Refusal.{Refusal}
-use Rattle.assembler.specs.Numbers.{refusalOf}
+use Rattle.assembler.specs.Numbers.{refusalNumbered}
 use Rattle.assembler.specs.Output as Output
 use Rattle.assembler.specs.Output.{success, refusal, assembled}
 use Rattle.compile.specs.declared.Compiled.{Compiled}
@@ -39,12 +39,12 @@ pub record Call : Type 0 where
 
 -- a refusal of assembly or reading ends it; else what the two gave, and the transition's answer
 pub data Answer : Type 0 where
-  notAssembled : Refusal → Answer
+  notAssembled : Numbered → Answer
   notRead : OpsError → Answer
   ran : (written k p value operations : ℕ) → vm.Answer → Answer
 
 abbrev pub answerOf : Compiled → Answer
-answerOf (NotAssembled why) = notAssembled (refusalOf why)
+answerOf (NotAssembled why) = notAssembled (refusalNumbered why)
 answerOf (NotRead e) = notRead e
 answerOf (Ran written k p value operations a) = ran written k p value operations a
 

@@ -1,9 +1,10 @@
--- Document 01's number of each answer, and the values that it carries: those of the call that ends it.
-use Rattle.ops.specs.Ops.{numberOfError, valuesOfError}
-use Rattle.vm.specs.Numbers.{Numbered, answerNumbered}
+-- Document 01's number of each answer, with the values that it carries: those of the call that ends it.
+use Rattle.numbered.specs.declared.Numbered.{Numbered}
+use Rattle.ops.specs.Numbers.{opsErrorNumbered}
+use Rattle.vm.specs.Numbers.{answerNumbered}
 use Rattle.compile.specs.Compile.{Answer, notAssembled, notRead, ran}
 
 abbrev pub numbered : Answer → Numbered
-numbered (notAssembled r) = record { number = r .number; carried = r .values }
-numbered (notRead e) = record { number = numberOfError e; carried = valuesOfError e }
+numbered (notAssembled r) = r
+numbered (notRead e) = opsErrorNumbered e
 numbered (ran written k p value operations a) = answerNumbered a

@@ -27,7 +27,8 @@ use Rattle.source.specs.Vector.{quoted, ofDigits, vectorNumber}
 use Rattle.expression.specs.Tree.{Tree, num, valueOf, kOf}
 use Rattle.expression.specs.Parse.{Meaning, tree, wrong, meaning}
 use Rattle.assembler.specs.Part.{part}
-use Rattle.assembler.specs.Refusal.{Refusal, plain, carrying}
+use Rattle.numbered.specs.declared.Numbered.{Numbered}
+use Rattle.numbered.specs.Numbered.{plain, carrying}
 use Rattle.assembler.specs.State.{State, Outcome, goes, refused, andThen, started, bound, each}
 use Rattle.assembler.specs.Statement.{Statement, skipped, noEquals, binds, returns, statement}
 use Rattle.assembler.specs.Body.{treeOr, performed, lineRead}
@@ -125,7 +126,7 @@ pub record Accepted (vector : List ℕ) (v : ℕ) (t : Tree) : Type 0 where
   pub expected : vectorNumber vector expectedKey ≡ Is v
 
 module _ (vector : List ℕ) (v : ℕ) (t : Tree) where
-  not-accepted : {A : Type 0} (r : Refusal) → rejected r ≡ accepted v t → A
+  not-accepted : {A : Type 0} (r : Numbered) → rejected r ≡ accepted v t → A
   not-accepted r e = absurd (let z : _≡_ {A = ℕ} 0 1 = cc in omega arith)
 
   compared-is : (n : ℕ) (u : Tree) (x : Option ℕ) → compared n u x ≡ accepted v t → (u ≡ t) × (n ≡ v) × (x ≡ some v)
@@ -147,10 +148,10 @@ module _ (vector : List ℕ) (v : ℕ) (t : Tree) where
   expected-is contract p (Is n) q e =
       let c = concluded-is n (bodyRead contract vector p) (body-sized contract vector p) e in
       record { fits = c .0; value = c .2; expected = q ∙ ap Is (c .1) }
-  expected-is contract p NoKey q e = not-accepted (carrying 8 0) e
-  expected-is contract p NoColon q e = not-accepted (carrying 9 0) e
-  expected-is contract p NoDigit q e = not-accepted (carrying 10 0) e
-  expected-is contract p TooLarge q e = not-accepted (carrying 11 0) e
+  expected-is contract p NoKey q e = not-accepted (carrying 8 (0 ∷ [])) e
+  expected-is contract p NoColon q e = not-accepted (carrying 9 (0 ∷ [])) e
+  expected-is contract p NoDigit q e = not-accepted (carrying 10 (0 ∷ [])) e
+  expected-is contract p TooLarge q e = not-accepted (carrying 11 (0 ∷ [])) e
 
   function-is : (contract : List ℕ) (f : Function) → functionRead contract vector f ≡ accepted v t → Accepted vector v t
   function-is contract (Function.Found p) e = expected-is contract p (vectorNumber vector expectedKey) refl e

@@ -13,7 +13,8 @@ use Rattle.ops.specs.declared.ParsedOps.the-variants.{Read}
 use Rattle.vm.specs.declared.State.{State}
 use Rattle.vm.specs.Verify.{buffersFit}
 use Rattle.expression.specs.Tree.{Tree, kOf, pOf}
-use Rattle.assembler.specs.Refusal.{Refusal, plain}
+use Rattle.numbered.specs.declared.Numbered.{Numbered}
+use Rattle.numbered.specs.Numbered.{plain}
 use Rattle.assembler.specs.Assembled.{Assembled, accepted, rejected, assembledTree}
 use Rattle.assembler.specs.Output.{stemFits, operationsOf, output, success, refusal, named, assembled}
 use Rattle.compiled.specs.Statement.{read, kindsLeft, operandsLeft, Hypotheses, Statement}
@@ -32,7 +33,7 @@ record Written (stem : List ℕ) (x : Assembled) (text : List ℕ) (k p v : ℕ)
   pub text-is : text ≡ output stem v tree
 
 module _ (stem : List ℕ) (room n k p v : ℕ) where
-  not-success : {A : Type 0} (r : Refusal) → refusal r ≡ success n k p v → A
+  not-success : {A : Type 0} (r : Numbered) → refusal r ≡ success n k p v → A
   not-success r e = absurd (let z : _≡_ {A = ℕ} 0 1 = cc in omega arith)
 
   named-is : (x : Assembled) → named x stem room .answer ≡ success n k p v → Written stem x (named x stem room .text) k p v

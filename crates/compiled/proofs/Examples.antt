@@ -16,7 +16,9 @@ use Rattle.machine.specs.Machine.{whole}
 use Rattle.vm.specs.declared.State.{State}
 use Rattle.vm.specs.declared.Answer.the-variants.{Success}
 use Rattle.vm.specs.Transition.{Result, ofRun, transitionOf}
-use Rattle.vm.specs.Numbers.{Numbered, plain, answerNumbered}
+use Rattle.numbered.specs.declared.Numbered.{Numbered}
+use Rattle.numbered.specs.Numbered.{plain, carrying}
+use Rattle.vm.specs.Numbers.{answerNumbered}
 use Rattle.expression.specs.Tree.{Tree, num, bin, valueOf, kOf, pOf}
 use Rattle.expression.specs.Parse.{parseF, meaning}
 use Rattle.assembler.specs.State.{each}
@@ -86,7 +88,7 @@ module _ (c room n : ℕ) (m used : List ℕ) (state : State) where
   numbered g = answerNumbered (ofRun g state n m (whole (program (nest 4096)) c room g used) .answer)
 
   -- with 4096 the push that would meet 4,096 items is not paid, with 4097 it is
-  short : numbered 4096 ≡ record { number = 46; carried = 1 ∷ 0 ∷ [] }
+  short : numbered 4096 ≡ carrying 46 (1 ∷ 0 ∷ [])
   short = rw (decided (nest 4096) 4097 (counts .2) c room 4096 used, metered (nest 4096) 4096, at-4096)
 
   full : numbered 4097 ≡ plain 48

@@ -3,11 +3,11 @@ use Prim.Native.Nat.{ℕ}
 use mathlib.Core.Path.{_≡_, refl}
 use mathlib.Core.List.{List, [], _∷_}
 use lib.ListN.{replicate}
-use Rattle.context.specs.Gate.{atc, devnet, testnet, mainnet, gateOf, gateNumber}
+use Rattle.context.specs.Gate.{atc, devnet, testnet, mainnet, gateOf, gateNumbered}
 
 -- a context whose versions are `1` and `2` and whose genesis id is 64 times a, with the computed genesis id
 abbrev numberAt : (network : List ℕ) (a : ℕ) (protocol vm computed : List ℕ) → ℕ
-numberAt network a protocol vm computed = gateNumber (gateOf atc network (replicate 64 a) protocol vm computed (49 ∷ []) (50 ∷ []))
+numberAt network a protocol vm computed = gateNumbered (gateOf atc network (replicate 64 a) protocol vm computed (49 ∷ []) (50 ∷ [])) .number
 
 passed : numberAt testnet 65 (49 ∷ []) (50 ∷ []) (replicate 64 65) ≡ 0
 passed = refl

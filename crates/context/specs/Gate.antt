@@ -4,6 +4,8 @@ use mathlib.Core.List.{List, [], _∷_}
 use mathlib.Core.Bool.{Bool, true, false, _&&_, _||_}
 use lib.Dec.{eqb}
 use lib.ListN.{length}
+use Rattle.numbered.specs.declared.Numbered.{Numbered}
+use Rattle.numbered.specs.Numbered.{plain}
 use Rattle.byte.specs.Range.{within}
 use Rattle.context.specs.declared.ContextError.{ContextError}
 use Rattle.context.specs.declared.ContextError.the-variants.{InvalidChainId, InvalidNetworkId, InvalidGenesisId, ProtocolMismatch, VmMismatch, GenesisMismatch}
@@ -60,14 +62,14 @@ gateOf chain network genesis protocol vm computed expectedProtocol expectedVm =
     Passed)))))
 
 -- document 01's number of each case
-abbrev pub errorNumber : ContextError → ℕ
-errorNumber InvalidChainId = 35
-errorNumber InvalidNetworkId = 36
-errorNumber InvalidGenesisId = 37
-errorNumber ProtocolMismatch = 38
-errorNumber VmMismatch = 39
-errorNumber GenesisMismatch = 40
+abbrev pub contextErrorNumbered : ContextError → Numbered
+contextErrorNumbered InvalidChainId = plain 35
+contextErrorNumbered InvalidNetworkId = plain 36
+contextErrorNumbered InvalidGenesisId = plain 37
+contextErrorNumbered ProtocolMismatch = plain 38
+contextErrorNumbered VmMismatch = plain 39
+contextErrorNumbered GenesisMismatch = plain 40
 
-abbrev pub gateNumber : Gate → ℕ
-gateNumber Passed = 0
-gateNumber (Refused e) = errorNumber e
+abbrev pub gateNumbered : Gate → Numbered
+gateNumbered Passed = plain 0
+gateNumbered (Refused e) = contextErrorNumbered e

@@ -3,7 +3,9 @@ ghost use mathlib.Core.Path.{_≡_};
 ghost use mathlib.Core.Bool.{_&&_};
 ghost use Prim.Native.Nat.{_+_, _≤_};
 ghost use lib.ListN.{length, drop};
-ghost use Rattle.context.specs.Gate.{equal, isHexDigit, allHexDigits, isNetwork, isGenesisId, gateOf};
+ghost use Rattle.context.specs.Gate.{equal, isHexDigit, allHexDigits, isNetwork, isGenesisId, gateOf, contextErrorNumbered, gateNumbered};
+use numbered::Numbered;
+use numbered::plain;
 
 // How many bytes are compared at a time.
 const BLOCK: usize = 16;
@@ -17,9 +19,35 @@ pub enum ContextError {
     GenesisMismatch,
 }
 
+impl ContextError {
+    pub fn numbered(self) -> Numbered
+        ensures { λ r. ⌜ r ≡ contextErrorNumbered self ⌝ }
+    {
+        match self {
+            ContextError::InvalidChainId => plain(35),
+            ContextError::InvalidNetworkId => plain(36),
+            ContextError::InvalidGenesisId => plain(37),
+            ContextError::ProtocolMismatch => plain(38),
+            ContextError::VmMismatch => plain(39),
+            ContextError::GenesisMismatch => plain(40),
+        }
+    }
+}
+
 pub enum Gate {
     Passed,
     Refused(ContextError),
+}
+
+impl Gate {
+    pub fn numbered(self) -> Numbered
+        ensures { λ r. ⌜ r ≡ gateNumbered self ⌝ }
+    {
+        match self {
+            Gate::Passed => plain(0),
+            Gate::Refused(e) => e.numbered(),
+        }
+    }
 }
 
 pub fn execution_gate(

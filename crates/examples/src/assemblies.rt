@@ -3,7 +3,9 @@ ghost use mathlib.Core.Path.{_≡_};
 ghost use mathlib.Core.List.{[], _∷_};
 ghost use Rattle.ops.specs.Ops.{onto};
 ghost use Rattle.assembly.specs.Answers.{answerOf};
-ghost use Rattle.examples.specs.Numbers.{gives, assemblyNumbered, Gives};
+ghost use Rattle.numbered.specs.Numbered.{carrying};
+ghost use Rattle.assembler.specs.Output.{assemblyNumbered};
+ghost use Rattle.examples.specs.Numbers.{Gives};
 ghost use Rattle.examples.specs.Runs.{zeros};
 ghost use Rattle.examples.specs.Bench.{tallyOps};
 use assembly::Answer;
@@ -11,7 +13,7 @@ use assembly::assemble;
 
 pub fn tally(out: &mut [u8; 4096]) -> Answer
     requires { ⌜ now out ≡ zeros ⌝ }
-    ensures { λ a. ⌜ Gives (assemblyNumbered (answerOf a)) 0 (67 ∷ 3 ∷ 2 ∷ 24 ∷ []) (now (out .exit)) (onto tallyOps zeros) ⌝ }
+    ensures { λ a. ⌜ Gives (assemblyNumbered (answerOf a)) (carrying 0 (67 ∷ 3 ∷ 2 ∷ 24 ∷ [])) (now (out .exit)) (onto tallyOps zeros) ⌝ }
 {
     assemble(
         b"fn total (a, b) {\n  let s = a + b\n  return s * 2\n}\n",
@@ -22,7 +24,7 @@ pub fn tally(out: &mut [u8; 4096]) -> Answer
 }
 
 pub fn precedence() -> Answer
-    ensures { λ a. ⌜ assemblyNumbered (answerOf a) ≡ gives 0 (62 ∷ 3 ∷ 3 ∷ 1 ∷ []) ⌝ }
+    ensures { λ a. ⌜ assemblyNumbered (answerOf a) ≡ carrying 0 (62 ∷ 3 ∷ 3 ∷ 1 ∷ []) ⌝ }
 {
     let mut out = [0u8; 4096];
     assemble(
@@ -34,7 +36,7 @@ pub fn precedence() -> Answer
 }
 
 pub fn left_to_right() -> Answer
-    ensures { λ a. ⌜ assemblyNumbered (answerOf a) ≡ gives 0 (62 ∷ 3 ∷ 2 ∷ 2 ∷ []) ⌝ }
+    ensures { λ a. ⌜ assemblyNumbered (answerOf a) ≡ carrying 0 (62 ∷ 3 ∷ 2 ∷ 2 ∷ []) ⌝ }
 {
     let mut out = [0u8; 4096];
     assemble(

@@ -2,8 +2,9 @@
 ghost use mathlib.Core.Path.{_≡_};
 ghost use mathlib.Core.List.{[], _∷_};
 ghost use lib.ListN.{replicate};
-ghost use Rattle.vm.specs.Numbers.{plain, answerNumbered};
-ghost use Rattle.examples.specs.Numbers.{gives, Gives};
+ghost use Rattle.numbered.specs.Numbered.{plain, carrying};
+ghost use Rattle.vm.specs.Numbers.{answerNumbered};
+ghost use Rattle.examples.specs.Numbers.{Gives};
 ghost use Rattle.examples.specs.Runs.{zeros, four, plainly, Ends};
 ghost use Rattle.examples.specs.Bench.{tallyOps};
 use crate::run::on_four;
@@ -12,13 +13,13 @@ use vm::Answer;
 
 pub fn tally(stack: &mut [u64; 4096]) -> Answer
     requires { ⌜ now stack ≡ zeros ⌝ }
-    ensures { λ a. ⌜ Gives (answerNumbered a) 0 (7 ∷ 6 ∷ 1 ∷ 0 ∷ []) (now (stack .exit)) (24 ∷ replicate 4095 0) ⌝ }
+    ensures { λ a. ⌜ Gives (answerNumbered a) (carrying 0 (7 ∷ 6 ∷ 1 ∷ 0 ∷ [])) (now (stack .exit)) (24 ∷ replicate 4095 0) ⌝ }
 {
     limited(1000, stack)
 }
 
 pub fn tally_short() -> Answer
-    ensures { λ a. ⌜ answerNumbered a ≡ gives 46 (2 ∷ 1 ∷ []) ⌝ }
+    ensures { λ a. ⌜ answerNumbered a ≡ carrying 46 (2 ∷ 1 ∷ []) ⌝ }
 {
     let mut stack = [0u64; 4096];
     limited(6, &mut stack)
@@ -36,7 +37,7 @@ fn limited(limit: u64, stack: &mut [u64; 4096]) -> Answer
 }
 
 pub fn div_price() -> Answer
-    ensures { λ a. ⌜ answerNumbered a ≡ gives 46 (2 ∷ 1 ∷ []) ⌝ }
+    ensures { λ a. ⌜ answerNumbered a ≡ carrying 46 (2 ∷ 1 ∷ []) ⌝ }
 {
     let mut stack = [0u64; 4096];
     plain(b"Div\n", 1, &mut stack)
@@ -50,7 +51,7 @@ pub fn div_items() -> Answer
 }
 
 pub fn halt() -> Answer
-    ensures { λ a. ⌜ answerNumbered a ≡ gives 0 (0 ∷ 1 ∷ 0 ∷ 0 ∷ []) ⌝ }
+    ensures { λ a. ⌜ answerNumbered a ≡ carrying 0 (0 ∷ 1 ∷ 0 ∷ 0 ∷ []) ⌝ }
 {
     let mut stack = [0u64; 4096];
     plain(b"Halt\n", 0, &mut stack)
@@ -58,7 +59,7 @@ pub fn halt() -> Answer
 
 pub fn lone_push(stack: &mut [u64; 4096]) -> Answer
     requires { ⌜ now stack ≡ zeros ⌝ }
-    ensures { λ a. ⌜ Gives (answerNumbered a) 0 (1 ∷ 1 ∷ 1 ∷ 0 ∷ []) (now (stack .exit)) (9 ∷ replicate 4095 0) ⌝ }
+    ensures { λ a. ⌜ Gives (answerNumbered a) (carrying 0 (1 ∷ 1 ∷ 1 ∷ 0 ∷ [])) (now (stack .exit)) (9 ∷ replicate 4095 0) ⌝ }
 {
     plain(b"Push 9\n", 1000, stack)
 }
@@ -72,7 +73,7 @@ pub fn lone_jump() -> Answer
 
 pub fn store_3(storage: &mut [u64; 4]) -> Answer
     requires { ⌜ now storage ≡ four ⌝ }
-    ensures { λ a. ⌜ Gives (answerNumbered a) 0 (4 ∷ 2 ∷ 0 ∷ 4 ∷ []) (now (storage .exit)) (0 ∷ 0 ∷ 0 ∷ 1 ∷ []) ⌝ }
+    ensures { λ a. ⌜ Gives (answerNumbered a) (carrying 0 (4 ∷ 2 ∷ 0 ∷ 4 ∷ [])) (now (storage .exit)) (0 ∷ 0 ∷ 0 ∷ 1 ∷ []) ⌝ }
 {
     on_four(b"Push 1\nStore 3\n", storage)
 }
@@ -92,7 +93,7 @@ pub fn store_65535() -> Answer
 }
 
 pub fn store_65536() -> Answer
-    ensures { λ a. ⌜ answerNumbered a ≡ gives 50 (65537 ∷ []) ⌝ }
+    ensures { λ a. ⌜ answerNumbered a ≡ carrying 50 (65537 ∷ []) ⌝ }
 {
     let mut storage = [7u64; 4];
     on_four(b"Push 1\nStore 65536\n", &mut storage)

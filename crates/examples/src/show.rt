@@ -32,7 +32,7 @@ pub fn reading(r: ParsedOps) {
             number(n as u64);
         }
         ParsedOps::Refused(e) => {
-            let refusal = numbers::of_ops_error(e);
+            let refusal = e.numbered();
             number(refusal.number);
             reading_values(e);
         }
@@ -72,7 +72,7 @@ pub fn run(a: vm::Answer) {
             number(state.used as u64);
         }
         vm::Answer::Refused(f) => {
-            let refusal = numbers::of_run_refusal(f);
+            let refusal = f.numbered();
             number(refusal.number);
             run_values(f);
         }
@@ -93,7 +93,8 @@ fn run_values(f: Refusal) {
 }
 
 pub fn gate(g: Gate) {
-    number(numbers::of_gate(g));
+    let told = g.numbered();
+    number(told.number);
 }
 
 pub fn number(n: u64) {

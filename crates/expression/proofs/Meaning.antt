@@ -18,7 +18,7 @@ use Rattle.expression.specs.Tree.{Tree}
 use Rattle.expression.specs.Parse.{Env, done, enough, parseF, moreF, Meaning, tree, wrong, whole, meaning, expression}
 use Rattle.expression.specs.Figures.{Figures}
 use Rattle.expression.specs.Table.{Columns, columnsOf, columns, Holds}
-use Rattle.expression.specs.Answer.{numberOf, said, due, Short, Over, Answers}
+use Rattle.expression.specs.Answer.{exprErrorNumbered, said, due, Short, Over, Answers}
 use Rattle.expression.specs.Parts.{wholeRead}
 use Rattle.expression.specs.Cycle.{Meets}
 use Rattle.expression.proofs.Signs.{none-of, next-of}
@@ -45,7 +45,7 @@ module _ (s : List ℕ) (at : ℕ) (c c′ : Columns) (a : allowed (drop at s) �
   pub refused-answers : {e : ExprError} → Meets s at c′ expression 64 (Refused e) → Answers s at c (Refused e)
   refused-answers {e} m = means s at c _ tt (λ env h.
       let x = m .means env (held env h) in
-      (wrong (numberOf e), (meaning-whole env (drop at s) a ∙ ap whole (x .same (enough expression (tokens (drop at s))) (omega arith)), (refl, tt))))
+      (wrong (exprErrorNumbered e .number), (meaning-whole env (drop at s) a ∙ ap whole (x .same (enough expression (tokens (drop at s))) (omega arith)), (refl, tt))))
 
   pub done-answers : {v : Read} (ts : List (List ℕ)) → tokens (drop (v .next) s) ≡ ts → Meets s at c′ expression 64 (Done v) → Answers s at c (wholeRead ts v)
   done-answers {v} [] q m = means s at c _ q (λ env h.

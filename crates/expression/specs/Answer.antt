@@ -4,6 +4,8 @@ use mathlib.Core.Path.{_≡_}
 use mathlib.Core.List.{List, []}
 use lib.ListN.{drop}
 use mathlib.Core.Option.{Option}
+use Rattle.numbered.specs.declared.Numbered.{Numbered}
+use Rattle.numbered.specs.Numbered.{plain}
 use Rattle.token.specs.Token.{tokens}
 use Rattle.expression.specs.declared.ExprError.{ExprError}
 use Rattle.expression.specs.declared.ExprError.the-variants.{InvalidCharacter, UnexpectedEnd, UnbalancedParenthesis, InvalidLiteral, UnknownIdentifier, TooDeep, UnconsumedTokens}
@@ -14,14 +16,15 @@ use Rattle.expression.specs.Figures.{optionOf}
 use Rattle.expression.specs.Parse.{Env, Meaning, tree, wrong, meaning}
 use Rattle.expression.specs.Table.{Columns, Holds}
 
-abbrev pub numberOf : ExprError → ℕ
-numberOf InvalidCharacter = 13
-numberOf UnexpectedEnd = 14
-numberOf UnbalancedParenthesis = 15
-numberOf InvalidLiteral = 16
-numberOf UnknownIdentifier = 17
-numberOf TooDeep = 18
-numberOf UnconsumedTokens = 19
+-- document 01's number of each refusal; the line is the caller's to add
+abbrev pub exprErrorNumbered : ExprError → Numbered
+exprErrorNumbered InvalidCharacter = plain 13
+exprErrorNumbered UnexpectedEnd = plain 14
+exprErrorNumbered UnbalancedParenthesis = plain 15
+exprErrorNumbered InvalidLiteral = plain 16
+exprErrorNumbered UnknownIdentifier = plain 17
+exprErrorNumbered TooDeep = plain 18
+exprErrorNumbered UnconsumedTokens = plain 19
 
 -- k, p, the value, the length of the text
 pub data Answer : Type 0 where
@@ -30,7 +33,7 @@ pub data Answer : Type 0 where
 
 abbrev pub said : Parsed → Answer
 said (Parsed.Done v) = figures (v .k) (v .p) (optionOf (v .value)) (v .len)
-said (Parsed.Refused e) = refusal (numberOf e)
+said (Parsed.Refused e) = refusal (exprErrorNumbered e .number)
 
 abbrev pub due : Meaning → Answer
 due (tree t) = figures (kOf t) (pOf t) (valueOf t) (lenOf t)

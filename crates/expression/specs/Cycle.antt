@@ -9,7 +9,7 @@ use Rattle.expression.specs.declared.Parsed.{Parsed}
 use Rattle.expression.specs.declared.Parsed.the-variants.{Done, Refused}
 use Rattle.expression.specs.Tree.{Tree}
 use Rattle.expression.specs.Parse.{Env, done, refused, parseF, enough}
-use Rattle.expression.specs.Answer.{numberOf}
+use Rattle.expression.specs.Answer.{exprErrorNumbered}
 use Rattle.expression.specs.Table.{Columns, Holds}
 use Rattle.expression.specs.Figures.{Figures}
 
@@ -36,7 +36,7 @@ Fine s at (Refused e) = Unit {0}
 
 abbrev pub Means : List ℕ → ℕ → Env → ℕ → ℕ → Parsed → Type 0
 Means s at env l d (Done v) = (t : Tree) × (Reads env l d (tokens (drop at s)) t (tokens (drop (v .next) s)) × Figures t v)
-Means s at env l d (Refused e) = Refuses env l d (tokens (drop at s)) (numberOf e)
+Means s at env l d (Refused e) = Refuses env l d (tokens (drop at s)) (exprErrorNumbered e .number)
 
 -- in every environment that the table holds
 pub record Meets (s : List ℕ) (at : ℕ) (c : Columns) (l d : ℕ) (r : Parsed) : Type 0 where

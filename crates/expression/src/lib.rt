@@ -3,7 +3,7 @@ ghost use mathlib.Core.Path.{_≡_};
 ghost use Prim.Native.Nat.{_≤_};
 ghost use lib.ListN.{length};
 ghost use Rattle.expression.specs.Parse.{factor, term, expression};
-ghost use Rattle.expression.specs.Answer.{Answers};
+ghost use Rattle.expression.specs.Answer.{exprErrorNumbered, Answers};
 ghost use Rattle.expression.specs.Table.{columnsOf, columns};
 ghost use Rattle.expression.specs.Cycle.{Ready, Meets};
 
@@ -13,6 +13,8 @@ pub mod parts;
 
 use figures::Read;
 use figures::join;
+use numbered::Numbered;
+use numbered::plain;
 use parts::close;
 use parts::is_product;
 use parts::is_sum;
@@ -50,6 +52,22 @@ pub enum ExprError {
     UnknownIdentifier,
     TooDeep,
     UnconsumedTokens,
+}
+
+impl ExprError {
+    pub fn numbered(self) -> Numbered
+        ensures { λ r. ⌜ r ≡ exprErrorNumbered self ⌝ }
+    {
+        match self {
+            ExprError::InvalidCharacter => plain(13),
+            ExprError::UnexpectedEnd => plain(14),
+            ExprError::UnbalancedParenthesis => plain(15),
+            ExprError::InvalidLiteral => plain(16),
+            ExprError::UnknownIdentifier => plain(17),
+            ExprError::TooDeep => plain(18),
+            ExprError::UnconsumedTokens => plain(19),
+        }
+    }
 }
 
 pub enum Parsed {

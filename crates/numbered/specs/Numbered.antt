@@ -1,6 +1,6 @@
 -- A number of document 01 with the values that its entry names, as the first of eight words.
 use Prim.Native.Nat.{ℕ, _-_}
-use mathlib.Core.List.{List, [], _++_}
+use mathlib.Core.List.{List, [], _∷_, _++_}
 use lib.ListN.{length, replicate}
 use Rattle.numbered.specs.declared.Numbered.{Numbered}
 
@@ -13,3 +13,7 @@ carrying number values = record { number = number; words = eight values }
 
 abbrev pub plain : ℕ → Numbered
 plain number = carrying number []
+
+-- with the place of a key, or the number of a line
+abbrev pub located : Numbered → ℕ → Numbered
+located n place = carrying (n .number) (place ∷ [])

@@ -1,7 +1,7 @@
 // Document 01's number of an answer, with the values that its entry names.
 ghost use mathlib.Core.Path.{_≡_};
 ghost use mathlib.Core.List.{[], _∷_};
-ghost use Rattle.numbered.specs.Numbered.{plain, carrying};
+ghost use Rattle.numbered.specs.Numbered.{plain, carrying, located};
 
 // The values stand first among the eight words, and the others are 0.
 pub struct Numbered {
@@ -25,6 +25,13 @@ pub fn carrying_one(number: u64, first: u64) -> Numbered
         number,
         words: [first, 0, 0, 0, 0, 0, 0, 0],
     }
+}
+
+// With the place of a key, or the number of a line.
+pub fn located(n: Numbered, place: u64) -> Numbered
+    ensures { λ r. ⌜ r ≡ located n place ⌝ }
+{
+    carrying_one(n.number, place)
 }
 
 pub fn carrying_two(number: u64, first: u64, second: u64) -> Numbered

@@ -4,3 +4,4 @@ pub mod Line
 pub mod Ops
 pub mod Written
 pub mod Passes
+pub mod Numbers

@@ -12,7 +12,7 @@ use Rattle.lines.specs.declared.Step.the-variants.{Done}
 use Rattle.trim.specs.Trim.{trimmed}
 use Rattle.ops.specs.Line.{lineOf}
 use Rattle.ops.specs.declared.OpsError.{OpsError}
-use Rattle.ops.specs.declared.OpsError.the-variants.{NotUtf8, BadPush, BadSlot, UnknownOp, BadTarget, Full, Empty}
+use Rattle.ops.specs.declared.OpsError.the-variants.{NotUtf8, Full, Empty}
 use Rattle.ops.specs.declared.ParsedOps.{ParsedOps}
 use Rattle.ops.specs.declared.ParsedOps.the-variants.{Read, Refused}
 use Rattle.ops.specs.declared.line.LineRead.{LineRead}
@@ -85,34 +85,6 @@ pub record Parsed (text kinds operands kindsAfter operandsAfter : List ℕ) (r :
   pub answer : r ≡ answerOf (readText text (min (length kinds) (length operands)))
   pub kindsWritten : kindsAfter ≡ onto (kindsOf (opsOf (readText text (min (length kinds) (length operands))))) kinds
   pub operandsWritten : operandsAfter ≡ onto (operandsOf (opsOf (readText text (min (length kinds) (length operands))))) operands
-
--- document 01's number of a refusal, and the numbers that it carries
-abbrev pub numberOfError : OpsError → ℕ
-numberOfError NotUtf8 = 27
-numberOfError (BadPush line place len) = 28
-numberOfError (BadSlot line place len) = 29
-numberOfError (UnknownOp line place len) = 30
-numberOfError (BadTarget line place len) = 31
-numberOfError (Full line) = 32
-numberOfError Empty = 33
-
-abbrev pub valuesOfError : OpsError → List ℕ
-valuesOfError NotUtf8 = []
-valuesOfError (BadPush line place len) = line ∷ place ∷ len ∷ []
-valuesOfError (BadSlot line place len) = line ∷ place ∷ len ∷ []
-valuesOfError (UnknownOp line place len) = line ∷ place ∷ len ∷ []
-valuesOfError (BadTarget line place len) = line ∷ place ∷ len ∷ []
-valuesOfError (Full line) = line ∷ []
-valuesOfError Empty = []
-
--- and of an answer: 0 where the operations were read
-abbrev pub numberOfAnswer : ParsedOps → ℕ
-numberOfAnswer (Read n) = 0
-numberOfAnswer (Refused e) = numberOfError e
-
-abbrev pub valuesOfAnswer : ParsedOps → List ℕ
-valuesOfAnswer (Read n) = n ∷ []
-valuesOfAnswer (Refused e) = valuesOfError e
 
 -- the line of a number from 1
 abbrev pub nthLine : ℕ → List (List ℕ) → List ℕ

@@ -7,9 +7,14 @@ mod word;
 use line::LineRead;
 use line::line_read_at;
 use lines::Step;
+use numbered::Numbered;
+use numbered::carrying_one;
+use numbered::carrying_three;
+use numbered::plain;
 ghost use mathlib.Core.Path.{_≡_};
 ghost use mathlib.Core.Bool.{true};
 ghost use Prim.Native.Nat.{min};
+ghost use Rattle.ops.specs.Numbers.{opsErrorNumbered, parsedOpsNumbered};
 ghost use Rattle.ops.specs.Ops.{Parsed, trimmedLine, lineNumbered};
 ghost use Rattle.ops.specs.Passes.{Good, Passed};
 
@@ -42,9 +47,44 @@ pub enum OpsError {
     Empty,
 }
 
+impl OpsError {
+    pub fn numbered(self) -> Numbered
+        ensures { λ r. ⌜ r ≡ opsErrorNumbered self ⌝ }
+    {
+        match self {
+            OpsError::NotUtf8 => plain(27),
+            OpsError::BadPush { line, place, len } => {
+                carrying_three(28, line as u64, place as u64, len as u64)
+            }
+            OpsError::BadSlot { line, place, len } => {
+                carrying_three(29, line as u64, place as u64, len as u64)
+            }
+            OpsError::UnknownOp { line, place, len } => {
+                carrying_three(30, line as u64, place as u64, len as u64)
+            }
+            OpsError::BadTarget { line, place, len } => {
+                carrying_three(31, line as u64, place as u64, len as u64)
+            }
+            OpsError::Full { line } => carrying_one(32, line as u64),
+            OpsError::Empty => plain(33),
+        }
+    }
+}
+
 pub enum ParsedOps {
     Read(usize),
     Refused(OpsError),
+}
+
+impl ParsedOps {
+    pub fn numbered(self) -> Numbered
+        ensures { λ r. ⌜ r ≡ parsedOpsNumbered self ⌝ }
+    {
+        match self {
+            ParsedOps::Read(n) => carrying_one(0, n as u64),
+            ParsedOps::Refused(e) => e.numbered(),
+        }
+    }
 }
 
 // Reads twice: first the answer, then, unless it is a refusal, the operations into the buffers.

@@ -1,47 +1,36 @@
 // What the calls give, as text.
-use ops::OpsError;
+use numbered::Numbered;
 use ops::ParsedOps;
 
 pub fn print(r: ParsedOps) {
     match r {
         ParsedOps::Read(n) => {
             io::print_decimal(1, 0);
-            spaced(n);
+            spaced(n as u64);
         }
-        ParsedOps::Refused(e) => refusal(e),
+        ParsedOps::Refused(e) => refusal(e.numbered()),
     }
     end_line();
 }
 
-fn refusal(e: OpsError) {
-    match e {
-        OpsError::NotUtf8 => {
-            io::print_decimal(1, 27);
+// The number, and the line, place and length that 28 to 31 carry, or the line of 32.
+fn refusal(why: Numbered) {
+    let words = why.words;
+    io::print_decimal(1, why.number);
+    match why.number {
+        28..=31 => {
+            spaced(words[0]);
+            spaced(words[1]);
+            spaced(words[2]);
         }
-        OpsError::BadPush { line, place, len } => part(28, line, place, len),
-        OpsError::BadSlot { line, place, len } => part(29, line, place, len),
-        OpsError::UnknownOp { line, place, len } => part(30, line, place, len),
-        OpsError::BadTarget { line, place, len } => part(31, line, place, len),
-        OpsError::Full { line } => {
-            io::print_decimal(1, 32);
-            spaced(line);
-        }
-        OpsError::Empty => {
-            io::print_decimal(1, 33);
-        }
+        32 => spaced(words[0]),
+        _ => {}
     }
 }
 
-fn part(number: u64, line: usize, place: usize, len: usize) {
-    io::print_decimal(1, number);
-    spaced(line);
-    spaced(place);
-    spaced(len);
-}
-
-fn spaced(n: usize) {
+fn spaced(n: u64) {
     io::write_all(1, b" ");
-    io::print_decimal(1, n as u64);
+    io::print_decimal(1, n);
 }
 
 pub fn kinds(k: &[u8]) {

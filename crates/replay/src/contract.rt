@@ -1,6 +1,5 @@
 // What the calls that read a contract and its vector give, as text: the number of the refusal, or 0 and what was found.
 use super::hex;
-use assembler::refusal::Refusal;
 use source::function::Function;
 use source::parameters::NextParameter;
 use source::vector::KeyValue;
@@ -28,7 +27,7 @@ fn function(contract: &[u8]) {
             hex::print(&contract[body_start..body_end]);
         }
         Function::Refused(e) => {
-            let why = numbers::of_refusal(Refusal::Function(e));
+            let why = e.numbered();
             io::print_decimal(1, why.number);
         }
     }
@@ -54,22 +53,11 @@ fn spaced(name: &[u8]) {
 }
 
 fn value(v: KeyValue) {
-    match v {
-        KeyValue::Is(n) => {
-            io::write_all(1, b"0 ");
-            io::print_decimal(1, n);
-        }
-        KeyValue::NoKey => {
-            io::print_decimal(1, 8);
-        }
-        KeyValue::NoColon => {
-            io::print_decimal(1, 9);
-        }
-        KeyValue::NoDigit => {
-            io::print_decimal(1, 10);
-        }
-        KeyValue::TooLarge => {
-            io::print_decimal(1, 11);
-        }
+    let told = v.numbered();
+    let words = told.words;
+    io::print_decimal(1, told.number);
+    if told.number == 0 {
+        io::write_all(1, b" ");
+        io::print_decimal(1, words[0]);
     }
 }

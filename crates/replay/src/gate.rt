@@ -17,7 +17,8 @@ pub fn print(call: u8, a: &[u8]) {
         piece(a, 6),
         piece(a, 7),
     );
-    io::print_decimal(1, numbers::of_gate(gate));
+    let told = gate.numbered();
+    io::print_decimal(1, told.number);
 }
 
 // The text that has n before it; empty where there are fewer.

@@ -22,7 +22,7 @@ fn read(text: &[u8]) -> Report {
     let parsed = ops::parse_ops(text, &mut kinds, &mut operands);
     match parsed {
         ParsedOps::Refused(e) => {
-            let refusal = numbers::of_ops_error(e);
+            let refusal = e.numbered();
             report::refused(refusal.number)
         }
         ParsedOps::Read(n) => run(&kinds, &operands, n),
@@ -52,7 +52,7 @@ fn run(kinds: &[u8], operands: &[u64], n: usize) -> Report {
     );
     match answer {
         Answer::Refused(f) => {
-            let refusal = numbers::of_run_refusal(f);
+            let refusal = f.numbered();
             report::refused(refusal.number)
         }
         Answer::Success {

@@ -1,6 +1,8 @@
 -- The contract's function. Every search takes the first occurrence.
 use Prim.Native.Nat.{ℕ, _+_}
 use mathlib.Core.List.{List, [], _∷_}
+use Rattle.numbered.specs.declared.Numbered.{Numbered}
+use Rattle.numbered.specs.Numbered.{plain}
 use Rattle.search.specs.First.{firstAt}
 use Rattle.source.specs.declared.function.FunctionError.{FunctionError}
 use Rattle.source.specs.declared.function.FunctionError.the-variants.{NoFunction, NoParameters, UnclosedParameters, NoBody, UnclosedBody}
@@ -19,10 +21,14 @@ functionOf s =
     foundOr (firstAt (0x7D ∷ []) s (brace + 1)) (Refused UnclosedBody) (λ end.
     Found (record { «params_start» = left + 1; «params_end» = right; «body_start» = brace + 1; «body_end» = end }))))))
 
--- the number of each refusal
-abbrev pub functionRefusal : FunctionError → ℕ
-functionRefusal NoFunction = 3
-functionRefusal NoParameters = 4
-functionRefusal UnclosedParameters = 5
-functionRefusal NoBody = 6
-functionRefusal UnclosedBody = 7
+-- document 01's number of each case
+abbrev pub functionErrorNumbered : FunctionError → Numbered
+functionErrorNumbered NoFunction = plain 3
+functionErrorNumbered NoParameters = plain 4
+functionErrorNumbered UnclosedParameters = plain 5
+functionErrorNumbered NoBody = plain 6
+functionErrorNumbered UnclosedBody = plain 7
+
+abbrev pub functionNumbered : Function → Numbered
+functionNumbered (Found p) = plain 0
+functionNumbered (Refused e) = functionErrorNumbered e

@@ -4,6 +4,8 @@ use mathlib.Core.List.{List, [], _∷_, _++_}
 use mathlib.Core.Bool.{cond}
 use lib.Dec.{ltb}
 use lib.ListN.{length, drop}
+use Rattle.numbered.specs.declared.Numbered.{Numbered}
+use Rattle.numbered.specs.Numbered.{plain, carrying}
 use Rattle.search.specs.First.{firstAt}
 use Rattle.trim.specs.Trim.{startTrimmed}
 use Rattle.number.specs.Decimal.{digits, value}
@@ -31,10 +33,10 @@ vectorNumber s key =
     foundOr (firstAt (0x3A ∷ []) s (at + length (quoted key))) NoColon (λ colon.
     leadingNumber (startTrimmed (drop (colon + 1) s))))
 
--- the number of each refusal, 0 where there is none
-abbrev pub keyRefusal : KeyValue → ℕ
-keyRefusal (Is n) = 0
-keyRefusal NoKey = 8
-keyRefusal NoColon = 9
-keyRefusal NoDigit = 10
-keyRefusal TooLarge = 11
+-- document 01's number of each case; the place of the key is the caller's to add
+abbrev pub keyValueNumbered : KeyValue → Numbered
+keyValueNumbered (Is n) = carrying 0 (n ∷ [])
+keyValueNumbered NoKey = plain 8
+keyValueNumbered NoColon = plain 9
+keyValueNumbered NoDigit = plain 10
+keyValueNumbered TooLarge = plain 11

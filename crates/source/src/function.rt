@@ -1,6 +1,8 @@
 // The contract's function: where its parameters and its body stand.
 ghost use mathlib.Core.Path.{_≡_};
-ghost use Rattle.source.specs.Function.{functionOf};
+ghost use Rattle.source.specs.Function.{functionOf, functionErrorNumbered};
+use numbered::Numbered;
+use numbered::plain;
 use search::Found;
 
 // The parameters stand from params_start to params_end, the body from body_start to body_end.
@@ -17,6 +19,20 @@ pub enum FunctionError {
     UnclosedParameters,
     NoBody,
     UnclosedBody,
+}
+
+impl FunctionError {
+    pub fn numbered(self) -> Numbered
+        ensures { λ r. ⌜ r ≡ functionErrorNumbered self ⌝ }
+    {
+        match self {
+            FunctionError::NoFunction => plain(3),
+            FunctionError::NoParameters => plain(4),
+            FunctionError::UnclosedParameters => plain(5),
+            FunctionError::NoBody => plain(6),
+            FunctionError::UnclosedBody => plain(7),
+        }
+    }
 }
 
 pub enum Function {

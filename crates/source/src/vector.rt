@@ -1,8 +1,11 @@
 // The vector's numbers.
 ghost use mathlib.Core.Path.{_≡_};
-ghost use Rattle.source.specs.Vector.{leadingNumber, vectorNumber};
+ghost use Rattle.source.specs.Vector.{leadingNumber, vectorNumber, keyValueNumbered};
 use crate::key::find_quoted;
 use number::Value;
+use numbered::Numbered;
+use numbered::carrying_one;
+use numbered::plain;
 use search::Found;
 
 pub enum KeyValue {
@@ -11,6 +14,20 @@ pub enum KeyValue {
     NoColon,
     NoDigit,
     TooLarge,
+}
+
+impl KeyValue {
+    pub fn numbered(self) -> Numbered
+        ensures { λ r. ⌜ r ≡ keyValueNumbered self ⌝ }
+    {
+        match self {
+            KeyValue::Is(n) => carrying_one(0, n),
+            KeyValue::NoKey => plain(8),
+            KeyValue::NoColon => plain(9),
+            KeyValue::NoDigit => plain(10),
+            KeyValue::TooLarge => plain(11),
+        }
+    }
 }
 
 pub fn json_u64_for_key(vector: &[u8], key: &[u8]) -> KeyValue

@@ -7,7 +7,9 @@ use Rattle.context.specs.declared.Gate.the-variants as gate
 use Rattle.machine.specs.Operation.{decode}
 use Rattle.machine.specs.Machine.{runOf, whole}
 use Rattle.vm.specs.Verify.{operationsCheck}
-use Rattle.vm.specs.Numbers.{Numbered, plain, answerNumbered}
+use Rattle.numbered.specs.declared.Numbered.{Numbered}
+use Rattle.numbered.specs.Numbered.{plain, carrying}
+use Rattle.vm.specs.Numbers.{answerNumbered}
 use Rattle.vm.specs.Transition.{Result, up, transitionOf}
 
 -- a metered run by caller 7 with no storage used: buffers as lent, whatever they hold
@@ -24,7 +26,7 @@ tallyKinds = 0 ∷ 0 ∷ 1 ∷ 0 ∷ 3 ∷ 15 ∷ []
 abbrev tallyOperands : List ℕ
 tallyOperands = 5 ∷ 7 ∷ 0 ∷ 2 ∷ 0 ∷ 0 ∷ []
 
-tally : answered tallyKinds tallyOperands 1000 [] ≡ record { number = 0; carried = 7 ∷ 6 ∷ 1 ∷ 0 ∷ [] }
+tally : answered tallyKinds tallyOperands 1000 [] ≡ carrying 0 (7 ∷ 6 ∷ 1 ∷ 0 ∷ [])
 unfolding decode runOf whole operationsCheck
 tally = refl
 
@@ -32,12 +34,12 @@ tally-stack : ran tallyKinds tallyOperands 1000 [] .stack ≡ 24 ∷ replicate 4
 unfolding decode runOf whole operationsCheck up
 tally-stack = refl
 
-e2 : answered tallyKinds tallyOperands 6 [] ≡ record { number = 46; carried = 2 ∷ 1 ∷ [] }
+e2 : answered tallyKinds tallyOperands 6 [] ≡ carrying 46 (2 ∷ 1 ∷ [])
 unfolding decode runOf whole operationsCheck
 e2 = refl
 
 -- Div on an empty stack
-e3-price : answered (4 ∷ []) (0 ∷ []) 1 [] ≡ record { number = 46; carried = 2 ∷ 1 ∷ [] }
+e3-price : answered (4 ∷ []) (0 ∷ []) 1 [] ≡ carrying 46 (2 ∷ 1 ∷ [])
 unfolding decode runOf whole operationsCheck
 e3-price = refl
 
@@ -46,7 +48,7 @@ unfolding decode runOf whole operationsCheck
 e3-items = refl
 
 -- Halt with no gas
-e4 : answered (15 ∷ []) (0 ∷ []) 0 [] ≡ record { number = 0; carried = 0 ∷ 1 ∷ 0 ∷ 0 ∷ [] }
+e4 : answered (15 ∷ []) (0 ∷ []) 0 [] ≡ carrying 0 (0 ∷ 1 ∷ 0 ∷ 0 ∷ [])
 unfolding decode runOf whole operationsCheck
 e4 = refl
 
@@ -78,6 +80,6 @@ e6-last : answerNumbered (stored 65535 .answer) ≡ plain 51
 unfolding decode runOf whole operationsCheck
 e6-last = refl
 
-e6-too-high : answerNumbered (stored 65536 .answer) ≡ record { number = 50; carried = 65537 ∷ [] }
+e6-too-high : answerNumbered (stored 65536 .answer) ≡ carrying 50 (65537 ∷ [])
 unfolding decode runOf whole operationsCheck
 e6-too-high = refl

@@ -1,6 +1,8 @@
 // A state transition: the lent buffers' lengths, the chain gate, the verifier, the metered run.
 ghost use Rattle.context.specs.Gate.{gateOf};
 ghost use Rattle.context.specs.declared.Gate.the-variants as gate;
+ghost use mathlib.Core.Path.{_≡_};
+ghost use Rattle.vm.specs.Numbers.{checkNumbered, answerNumbered};
 ghost use Rattle.vm.specs.Transition.{Meets, transitionOf};
 
 mod buffers;
@@ -10,6 +12,9 @@ pub mod verify;
 
 use context::Gate;
 use machine::Refusal;
+use numbered::Numbered;
+use numbered::carrying_four;
+use numbered::plain;
 
 // The part of a state that is no buffer.
 pub struct State {
@@ -21,6 +26,17 @@ pub enum Check {
     Refused(Refusal),
 }
 
+impl Check {
+    pub fn numbered(self) -> Numbered
+        ensures { λ r. ⌜ r ≡ checkNumbered self ⌝ }
+    {
+        match self {
+            Check::Passed => plain(0),
+            Check::Refused(f) => f.numbered(),
+        }
+    }
+}
+
 pub enum Answer {
     Success {
         gas_spent: u64,
@@ -29,6 +45,22 @@ pub enum Answer {
         state: State,
     },
     Refused(Refusal),
+}
+
+impl Answer {
+    pub fn numbered(self) -> Numbered
+        ensures { λ r. ⌜ r ≡ answerNumbered self ⌝ }
+    {
+        match self {
+            Answer::Success {
+                gas_spent,
+                operations,
+                items,
+                state,
+            } => carrying_four(0, gas_spent, operations, items as u64, state.used as u64),
+            Answer::Refused(f) => f.numbered(),
+        }
+    }
 }
 
 pub fn run_with_gas(

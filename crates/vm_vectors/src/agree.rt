@@ -1,7 +1,7 @@
 // Whether an answer and the buffers after its call are as a line lists them. A list names the first of what it is held
 // against, so an empty one asks nothing; only the answer's must have its number.
 use super::list;
-use numbers::Numbered;
+use numbered::Numbered;
 
 pub fn is_as_listed(
     line: &[u8],
@@ -18,7 +18,8 @@ pub fn is_as_listed(
 
 fn is_answered(line: &[u8], answer: Numbered, numbers: &mut [u64]) -> bool {
     let answered = is_answer(list::part(line, b'/', 6), answer, numbers);
-    let counted = has_first(list::part(line, b'/', 9), &[answer.second], numbers);
+    let words = answer.words;
+    let counted = has_first(list::part(line, b'/', 9), &[words[1]], numbers);
     byte::both(answered, counted)
 }
 
@@ -34,16 +35,17 @@ fn is_answer(text: &[u8], answer: Numbered, numbers: &mut [u64]) -> bool {
     if text.len() == 0 {
         return false;
     }
+    let words = answer.words;
     if answer.number == 0 {
         return has_first(
             text,
-            &[answer.number, answer.first, answer.third, answer.fourth],
+            &[answer.number, words[0], words[2], words[3]],
             numbers,
         );
     }
     has_first(
         text,
-        &[answer.number, answer.first, answer.second, answer.third],
+        &[answer.number, words[0], words[1], words[2]],
         numbers,
     )
 }

@@ -2,7 +2,7 @@
 ghost use Rattle.io.specs.Counts.{Counts};
 use super::agree;
 use super::list;
-use numbers::Numbered;
+use numbered::Numbered;
 use vm::State;
 
 // What a call is given beside texts and buffers, and how much of the stack and work buffers is lent.
@@ -118,8 +118,8 @@ fn call(
     let texts = list::part(line, b'/', 1);
     let state = State { used: given.used };
     match letter(line, 1) {
-        b'v' => numbers::of_check(vm::verify::verify(kinds, operands, given.used)),
-        b'r' => numbers::of_run(vm::run_with_gas(
+        b'v' => vm::verify::verify(kinds, operands, given.used).numbered(),
+        b'r' => vm::run_with_gas(
             kinds,
             operands,
             given.caller,
@@ -128,8 +128,8 @@ fn call(
             work,
             storage,
             state,
-        )),
-        b'g' => numbers::of_run(vm::execute_state_transition_with_gas(
+        ).numbered(),
+        b'g' => vm::execute_state_transition_with_gas(
             list::part(texts, b',', 0),
             list::part(texts, b',', 1),
             list::part(texts, b',', 2),
@@ -146,8 +146,8 @@ fn call(
             work,
             storage,
             state,
-        )),
-        _ => numbers::of_run(vm::execute_state_transition(
+        ).numbered(),
+        _ => vm::execute_state_transition(
             list::part(texts, b',', 0),
             list::part(texts, b',', 1),
             list::part(texts, b',', 2),
@@ -163,6 +163,6 @@ fn call(
             work,
             storage,
             state,
-        )),
+        ).numbered(),
     }
 }

@@ -1,5 +1,6 @@
 -- `atc_vm::atc_assemble` meets its contract: what the call gives is told.
-use Rattle.atc_vm.proofs.Telling.{assembled-told}
+use Rattle.assembler.specs.Output.{assemblyNumbered}
+use Rattle.atc_vm.proofs.Telling.{told}
 use borrow.Author.Needs.{needs}
 use Rattle.atc_vm.proofs.atc_assemble.Statement.{statement}
 use Rattle.atc_vm.proofs.atc_assemble.Tie as tie
@@ -7,8 +8,8 @@ use Rattle.atc_vm.proofs.atc_assemble.Tie as tie
 assemble-requires : tie.Need-assemble-requires
 assemble-requires c κs = search needs
 
-of-assembly-requires : tie.Need-of-assembly-requires
-of-assembly-requires c κs = search needs
+numbered-requires : tie.Need-numbered-requires
+numbered-requires c κs = search needs
 
 tell-requires : tie.Need-tell-requires
 tell-requires c κs = search needs
@@ -17,8 +18,10 @@ same-length : tie.Need-same-length
 same-length c = search needs
 
 returns : tie.Need-returns
-returns c = assembled-told (c .before .before .before .before .before .assemble .ensures) (c .before .of-assembly .ensures) (c .tell .ensures)
+returns c =
+    let p = c .before .before .before .before .before .assemble .ensures in
+    record { tells = told assemblyNumbered (p .answer) (c .before .numbered .ensures) (c .tell .ensures); buffer = p .buffer }
 
 pub atc-assemble-spec : {M : Type 1} → statement M
 atc-assemble-spec =
-    tie.close (tie.spec assemble-requires of-assembly-requires tell-requires same-length returns)
+    tie.close (tie.spec assemble-requires numbered-requires tell-requires same-length returns)

@@ -1,5 +1,6 @@
 -- `atc_vm::atc_execute_state_transition_with_gas` meets its contract: what the call gives is told.
-use Rattle.atc_vm.proofs.Telling.{ran-told}
+use Rattle.vm.specs.Numbers.{answerNumbered}
+use Rattle.atc_vm.proofs.Telling.{told}
 use borrow.Author.Needs.{needs}
 use Rattle.atc_vm.proofs.atc_execute_state_transition_with_gas.Statement.{statement}
 use Rattle.atc_vm.proofs.atc_execute_state_transition_with_gas.Tie as tie
@@ -7,8 +8,8 @@ use Rattle.atc_vm.proofs.atc_execute_state_transition_with_gas.Tie as t
 execute-state-transition-with-gas-requires : tie.Need-execute-state-transition-with-gas-requires
 execute-state-transition-with-gas-requires c κs = search needs
 
-of-run-requires : tie.Need-of-run-requires
-of-run-requires c κs = search needs
+numbered-requires : tie.Need-numbered-requires
+numbered-requires c κs = search needs
 
 tell-requires : tie.Need-tell-requires
 tell-requires c κs = search needs
@@ -23,14 +24,16 @@ same-length-3 : tie.Need-same-length-3
 same-length-3 c = search needs
 
 returns : tie.Need-returns
-returns c = ran-told (c .before .before .before .before .before .before .before .before .before .execute-state-transition-with-gas .ensures) (c .before .of-run .ensures) (c .tell .ensures)
+returns c =
+    let p = c .before .before .before .before .before .before .before .before .before .execute-state-transition-with-gas .ensures in
+    record { tells = told answerNumbered (p .answer) (c .before .numbered .ensures) (c .tell .ensures); stackLeft = p .stack; workLeft = p .work; storageLeft = p .storage }
 
 pub atc-execute-state-transition-with-gas-spec : {M : Type 1} → statement M
 atc-execute-state-transition-with-gas-spec =
     tie.close
     (tie.spec
     execute-state-transition-with-gas-requires
-    of-run-requires
+    numbered-requires
     tell-requires
     same-length
     same-length-2

@@ -1,6 +1,7 @@
 -- `atc_vm::atc_execution_gate` meets its contract: by its number.
 use mathlib.Core.Path.{ap, _∙_}
-use Rattle.context.specs.Gate.{gateNumber}
+use Rattle.numbered.specs.declared.Numbered.{Numbered}
+use Rattle.context.specs.Gate.{gateNumbered}
 use borrow.Author.Needs.{needs}
 use Rattle.atc_vm.proofs.atc_execution_gate.Statement.{statement}
 use Rattle.atc_vm.proofs.atc_execution_gate.Tie as tie
@@ -8,11 +9,11 @@ use Rattle.atc_vm.proofs.atc_execution_gate.Tie as tie
 execution-gate-requires : tie.Need-execution-gate-requires
 execution-gate-requires c κs = search needs
 
-of-gate-requires : tie.Need-of-gate-requires
-of-gate-requires c κs = search needs
+numbered-requires : tie.Need-numbered-requires
+numbered-requires c κs = search needs
 
 returns : tie.Need-returns
-returns c = c .of-gate .ensures ∙ ap gateNumber (c .before .execution-gate .ensures)
+returns c = ap (λ (n : Numbered). n .number) (c .numbered .ensures ∙ ap gateNumbered (c .before .execution-gate .ensures))
 
 pub atc-execution-gate-spec : {M : Type 1} → statement M
-atc-execution-gate-spec = tie.close (tie.spec execution-gate-requires of-gate-requires returns)
+atc-execution-gate-spec = tie.close (tie.spec execution-gate-requires numbered-requires returns)

@@ -1,5 +1,6 @@
 -- `atc_vm::atc_parse_ops` meets its contract: what the call gives is told.
-use Rattle.atc_vm.proofs.Telling.{read-told}
+use Rattle.ops.specs.Numbers.{parsedOpsNumbered}
+use Rattle.atc_vm.proofs.Telling.{told}
 use borrow.Author.Needs.{needs}
 use Rattle.atc_vm.proofs.atc_parse_ops.Statement.{statement}
 use Rattle.atc_vm.proofs.atc_parse_ops.Tie as tie
@@ -7,8 +8,8 @@ use Rattle.atc_vm.proofs.atc_parse_ops.Tie as tie
 parse-ops-requires : tie.Need-parse-ops-requires
 parse-ops-requires c κs = search needs
 
-of-reading-requires : tie.Need-of-reading-requires
-of-reading-requires c κs = search needs
+numbered-requires : tie.Need-numbered-requires
+numbered-requires c κs = search needs
 
 tell-requires : tie.Need-tell-requires
 tell-requires c κs = search needs
@@ -20,14 +21,16 @@ same-length-2 : tie.Need-same-length-2
 same-length-2 c = search needs
 
 returns : tie.Need-returns
-returns c = read-told (c .before .before .before .before .before .before .before .parse-ops .ensures) (c .before .of-reading .ensures) (c .tell .ensures)
+returns c =
+    let p = c .before .before .before .before .before .before .before .parse-ops .ensures in
+    record { tells = told parsedOpsNumbered (p .answer) (c .before .numbered .ensures) (c .tell .ensures); kindsWritten = p .kindsWritten; operandsWritten = p .operandsWritten }
 
 pub atc-parse-ops-spec : {M : Type 1} → statement M
 atc-parse-ops-spec =
     tie.close
     (tie.spec
     parse-ops-requires
-    of-reading-requires
+    numbered-requires
     tell-requires
     same-length
     same-length-2

@@ -1,5 +1,6 @@
 -- `atc_vm::atc_run_with_gas` meets its contract: what the call gives is told.
-use Rattle.atc_vm.proofs.Telling.{ran-told}
+use Rattle.vm.specs.Numbers.{answerNumbered}
+use Rattle.atc_vm.proofs.Telling.{told}
 use borrow.Author.Needs.{needs}
 use Rattle.atc_vm.proofs.atc_run_with_gas.Statement.{statement}
 use Rattle.atc_vm.proofs.atc_run_with_gas.Tie as tie
@@ -7,8 +8,8 @@ use Rattle.atc_vm.proofs.atc_run_with_gas.Tie as tie
 run-with-gas-requires : tie.Need-run-with-gas-requires
 run-with-gas-requires c κs = search needs
 
-of-run-requires : tie.Need-of-run-requires
-of-run-requires c κs = search needs
+numbered-requires : tie.Need-numbered-requires
+numbered-requires c κs = search needs
 
 tell-requires : tie.Need-tell-requires
 tell-requires c κs = search needs
@@ -23,14 +24,16 @@ same-length-3 : tie.Need-same-length-3
 same-length-3 c = search needs
 
 returns : tie.Need-returns
-returns c = ran-told (c .before .before .before .before .before .before .before .before .before .run-with-gas .ensures) (c .before .of-run .ensures) (c .tell .ensures)
+returns c =
+    let p = c .before .before .before .before .before .before .before .before .before .run-with-gas .ensures in
+    record { tells = told answerNumbered (p .answer) (c .before .numbered .ensures) (c .tell .ensures); stackLeft = p .stack; workLeft = p .work; storageLeft = p .storage }
 
 pub atc-run-with-gas-spec : {M : Type 1} → statement M
 atc-run-with-gas-spec =
     tie.close
     (tie.spec
     run-with-gas-requires
-    of-run-requires
+    numbered-requires
     tell-requires
     same-length
     same-length-2

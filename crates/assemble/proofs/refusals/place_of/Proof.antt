@@ -2,7 +2,7 @@
 -- Assumes nothing.
 use mathlib.Core.Path.{sym, ap}
 use Rattle.assembler.specs.declared.refusal.Refusal.{Refusal}
-use Rattle.assembler.specs.Numbers.{refusalOf}
+use Rattle.assembler.specs.Numbers.{refusalNumbered}
 use borrow.Author.Needs.{needs}
 use Rattle.assemble.proofs.refusals.place_of.Statement.{statement}
 use Rattle.assemble.proofs.refusals.place_of.Tie as tie
@@ -56,25 +56,25 @@ enum-told-9 : tie.Need-enum-told-9
 enum-told-9 c = search needs
 
 returns : tie.Need-returns
-returns c = ap (λ (w : Refusal). refusalOf w .values) (sym (c .before .why .given .1))
+returns c = ap (λ (w : Refusal). refusalNumbered w .words) (sym (c .before .why .given .1))
 
 returns-2 : tie.Need-returns-2
-returns-2 c = ap (λ (w : Refusal). refusalOf w .values) (sym (c .before .why2 .given .1))
+returns-2 c = ap (λ (w : Refusal). refusalNumbered w .words) (sym (c .before .why2 .given .1))
 
 returns-3 : tie.Need-returns-3
-returns-3 c = ap (λ (w : Refusal). refusalOf w .values) (sym (c .before .why3 .given .1))
+returns-3 c = ap (λ (w : Refusal). refusalNumbered w .words) (sym (c .before .why3 .given .1))
 
 returns-4 : tie.Need-returns-4
-returns-4 c = ap (λ (w : Refusal). refusalOf w .values) (sym (c .before .why4 .given .1))
+returns-4 c = ap (λ (w : Refusal). refusalNumbered w .words) (sym (c .before .why4 .given .1))
 
 returns-5 : tie.Need-returns-5
-returns-5 c = ap (λ (w : Refusal). refusalOf w .values) (sym (c .before .why5 .given .1))
+returns-5 c = ap (λ (w : Refusal). refusalNumbered w .words) (sym (c .before .why5 .given .1))
 
 returns-6 : tie.Need-returns-6
-returns-6 c = ap (λ (w : Refusal). refusalOf w .values) (sym (c .before .why6 .given .1))
+returns-6 c = ap (λ (w : Refusal). refusalNumbered w .words) (sym (c .before .why6 .given .1))
 
 returns-7 : tie.Need-returns-7
-returns-7 c = ap (λ (w : Refusal). refusalOf w .values) (sym (c .before .why7 .given .1))
+returns-7 c = ap (λ (w : Refusal). refusalNumbered w .words) (sym (c .before .why7 .given .1))
 
 returns-8 : tie.Need-returns-8
 returns-8 c = search needs

@@ -1,6 +1,6 @@
 -- `letters` is E10: what the call ensures, and the group's figures.
 use mathlib.Core.Path.{ap, _∙_}
-use Rattle.context.specs.Gate.{gateNumber}
+use Rattle.context.specs.Gate.{gateNumbered}
 use Rattle.examples.proofs.Bench.{bench}
 use borrow.Author.Needs.{needs}
 use Rattle.examples.proofs.gate.letters.Statement.{statement}
@@ -34,7 +34,7 @@ execution-gate-requires : tie.Need-execution-gate-requires
 execution-gate-requires c κs = search needs
 
 returns : tie.Need-returns
-returns c = ap gateNumber (c .execution-gate .ensures) ∙ bench .e10
+returns c = ap gateNumbered (c .execution-gate .ensures) ∙ bench .e10
 
 pub letters-spec : {M : Type 1} → statement M
 letters-spec =

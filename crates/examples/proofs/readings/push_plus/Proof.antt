@@ -2,7 +2,7 @@
 use mathlib.Core.Path.{ap, _∙_}
 use mathlib.Core.List.{List}
 use Rattle.ops.specs.Ops.{Operation, operandsOf, onto}
-use Rattle.examples.specs.Numbers.{readingNumbered}
+use Rattle.ops.specs.Numbers.{parsedOpsNumbered}
 use Rattle.examples.specs.Runs.{zeros}
 use Rattle.examples.proofs.Bench.{bench}
 use borrow.Author.Needs.{needs}
@@ -16,7 +16,7 @@ read-requires : tie.Need-read-requires
 read-requires c κs = search needs
 
 returns : tie.Need-returns
-returns c = record { answer = ap readingNumbered (c .read .ensures .answer) ∙ bench .e7-plus; buffer = c .read .ensures .operands ∙ ap (λ (os : List Operation). onto (operandsOf os) zeros) (bench .e7-operations) }
+returns c = record { answer = ap parsedOpsNumbered (c .read .ensures .answer) ∙ bench .e7-plus; buffer = c .read .ensures .operands ∙ ap (λ (os : List Operation). onto (operandsOf os) zeros) (bench .e7-operations) }
 
 pub push-plus-spec : {M : Type 1} → statement M
 push-plus-spec = tie.close (tie.spec slice-aggregate-read read-requires returns)
