@@ -1,4 +1,7 @@
 -- The number and values of each refusal, case by case.
+use mathlib.Core.Path.{ap, _∙_}
+use Rattle.numbered.specs.declared.Numbered.{Numbered}
+use Rattle.numbered.specs.Numbered.{located}
 use Rattle.numbered.proofs.Told.{told}
 use Rattle.assembler.specs.Numbers.{refusalNumbered}
 use borrow.Author.Needs.{needs}
@@ -50,7 +53,7 @@ numbered-spec =
     (λ c. told refusalNumbered (c .before .before .self4 .given .1) (c .carrying-one3 .ensures))
     (λ c. told refusalNumbered (c .before .before .self5 .given .1) (c .carrying-one4 .ensures))
     (λ c. told refusalNumbered (c .before .before .self6 .given .1) (c .carrying-one5 .ensures))
-    (λ c. told refusalNumbered (c .before .before .before .self7 .given .1) (c .located .ensures))
+    (λ c. told refusalNumbered (c .before .before .before .self7 .given .1) (c .located .ensures ∙ ap (λ (n : Numbered). located n (c .before .before .before .self7 .given .0 .1 .0)) (c .before .numbered2 .ensures)))
     (λ c. told refusalNumbered (c .before .before .self8 .given .1) (c .carrying-one6 .ensures))
     (λ c. told refusalNumbered (c .before .enum-told3 .given .1) (c .plain3 .ensures))
     (λ c. told refusalNumbered (c .before .enum-told4 .given .1) (c .plain4 .ensures))
