@@ -4,6 +4,6 @@ use mathlib.Core.Path.{_≡_}
 use mathlib.Core.List.{List}
 use Rattle.numbered.specs.declared.Numbered.{Numbered}
 
-pub record Tells (n : Numbered) (words : List ℕ) (r : ℕ) : Type 0 where
+pub record Tells (n : Numbered) (after : List ℕ) (r : ℕ) : Type 0 where
   pub number : r ≡ n .number
-  pub words : words ≡ n .words
+  pub words : after ≡ n .words

@@ -19,7 +19,8 @@ use vm::State;
 fn tell(answer: &mut [u64; 8], n: Numbered) -> u64
     ensures { λ r. ⌜ Tells n (now (answer .exit)) r ⌝ }
 {
-    *answer = n.words;
+    let words = n.words;
+    *answer = words;
     n.number
 }
 
