@@ -6,10 +6,10 @@ use crate::assembler::{assemble_text, Assembled};
 use crate::gate::{self, Texts};
 use crate::gate_numbers::context_number;
 use crate::kinds::{kind_and_operand, op};
-use crate::library::{self, Answer};
 use crate::ops::parse_ops;
 use crate::tally::*;
 use crate::vm::{Op, Vm, VmError};
+use atc_vm::sys::{self, Answer, Run};
 
 type Program = Vec<(u8, u64)>;
 
@@ -104,15 +104,22 @@ fn check(
     counts: (Option<u64>, Option<u64>),
 ) -> Result<Seen, String> {
     let (kinds, operands): (Vec<u8>, Vec<u64>) = program.iter().copied().unzip();
-    let mut answer: Answer = [77; 8];
     b.stack.lend(s.stack);
     b.work.lend(s.storage);
     b.storage.lend(s.storage);
-    let lent = library::Lent { stack: b.stack.lent(), work: b.work.lent(), storage: b.storage.lent(), used: s.used as u64 };
-    let got = match s.entry {
-        Entry::Run => library::run_with_gas(&kinds, &operands, s.caller, limit, lent, &mut answer),
-        Entry::WithGas(t) => library::transition_with_gas(&t.each_ref().map(|s| s.as_bytes()), &kinds, &operands, s.caller, limit, lent, &mut answer),
-        Entry::Without(t) => library::transition(&t.each_ref().map(|s| s.as_bytes()), &kinds, &operands, s.caller, lent, &mut answer),
+    let run = Run {
+        kinds: &kinds,
+        operands: &operands,
+        caller: s.caller,
+        stack: b.stack.lent(),
+        work: b.work.lent(),
+        storage: b.storage.lent(),
+        used: s.used as u64,
+    };
+    let Answer { number: got, words: answer } = match s.entry {
+        Entry::Run => sys::run_with_gas(run, limit),
+        Entry::WithGas(t) => sys::execute_state_transition_with_gas(gate::texts(t), run, limit),
+        Entry::Without(t) => sys::execute_state_transition(gate::texts(t), run),
     };
     let (wanted, carried) = match &asked.result {
         _ if *beyond => (51, [0; 4]),
@@ -176,8 +183,7 @@ fn check_verify(program: &[(u8, u64)], used: usize) -> Result<Seen, String> {
     let (kinds, operands): (Vec<u8>, Vec<u64>) = program.iter().copied().unzip();
     let vm = Vm::with_context(program.iter().map(op).collect(), 0, vec![0; used]);
     let (wanted, carried) = vm.verify().map_or_else(|e| number(&e, used), |_| (0, [0; 2]));
-    let mut answer = [77; 8];
-    let got = library::verify(&kinds, &operands, used as u64, &mut answer);
+    let Answer { number: got, words: answer } = sys::verify(&kinds, &operands, used as u64);
     if got != wanted || answer[..2] != carried || answer[2..] != [0; 6] {
         return Err(format!("used {used}: library {got} {answer:?}, original {wanted} {carried:?}"));
     }
@@ -368,8 +374,8 @@ impl Comparison {
                     let s = Setting { used, storage: lent, ..s };
                     let early = d.below(12) as u64;
                     for limit in [early, 1000] {
-                        self.under(&vec![(0, 5), (12, slot), (11, slot), (11, 0), (0, 8), (12, 0)], s, limit);
-                        self.under(&vec![(0, 5), (12, slot), (0, 1), (0, 0), (4, 0)], s, limit);
+                        self.under(&[(0, 5), (12, slot), (11, slot), (11, 0), (0, 8), (12, 0)], s, limit);
+                        self.under(&[(0, 5), (12, slot), (0, 1), (0, 0), (4, 0)], s, limit);
                     }
                 }
             }
