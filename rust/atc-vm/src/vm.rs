@@ -80,7 +80,7 @@ impl Op {
         }
     }
 
-    // How many slots the storage has at least once this has been stored.
+    // How many slots a storage needs for this to be stored in it; none where it can't be.
     fn reach(&self) -> usize {
         match *self {
             Op::Store(slot) if slot < MAX_STORAGE_SLOTS => slot + 1,
