@@ -4,7 +4,7 @@
  * `rt staticlib atc_vm` proves crates/atc_vm and writes target/staticlib/libatc_vm.a, for x86-64. For every input that
  * keeps what is asked below, the number, the answer and the contents of every buffer are proved to be those of document
  * 01; the contracts stand in crates/atc_vm/src/lib.rt. A test, rust/atc-vm/tests/header.rs, holds these declarations
- * to the functions there.
+ * to the functions there. rust/atc-vm/tests/abi.c is an example: a contract assembled, read and run.
  *
  * RESULT AND ANSWER. Every function returns a number: 0 for success, or a refusal of the table below, which is document
  * 01's. Document 01 also says which one is given where several apply. `answer` points to eight words. A function that
@@ -194,7 +194,8 @@ uint64_t atc_verify(const uint8_t *kinds, size_t kinds_len,
  * Verifies a program and runs it under a gas limit, on the first `used` slots of the storage buffer.
  * Gives 0, 34, 41 to 51. On 0 the answer is [gas spent, operations executed, items, used length after]: the stack
  * buffer holds the items, bottom first, then zeros; the work buffer is zero; the storage buffer holds the slots, and is
- * untouched past the used length after. What the stack and work buffers hold before doesn't matter.
+ * untouched past the used length after. What the stack and work buffers hold before doesn't matter, nor what the storage
+ * buffer holds past `used`. After a refusal the used length is what it was: don't take it from answer[3], which is 0 then.
  * `stack` needs ATC_MAX_STACK_ITEMS or more, `work` and `storage` one length, no less than `used`. All of `stack` and
  * `work` is cleared, so short ones are faster.
  */

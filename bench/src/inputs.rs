@@ -106,6 +106,40 @@ pub fn unfriendly() -> Vec<Contract> {
     ]
 }
 
+/// As many lines, names or signs of one sort as 65,536 bytes hold.
+pub fn many() -> Vec<Contract> {
+    let skipped = |name, line: &str, n: usize| valued(name, wrap(&format!("{}return 1\n", line.repeat(n)), ""), "");
+    vec![
+        skipped("65,000 empty lines", "\n", 65_000),
+        skipped("32,000 lines of a blank", " \n", 32_000),
+        skipped("32,000 lines of one letter", "x\n", 32_000),
+        skipped("21,000 remarks", "//\n", 21_000),
+        skipped("7,000 lines `return 1`", "return 1\n", 7000),
+        skipped("255 lines `let x=1`", "let x=1\n", 255),
+        oldest("the oldest of 256 bindings of one letter, used 31,000 times", "a", |_| "b".into(), 31_000),
+        valued(
+            "the oldest of 256 parameters of one letter, used 31,000 times",
+            wrap(&format!("return {}1\n", "a+".repeat(31_000)), &format!("a{}", ",b".repeat(255))),
+            "\"a\": 5, \"b\": 7, ",
+        ),
+        oldest("the oldest of 256 bindings of five letters, used 10,000 times", "x0000", |i| format!("x{i:04}"), 10_000),
+        oldest(
+            "the oldest of 256 bindings of 100 letters alike but the last four, used 370 times",
+            &format!("{}0000", "x".repeat(96)),
+            |i| format!("{}{i:04}", "x".repeat(96)),
+            370,
+        ),
+        valued("a literal of 65,000 zeros", wrap(&format!("return {}\n", "0".repeat(65_000)), ""), ""),
+        valued("65,000 commas", wrap("return 1\n", &",".repeat(65_000)), ""),
+    ]
+}
+
+/// A name is bound, then 255 others, and it is used n times.
+fn oldest(name: &'static str, first: &str, other: impl Fn(usize) -> String, n: usize) -> Contract {
+    let others: String = (1..256).map(|i| format!("let {}=1\n", other(i))).collect();
+    valued(name, wrap(&format!("let {first}=1\n{others}return {}1\n", format!("{first}+").repeat(n)), ""), "")
+}
+
 /// About 1 MB of each kind.
 pub fn texts() -> Vec<(&'static str, String)> {
     let words =
@@ -144,6 +178,10 @@ pub fn texts() -> Vec<(&'static str, String)> {
         ("JumpIfNotZero alone", long(&mut |i| format!("JumpIfNotZero {}\n", i % 50))),
         ("all kinds, indented, CR LF", long(&mut |_| format!("    {}\r\n", line(3)))),
         ("all kinds, a remark before each", long(&mut |_| format!("# what the next line is for\n{}\n", line(3)))),
+        (
+            "Push and Add in turn, a remark before each",
+            long(&mut |i| format!("# what the next line is for\n{}\n", if i % 2 == 0 { format!("Push {}", i % 100) } else { "Add".into() })),
+        ),
         ("remarks in Cyrillic, few operations", long(&mut |i| if i % 20 == 0 { "Dup\n".into() } else { "# значение оси и цилиндра\n".into() })),
         ("all kinds between ideographic spaces", long(&mut |_| format!("\u{3000}{}\u{3000}\n", line(3)))),
         ("blank lines, few operations", long(&mut |i| if i % 50 == 0 { "Dup\n".into() } else { "   \n".into() })),
@@ -170,6 +208,9 @@ pub fn reaching() -> Vec<(&'static str, Program)> {
     let halt_first = std::iter::once((15, 0)).chain((1..4000).map(|i| (11, i))).collect();
     vec![
         ("Load 3, Push 1, Add, Store 2, Halt", vec![(11, 3), (0, 1), (1, 0), (12, 2), (15, 0)]),
+        ("Load 65535, Halt", vec![(11, 65_535), (15, 0)]),
+        ("Push 1, Store 65535, Halt", vec![(0, 1), (12, 65_535), (15, 0)]),
+        ("Load 0, Load 65535, Add, Store 0, Halt", vec![(11, 0), (11, 65_535), (1, 0), (12, 0), (15, 0)]),
         ("Load 65535, Push 1, Add, Store 2, Halt", vec![(11, 65_535), (0, 1), (1, 0), (12, 2), (15, 0)]),
         ("Halt, then 3,999 times Load", halt_first),
     ]

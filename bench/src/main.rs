@@ -4,14 +4,12 @@ mod inputs;
 #[path = "../../oracle/kinds.rs"]
 #[allow(dead_code)]
 mod kinds;
-#[path = "../../oracle/compare/src/library.rs"]
-mod library;
 mod stack;
 
 use assembler::assemble_plain;
+use atc_vm::sys::{self, Gate, Run};
 use context::{execution_gate, ChainContext};
 use inputs::{Contract, Program};
-use library::{Answer, Lent};
 use std::hint::black_box;
 use std::time::Instant;
 use vm::Vm;
@@ -89,19 +87,18 @@ fn head(title: &str, clear: bool) {
 fn assemblies(title: &str, contracts: &[Contract]) {
     head(title, false);
     let mut out = vec![7u8; 1 << 20];
-    let mut answer: Answer = [0; 8];
     for c in contracts {
         let (contract, vector) = (c.contract.as_bytes(), c.vector.as_bytes());
         assert!(contract.len() <= 65_536 && vector.len() <= 65_536);
-        let number = library::assemble(contract, vector, b"tally", &mut out, &mut answer);
+        let answer = sys::assemble(contract, vector, b"tally", &mut out);
         match assemble_plain(contract, vector, "tally") {
-            Ok(text) => assert!(number == 0 && out[..answer[0] as usize] == *text.as_bytes(), "{}: {number}", c.name),
-            Err(message) => assert!(number == 8 && message.starts_with("vector missing key"), "{}: {number}", c.name),
+            Ok(text) => assert!(answer.number == 0 && out[..answer.words[0] as usize] == *text.as_bytes(), "{}: {answer:?}", c.name),
+            Err(message) => assert!(answer.number == 8 && message.starts_with("vector missing key"), "{}: {answer:?}", c.name),
         }
         row(
             c.name,
             &mut || drop(black_box(assemble_plain(black_box(contract), vector, "tally"))),
-            &mut || _ = black_box(library::assemble(black_box(contract), vector, b"tally", &mut out, &mut answer)),
+            &mut || _ = black_box(sys::assemble(black_box(contract), vector, b"tally", &mut out).number),
             None,
         );
     }
@@ -110,18 +107,18 @@ fn assemblies(title: &str, contracts: &[Contract]) {
 fn reading() {
     head("Reading 1 MB, UTF-8 checked on both sides", false);
     let (mut kinds, mut operands) = (vec![0u8; 1 << 20], vec![0u64; 1 << 20]);
-    let mut answer: Answer = [0; 8];
     let tally = "# contract: tally\n# expected: 24\nPush 5\nPush 7\nAdd\nPush 2\nMul\nHalt\n".to_string();
     let texts = inputs::texts().into_iter().chain([("the tally, 8 lines", tally)]);
     for (name, text) in texts {
         let read = |text: &[u8]| ops::parse_ops(std::str::from_utf8(text).unwrap()).unwrap();
         let want: Program = read(text.as_bytes()).iter().map(kinds::kind_and_operand).collect();
-        assert_eq!(library::parse_ops(text.as_bytes(), &mut kinds, &mut operands, &mut answer), 0);
-        assert!(answer[0] as usize == want.len() && want.iter().zip(kinds.iter().zip(&operands)).all(|(w, (k, o))| w == &(*k, *o)));
+        let answer = sys::parse_ops(text.as_bytes(), &mut kinds, &mut operands);
+        assert_eq!((answer.number, answer.words[0] as usize), (0, want.len()));
+        assert!(want.iter().zip(kinds.iter().zip(&operands)).all(|(w, (k, o))| w == &(*k, *o)));
         row(
             name,
             &mut || drop(black_box(read(black_box(text.as_bytes())))),
-            &mut || _ = black_box(library::parse_ops(black_box(text.as_bytes()), &mut kinds, &mut operands, &mut answer)),
+            &mut || _ = black_box(sys::parse_ops(black_box(text.as_bytes()), &mut kinds, &mut operands).number),
             None,
         );
     }
@@ -131,7 +128,7 @@ fn verifying() {
     head("verify", false);
     let jumps: Program = (0..65_536).map(|i| ([7, 8, 14][i % 3], (i * 7 % 65_536) as u64)).collect();
     let none: Program = (0..65_536).map(|i| ([0, 1, 5, 11, 12][i % 5], i as u64)).collect();
-    let mixed: Program = (0..65_536).map(|i| ((i * 2_654_435_761usize >> 9) as u8 % 16, (i * 7 % 65_536) as u64)).collect();
+    let mixed: Program = (0..65_536).map(|i| (((i * 2_654_435_761usize) >> 9) as u8 % 16, (i * 7 % 65_536) as u64)).collect();
     let large: Program = none.iter().map(|&(k, v)| (k, v + 65_536)).collect();
     for (name, program) in [
         ("65,536 operations, no jumps", none),
@@ -142,12 +139,11 @@ fn verifying() {
     ] {
         let (kinds, operands): (Vec<u8>, Vec<u64>) = program.iter().copied().unzip();
         let vm = Vm::with_context(program.iter().map(kinds::op).collect(), 7, vec![]);
-        let mut answer: Answer = [0; 8];
-        assert!(vm.verify().is_ok() && library::verify(&kinds, &operands, 0, &mut answer) == 0);
+        assert!(vm.verify().is_ok() && sys::verify(&kinds, &operands, 0).number == 0);
         row(
             name,
             &mut || _ = black_box(black_box(&vm).verify().is_ok()),
-            &mut || _ = black_box(library::verify(black_box(&kinds), &operands, 0, &mut answer)),
+            &mut || _ = black_box(sys::verify(black_box(&kinds), &operands, 0).number),
             None,
         );
     }
@@ -160,7 +156,6 @@ struct Machine {
     work: Vec<u64>,
     storage: Vec<u64>,
     used: u64,
-    answer: Answer,
 }
 
 impl Machine {
@@ -168,15 +163,36 @@ impl Machine {
         let (kinds, operands) = program.iter().copied().unzip();
         let storage: Vec<u64> = (0..lent as u64).collect();
         let vm = Vm::with_context(program.iter().map(kinds::op).collect(), 7, storage[..used].to_vec());
-        (Machine { kinds, operands, stack: vec![9; 4096], work: vec![9; lent], storage, used: used as u64, answer: [0; 8] }, vm)
+        (Machine { kinds, operands, stack: vec![9; 4096], work: vec![9; lent], storage, used: used as u64 }, vm)
     }
 
-    fn call(&mut self, context: Option<&library::Context>, limit: u64) -> u64 {
-        let lent = Lent { stack: &mut self.stack, work: &mut self.work, storage: &mut self.storage, used: self.used };
-        match context {
-            None => library::run_with_gas(black_box(&self.kinds), &self.operands, 7, limit, lent, &mut self.answer),
-            Some(t) => library::transition_with_gas(t, black_box(&self.kinds), &self.operands, 7, limit, lent, &mut self.answer),
+    fn call(&mut self, gate: Option<Gate>, limit: u64) -> u64 {
+        let run = Run {
+            kinds: black_box(&self.kinds),
+            operands: &self.operands,
+            caller: 7,
+            stack: &mut self.stack,
+            work: &mut self.work,
+            storage: &mut self.storage,
+            used: self.used,
+        };
+        match gate {
+            None => sys::run_with_gas(run, limit).number,
+            Some(gate) => sys::execute_state_transition_with_gas(gate, run, limit).number,
         }
+    }
+}
+
+fn gate(genesis: &str) -> Gate<'_> {
+    Gate {
+        chain_id: b"atc",
+        network_id: b"devnet",
+        genesis_id: genesis.as_bytes(),
+        protocol_version: b"p1",
+        vm_version: b"v1",
+        computed_genesis_id: genesis.as_bytes(),
+        expected_protocol: b"p1",
+        expected_vm: b"v1",
     }
 }
 
@@ -189,9 +205,8 @@ fn runs() {
         row(name, &mut || drop(black_box(vm.run_with_gas(u64::MAX).unwrap())), &mut || assert_eq!(m.call(None, u64::MAX), 0), None);
     }
     let genesis = "0123456789abcdef".repeat(4);
-    let t = ["atc", "devnet", &genesis, "p1", "v1", &genesis, "p1", "v1"];
-    let context = t.map(str::as_bytes);
-    let [chain_id, network_id, genesis_id, protocol_version, vm_version] = [t[0], t[1], t[2], t[3], t[4]].map(String::from);
+    let gate = gate(&genesis);
+    let [chain_id, network_id, genesis_id, protocol_version, vm_version] = ["atc", "devnet", &genesis, "p1", "v1"].map(String::from);
     let chain = ChainContext { chain_id, network_id, genesis_id, protocol_version, vm_version };
     for transition in [false, true] {
         let what = if transition { "Transitions" } else { "Runs" };
@@ -207,7 +222,7 @@ fn runs() {
                     false => vm.run_with_gas(limit),
                     true => vm.execute_state_transition_with_gas(&chain, &genesis, "p1", "v1", limit),
                 };
-                let ours = || m.borrow_mut().call(transition.then_some(&context), limit);
+                let ours = || m.borrow_mut().call(transition.then_some(gate), limit);
                 assert_eq!(original().is_ok(), ours() == 0);
                 row(
                     &format!("{name}, {used} slots used and lent"),
@@ -227,12 +242,12 @@ fn runs() {
     row(
         "execution_gate, passing",
         &mut || _ = black_box(execution_gate(black_box(&chain), &genesis, "p1", "v1").is_ok()),
-        &mut || _ = black_box(library::execution_gate(black_box(&context))),
+        &mut || _ = black_box(sys::execution_gate(black_box(gate))),
         None,
     );
     let Contract { contract, vector, .. } = inputs::contracts().swap_remove(0);
-    let (mut out, mut kinds, mut operands) = ([0u8; 256], [0u8; 6], [0u64; 6]);
-    let (mut m, _) = Machine::new(&vec![], 4, 4);
+    let mut out = [0u8; 256];
+    let (mut m, _) = Machine::new(&vec![(0, 0); 6], 4, 4);
     row(
         "tally assembled, read and run, 4 slots used and lent",
         &mut || {
@@ -241,11 +256,10 @@ fn runs() {
             drop(black_box(vm.execute_state_transition_with_gas(&chain, &genesis, "p1", "v1", 1000).unwrap()));
         },
         &mut || {
-            let mut answer = [0; 8];
-            assert_eq!(library::assemble(contract.as_bytes(), vector.as_bytes(), b"tally", &mut out, &mut answer), 0);
-            assert_eq!(library::parse_ops(&out[..answer[0] as usize], &mut kinds, &mut operands, &mut answer), 0);
-            let lent = Lent { stack: &mut m.stack, work: &mut m.work, storage: &mut m.storage, used: 4 };
-            assert_eq!(library::transition_with_gas(&context, &kinds, &operands, 7, 1000, lent, &mut answer), 0);
+            let assembled = sys::assemble(contract.as_bytes(), vector.as_bytes(), b"tally", &mut out);
+            assert_eq!(assembled.number, 0);
+            assert_eq!(sys::parse_ops(&out[..assembled.words[0] as usize], &mut m.kinds, &mut m.operands).number, 0);
+            assert_eq!(m.call(Some(gate), 1000), 0);
         },
         None,
     );
@@ -282,35 +296,41 @@ fn stacks() {
         ("60,000 open parentheses", format!("fn f(){{return {}}}", "(".repeat(60_000)), one()),
     ];
     cases.extend(inputs::unfriendly().into_iter().skip(4).map(|c| (c.name, c.contract, Some(c.vector))));
-    let (mut out, mut answer) = (vec![7u8; 1 << 20], [0; 8]);
+    let assemble = |contract: &str, vector: &str| -> Call {
+        let (contract, vector, mut out) = (contract.to_string(), vector.to_string(), vec![7u8; 1 << 20]);
+        Box::new(move || sys::assemble(contract.as_bytes(), vector.as_bytes(), b"tally", &mut out).number)
+    };
     for (name, contract, vector) in cases {
         let vector = vector.unwrap_or_else(|| valued(&contract));
-        most("assemble", name, vec![Box::new(|| library::assemble(contract.as_bytes(), vector.as_bytes(), b"tally", &mut out, &mut answer))]);
+        most("assemble", name, vec![assemble(&contract, &vector)]);
     }
+    let many = inputs::many();
+    most("assemble", "the most of the contracts with many of one sort", many.iter().map(|c| assemble(&c.contract, &c.vector)).collect());
     let texts: Vec<&'static str> = inputs::texts().into_iter().map(|(_, t)| &*t.leak()).collect();
     let read = |text: &'static str| -> Call {
-        let (mut kinds, mut operands, mut answer) = (vec![0; 1 << 20], vec![0; 1 << 20], [0; 8]);
-        Box::new(move || library::parse_ops(text.as_bytes(), &mut kinds, &mut operands, &mut answer))
+        let (mut kinds, mut operands) = (vec![0; 1 << 20], vec![0; 1 << 20]);
+        Box::new(move || sys::parse_ops(text.as_bytes(), &mut kinds, &mut operands).number)
     };
     most("parse_ops", "1 MB, the most of the texts above", texts.iter().map(|t| read(t)).collect());
-    let line = |text: &'static str| -> Call { Box::new(move || library::trimmed_line(text.as_bytes(), 50_000, &mut [0; 8])) };
+    let line = |text: &'static str| -> Call { Box::new(move || sys::trimmed_line(text.as_bytes(), 50_000).number) };
     most("trimmed_line", "1 MB, line 50,000, the most of the texts above", texts.iter().map(|t| line(t)).collect());
     let genesis: &'static str = "0123456789abcdef".repeat(4).leak();
-    let context = ["atc", "devnet", genesis, "p1", "v1", genesis, "p1", "v1"].map(str::as_bytes);
-    most("execution_gate", "passing", vec![Box::new(|| library::execution_gate(&context))]);
+    let gate = gate(genesis);
+    most("execution_gate", "passing", vec![Box::new(|| sys::execution_gate(gate))]);
     let programs: Vec<Program> = inputs::loops().into_iter().chain(inputs::short()).map(|(_, p)| p).collect();
     let made = |p: &Program| Machine::new(p, 65_536, 65_536).0;
-    let verify = |mut m: Machine| -> Call { Box::new(move || library::verify(&m.kinds, &m.operands, 1, &mut m.answer)) };
+    let verify = |m: Machine| -> Call { Box::new(move || sys::verify(&m.kinds, &m.operands, 1).number) };
     most("verify", "the most of the programs above", programs.iter().map(|p| verify(made(p))).collect());
     let run = |mut m: Machine| -> Call { Box::new(move || m.call(None, u64::MAX)) };
     most("run_with_gas", "the most of the programs above, 65,536 slots", programs.iter().map(|p| run(made(p))).collect());
-    let transition = |mut m: Machine| -> Call { Box::new(move || m.call(Some(&context), u64::MAX)) };
+    let transition = |mut m: Machine| -> Call { Box::new(move || m.call(Some(gate), u64::MAX)) };
     most("execute_state_transition_with_gas", "the same", programs.iter().map(|p| transition(made(p))).collect());
 }
 
 fn main() {
     assemblies("Assembly", &inputs::contracts());
     assemblies("Assembly, unfriendly inputs", &inputs::unfriendly());
+    assemblies("Assembly, many of one sort", &inputs::many());
     reading();
     verifying();
     runs();

@@ -19,12 +19,8 @@ fn main() {
         println!("cargo:rerun-if-changed={}", original.join(format!("{name}.rs")).display());
     }
     fs::write(out.join("original.rs"), modules).unwrap();
-    let library = root.join("target/staticlib");
     println!("cargo:rerun-if-env-changed=ATC_VM");
     for file in &behind {
         println!("cargo:rerun-if-changed={}", file.display());
     }
-    println!("cargo:rerun-if-changed={}", library.join("libatc_vm.a").display());
-    println!("cargo:rustc-link-search=native={}", library.display());
-    println!("cargo:rustc-link-lib=static=atc_vm");
 }

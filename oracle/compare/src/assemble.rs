@@ -1,7 +1,7 @@
 //! `assemble`: output, figures, refusals, and the lent buffer.
 use crate::assembler::{assemble, assemble_plain, assemble_text, number, Assembled};
-use crate::library;
 use crate::tally::*;
+use atc_vm::sys::{self, Answer};
 use std::fs;
 use std::path::PathBuf;
 
@@ -33,9 +33,8 @@ fn check(c: &Case, out: &mut Buffer<u8>) -> Result<Seen, String> {
         Assembled::Added { number: 0, .. } => return Ok(Seen::Nothing),
         Assembled::Added { number, carried } => (*number, [*carried, 0, 0, 0], "", Seen::Added(*number)),
     };
-    let mut answer = [77; 8];
     out.lend(room as usize);
-    let got = library::assemble(&c.contract, &c.vector, &c.stem, out.lent(), &mut answer);
+    let Answer { number: got, words: answer } = sys::assemble(&c.contract, &c.vector, &c.stem, out.lent());
     if got != wanted || answer[..4] != carried || answer[4..] != [0; 4] {
         return Err(format!("library {got} {answer:?}, original {wanted} {carried:?}"));
     }

@@ -1,8 +1,8 @@
 //! `execution_gate`. Contexts are UTF-8, since the original's are `String`s.
 use crate::context::{execution_gate, ChainContext};
 use crate::gate_numbers::context_number;
-use crate::library;
 use crate::tally::*;
+use atc_vm::sys;
 
 pub type Texts = [String; 8];
 
@@ -16,9 +16,15 @@ pub fn context(t: &Texts) -> ChainContext {
     }
 }
 
+pub fn texts(t: &Texts) -> sys::Gate<'_> {
+    let [chain_id, network_id, genesis_id, protocol_version, vm_version, computed_genesis_id, expected_protocol, expected_vm] =
+        t.each_ref().map(|s| s.as_bytes());
+    sys::Gate { chain_id, network_id, genesis_id, protocol_version, vm_version, computed_genesis_id, expected_protocol, expected_vm }
+}
+
 fn check(t: &Texts) -> Result<Seen, String> {
     let wanted = execution_gate(&context(t), &t[5], &t[6], &t[7]).map_or_else(|e| context_number(&e), |_| 0);
-    let got = library::execution_gate(&t.each_ref().map(|s| s.as_bytes()));
+    let got = sys::execution_gate(texts(t));
     if got == wanted {
         Ok(Seen::Compared(got))
     } else {

@@ -7,7 +7,6 @@ mod gate;
 mod gate_numbers;
 #[path = "../../kinds.rs"]
 mod kinds;
-mod library;
 mod read;
 mod run;
 mod tally;

@@ -1,8 +1,8 @@
 //! `parse_ops` and the trimmed lines.
 use crate::kinds::kind_and_operand;
-use crate::library;
 use crate::ops::{parse_ops, OpsError};
 use crate::tally::*;
+use atc_vm::sys::{self, Answer};
 
 struct Wanted {
     number: u64,
@@ -55,8 +55,7 @@ fn check(text: &[u8], rooms: (usize, usize), lent: &mut Lent) -> Result<Seen, St
     let w = wanted(text, rooms.0.min(rooms.1));
     lent.kinds.lend(rooms.0);
     lent.operands.lend(rooms.1);
-    let mut answer = [77; 8];
-    let got = library::parse_ops(text, lent.kinds.lent(), lent.operands.lent(), &mut answer);
+    let Answer { number: got, words: answer } = sys::parse_ops(text, lent.kinds.lent(), lent.operands.lent());
     if got != w.number || answer[..3] != w.carried || answer[3..] != [0; 5] {
         return Err(format!("library {got} {answer:?}, original {} {:?}", w.number, w.carried));
     }
@@ -77,8 +76,7 @@ fn check_line(text: &[u8], line: u64) -> Result<Seen, String> {
             want[..2].copy_from_slice(&[(at - text.as_ptr() as usize) as u64, part.len() as u64]);
         }
     }
-    let mut answer = [77; 8];
-    let got = library::trimmed_line(text, line, &mut answer);
+    let Answer { number: got, words: answer } = sys::trimmed_line(text, line);
     if got != 0 || answer != want {
         return Err(format!("line {line}: library {got} {answer:?}, std {want:?}"));
     }

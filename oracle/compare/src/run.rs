@@ -1,4 +1,5 @@
-//! `verify`, `run_with_gas` and both transitions: answers, carried values, and the three lent buffers whole.
+//! `verify`, `run_with_gas` and both transitions: answers, carried values, and the three lent buffers whole. Then the
+//! machine of rust/atc-vm, which lends the buffers itself.
 //! The original gives neither gas spent nor operations executed. The gas spent is the least limit that suffices. Below it
 //! the original names the price and the gas left, so every operation with a price shows as one sum of gas spent
 //! before it; Halt, which is free, shows when every Halt is replaced by a jump to itself.
@@ -6,10 +7,10 @@ use crate::assembler::{assemble_text, Assembled};
 use crate::gate::{self, Texts};
 use crate::gate_numbers::context_number;
 use crate::kinds::{kind_and_operand, op};
-use crate::library::{self, Answer};
 use crate::ops::parse_ops;
 use crate::tally::*;
 use crate::vm::{Op, Vm, VmError};
+use atc_vm::sys::{self, Answer, Run};
 
 type Program = Vec<(u8, u64)>;
 
@@ -104,15 +105,22 @@ fn check(
     counts: (Option<u64>, Option<u64>),
 ) -> Result<Seen, String> {
     let (kinds, operands): (Vec<u8>, Vec<u64>) = program.iter().copied().unzip();
-    let mut answer: Answer = [77; 8];
     b.stack.lend(s.stack);
     b.work.lend(s.storage);
     b.storage.lend(s.storage);
-    let lent = library::Lent { stack: b.stack.lent(), work: b.work.lent(), storage: b.storage.lent(), used: s.used as u64 };
-    let got = match s.entry {
-        Entry::Run => library::run_with_gas(&kinds, &operands, s.caller, limit, lent, &mut answer),
-        Entry::WithGas(t) => library::transition_with_gas(&t.each_ref().map(|s| s.as_bytes()), &kinds, &operands, s.caller, limit, lent, &mut answer),
-        Entry::Without(t) => library::transition(&t.each_ref().map(|s| s.as_bytes()), &kinds, &operands, s.caller, lent, &mut answer),
+    let run = Run {
+        kinds: &kinds,
+        operands: &operands,
+        caller: s.caller,
+        stack: b.stack.lent(),
+        work: b.work.lent(),
+        storage: b.storage.lent(),
+        used: s.used as u64,
+    };
+    let Answer { number: got, words: answer } = match s.entry {
+        Entry::Run => sys::run_with_gas(run, limit),
+        Entry::WithGas(t) => sys::execute_state_transition_with_gas(gate::texts(t), run, limit),
+        Entry::Without(t) => sys::execute_state_transition(gate::texts(t), run),
     };
     let (wanted, carried) = match &asked.result {
         _ if *beyond => (51, [0; 4]),
@@ -172,12 +180,51 @@ fn limits(program: &[(u8, u64)], s: &Setting, most: u64, b: &mut Buffers, saw: &
     Ok(())
 }
 
+fn of_the_crate(op: &Op) -> atc_vm::Op {
+    use atc_vm::Op as To;
+    match *op {
+        Op::Push(v) => To::Push(v),
+        Op::Add => To::Add,
+        Op::Sub => To::Sub,
+        Op::Mul => To::Mul,
+        Op::Div => To::Div,
+        Op::Dup => To::Dup,
+        Op::Swap => To::Swap,
+        Op::Jump(t) => To::Jump(t),
+        Op::JumpIfNotZero(t) => To::JumpIfNotZero(t),
+        Op::Eq => To::Eq,
+        Op::Lt => To::Lt,
+        Op::Load(i) => To::Load(i),
+        Op::Store(i) => To::Store(i),
+        Op::Caller => To::Caller,
+        Op::JumpIfZero(t) => To::JumpIfZero(t),
+        Op::Halt => To::Halt,
+    }
+}
+
+/// Two machines of one program, run under the limit, then with a little less and the same again, on what the run before left.
+fn check_crate(program: &[(u8, u64)], caller: u64, limit: u64, storage: &[u64]) -> Result<Seen, String> {
+    let ops: Vec<Op> = program.iter().map(op).collect();
+    let mut ours = atc_vm::Vm::with_context(ops.iter().map(of_the_crate).collect(), caller, storage.to_vec());
+    let mut vm = Vm::with_context(ops, caller, storage.to_vec());
+    let mut last = 0;
+    for limit in [limit, limit.saturating_sub(2), limit] {
+        let used = vm.state().len();
+        let wanted = vm.run_with_gas(limit).map_err(|e| number(&e, used).0);
+        let got = ours.run_with_gas(limit).map_err(|e| e.number());
+        if got != wanted || ours.state() != vm.state() || ours.receipt().is_some() != wanted.is_ok() {
+            return Err(format!("limit {limit}: crate {got:?}, original {wanted:?}, or the storage differs"));
+        }
+        last = got.err().unwrap_or(0);
+    }
+    Ok(Seen::Compared(last))
+}
+
 fn check_verify(program: &[(u8, u64)], used: usize) -> Result<Seen, String> {
     let (kinds, operands): (Vec<u8>, Vec<u64>) = program.iter().copied().unzip();
     let vm = Vm::with_context(program.iter().map(op).collect(), 0, vec![0; used]);
     let (wanted, carried) = vm.verify().map_or_else(|e| number(&e, used), |_| (0, [0; 2]));
-    let mut answer = [77; 8];
-    let got = library::verify(&kinds, &operands, used as u64, &mut answer);
+    let Answer { number: got, words: answer } = sys::verify(&kinds, &operands, used as u64);
     if got != wanted || answer[..2] != carried || answer[2..] != [0; 6] {
         return Err(format!("used {used}: library {got} {answer:?}, original {wanted} {carried:?}"));
     }
@@ -189,6 +236,7 @@ struct Comparison {
     run: Tally,
     with_gas: Tally,
     without: Tally,
+    machine: Tally,
     buffers: Buffers,
 }
 
@@ -210,6 +258,22 @@ impl Comparison {
                 shrink(&mut less, |p| check_verify(p, used).is_err());
                 (less.len(), format!("{:?}\n{}", &less[..less.len().min(200)], check_verify(&less, used).err().unwrap()))
             }),
+        }
+    }
+
+    /// The crate's machine, under each of some limits.
+    fn machine(&mut self, program: &[(u8, u64)], s: &Setting, limits: impl IntoIterator<Item = u64>) {
+        let storage = &self.buffers.storage.pattern()[..s.used];
+        for limit in limits {
+            match check_crate(program, s.caller, limit, storage) {
+                Ok(seen) => self.machine.saw(seen),
+                Err(_) => self.machine.differs(|| {
+                    let mut less = program.to_vec();
+                    shrink(&mut less, |p| check_crate(p, s.caller, limit, storage).is_err());
+                    let what = check_crate(&less, s.caller, limit, storage).err().unwrap();
+                    (less.len(), format!("{}\n{what}", listed(&less, s)))
+                }),
+            }
         }
     }
 
@@ -265,6 +329,9 @@ impl Comparison {
             for row in &rows {
                 self.verified(row, s.used);
                 self.under_limits(row, s, cap);
+                if s.entry == Entry::Run {
+                    self.machine(row, &s, [4, 14]);
+                }
             }
             rows = rows.iter().filter(|r| r.len() < most).flat_map(|r| alphabet.iter().map(move |o| [r.as_slice(), &[*o]].concat())).collect();
         }
@@ -367,9 +434,11 @@ impl Comparison {
                     let slot = slot as u64;
                     let s = Setting { used, storage: lent, ..s };
                     let early = d.below(12) as u64;
-                    for limit in [early, 1000] {
-                        self.under(&vec![(0, 5), (12, slot), (11, slot), (11, 0), (0, 8), (12, 0)], s, limit);
-                        self.under(&vec![(0, 5), (12, slot), (0, 1), (0, 0), (4, 0)], s, limit);
+                    for program in [&[(0, 5), (12, slot), (11, slot), (11, 0), (0, 8), (12, 0)][..], &[(0, 5), (12, slot), (0, 1), (0, 0), (4, 0)]] {
+                        for limit in [early, 1000] {
+                            self.under(program, s, limit);
+                        }
+                        self.machine(program, &s, 0..14);
                     }
                 }
             }
@@ -405,6 +474,7 @@ impl Comparison {
             let s = Setting { entry, caller: d.word(), used, stack, storage: lent };
             self.verified(&program, if d.one_in(9) { 65_530 + d.below(12) } else { used });
             self.under_limits(&program, s, 120);
+            self.machine(&program, &s, [5, 20, 60, 120]);
         }
     }
 
@@ -497,6 +567,7 @@ pub fn compare(rounds: u64) -> Vec<Tally> {
         run: Tally::new("run_with_gas"),
         with_gas: Tally::new("execute_state_transition_with_gas"),
         without: Tally::new("execute_state_transition"),
+        machine: Tally::new("the machine of rust/atc-vm"),
         buffers: Buffers::new(),
     };
     c.short_ones();
@@ -506,5 +577,5 @@ pub fn compare(rounds: u64) -> Vec<Tally> {
         c.drawn(&mut d, 40_000);
         c.compiled(&mut d, 2000);
     }
-    vec![c.verify, c.run, c.with_gas, c.without]
+    vec![c.verify, c.run, c.with_gas, c.without, c.machine]
 }

@@ -9,9 +9,10 @@ use std::path::{Path, PathBuf};
 /// A contract and a vector have at most this many bytes.
 pub const MAX_TEXT: usize = 65_536;
 
-// No output is longer: at most 32,768 times `Push `, twenty digits, a line feed, an operator's line of four; and two
-// remarks with a stem of 255 bytes and twenty digits, and `Halt`. So with this room 26 is never given.
-const MAX_OUTPUT: usize = 30 * 32_768 + 400;
+/// No output is longer, so with this much room [`sys::assemble`] never gives 26.
+// At most 32,768 times `Push `, twenty digits, a line feed, and an operator's line of four; two remarks with a stem of 255
+// bytes and twenty digits; and `Halt`.
+pub const MAX_OUTPUT: usize = 30 * 32_768 + 400;
 
 // Most outputs are far shorter. This much is lent first.
 const FIRST_ROOM: usize = 16_384;

@@ -24,6 +24,9 @@ pub struct Answer {
     pub words: [u64; 8],
 }
 
+// What an answer holds before its call, which writes all eight words. Were one left out, it would show.
+const UNWRITTEN: [u64; 8] = [u64::MAX; 8];
+
 impl Answer {
     // A usize has 64 bits where this compiles.
     pub(crate) fn word(&self, i: usize) -> usize {
@@ -203,8 +206,9 @@ mod c {
 }
 
 /// `atc_assemble`: 0 with `[bytes written, k, p, value]`, or 1 to 26.
+#[inline]
 pub fn assemble(contract: &[u8], vector: &[u8], stem: &[u8], out: &mut [u8]) -> Answer {
-    let mut words = [0; 8];
+    let mut words = UNWRITTEN;
     // SAFETY: three shared slices with their lengths, one mutable slice with its length, and an array of eight that
     // nothing else points to.
     let number = unsafe {
@@ -224,8 +228,9 @@ pub fn assemble(contract: &[u8], vector: &[u8], stem: &[u8], out: &mut [u8]) -> 
 }
 
 /// `atc_parse_ops`: 0 with `[operations]`, or 27 to 33.
+#[inline]
 pub fn parse_ops(text: &[u8], kinds: &mut [u8], operands: &mut [u64]) -> Answer {
-    let mut words = [0; 8];
+    let mut words = UNWRITTEN;
     // SAFETY: a shared slice and two mutable ones, each with its length, and an array of eight that nothing else
     // points to.
     let number = unsafe {
@@ -243,8 +248,9 @@ pub fn parse_ops(text: &[u8], kinds: &mut [u8], operands: &mut [u64]) -> Answer 
 }
 
 /// `atc_trimmed_line`: always 0, with `[place, length]`.
+#[inline]
 pub fn trimmed_line(text: &[u8], line: u64) -> Answer {
-    let mut words = [0; 8];
+    let mut words = UNWRITTEN;
     // SAFETY: a shared slice with its length, and an array of eight that nothing else points to.
     let number =
         unsafe { c::atc_trimmed_line(text.as_ptr(), text.len(), line, words.as_mut_ptr()) };
@@ -252,6 +258,7 @@ pub fn trimmed_line(text: &[u8], line: u64) -> Answer {
 }
 
 /// `atc_execution_gate`: 0, or 35 to 40.
+#[inline]
 pub fn execution_gate(gate: Gate<'_>) -> u64 {
     // SAFETY: eight shared slices, each with its length; nothing is written.
     unsafe {
@@ -277,8 +284,9 @@ pub fn execution_gate(gate: Gate<'_>) -> u64 {
 }
 
 /// `atc_verify`: 0, 34, or 41 to 45.
+#[inline]
 pub fn verify(kinds: &[u8], operands: &[u64], used: u64) -> Answer {
-    let mut words = [0; 8];
+    let mut words = UNWRITTEN;
     // SAFETY: two shared slices, each with its length, and an array of eight that nothing else points to.
     let number = unsafe {
         c::atc_verify(
@@ -294,8 +302,9 @@ pub fn verify(kinds: &[u8], operands: &[u64], used: u64) -> Answer {
 }
 
 /// `atc_run_with_gas`: 0 with `[gas spent, operations, items, used length after]`, or 34, 41 to 51.
+#[inline]
 pub fn run_with_gas(run: Run<'_>, gas_limit: u64) -> Answer {
-    let mut words = [0; 8];
+    let mut words = UNWRITTEN;
     // SAFETY: two shared slices and three mutable ones, each with its length, and an array of eight that nothing else
     // points to.
     let number = unsafe {
@@ -320,8 +329,9 @@ pub fn run_with_gas(run: Run<'_>, gas_limit: u64) -> Answer {
 }
 
 /// `atc_execute_state_transition_with_gas`: as [`run_with_gas`], or 35 to 40.
+#[inline]
 pub fn execute_state_transition_with_gas(gate: Gate<'_>, run: Run<'_>, gas_limit: u64) -> Answer {
-    let mut words = [0; 8];
+    let mut words = UNWRITTEN;
     // SAFETY: ten shared slices and three mutable ones, each with its length, and an array of eight that nothing else
     // points to.
     let number = unsafe {
@@ -362,8 +372,9 @@ pub fn execute_state_transition_with_gas(gate: Gate<'_>, run: Run<'_>, gas_limit
 }
 
 /// `atc_execute_state_transition`: the same with no gas; 0, or 34 to 46.
+#[inline]
 pub fn execute_state_transition(gate: Gate<'_>, run: Run<'_>) -> Answer {
-    let mut words = [0; 8];
+    let mut words = UNWRITTEN;
     // SAFETY: as for the call with gas.
     let number = unsafe {
         c::atc_execute_state_transition(

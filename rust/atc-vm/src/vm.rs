@@ -79,6 +79,14 @@ impl Op {
             _ => unreachable!("the reader gives kinds 0 to 15, not {kind}"),
         }
     }
+
+    // How many slots a storage needs for this to be stored in it; none where it can't be.
+    fn reach(&self) -> usize {
+        match *self {
+            Op::Store(slot) if slot < MAX_STORAGE_SLOTS => slot + 1,
+            _ => 0,
+        }
+    }
 }
 
 const EMPTY_PROGRAM: &str = "empty program";
@@ -236,7 +244,8 @@ pub struct Receipt {
 /// Every run starts with an empty stack at the first operation. A run that fails leaves the storage as it was.
 ///
 /// A run is lent a stack of 4,096 items, and as many slots as the storage has or the program may store to, whichever is
-/// more. Each thread keeps the stack and the work buffer for its next run.
+/// more. Each thread keeps what it lends for its next run. A machine keeps memory for at most twice the slots that are
+/// used, whatever slots its program names, or what the storage had room for when it was given.
 ///
 /// ```
 /// use atc_vm::{Op, Vm, VmError};
@@ -252,13 +261,31 @@ pub struct Receipt {
 /// ```
 #[derive(Debug, Clone)]
 pub struct Vm {
-    kinds: Vec<u8>,
-    operands: Vec<u64>,
+    program: Program,
     caller: u64,
     storage: Vec<u64>,
-    // One more than the highest slot below the limit that the program stores to.
-    reach: usize,
     receipt: Option<Receipt>,
+}
+
+// Made of `Op`s alone: kinds and operands have one length, and no kind is above 15. Each `Store` names a slot below
+// `reach`, or one past the limit.
+#[derive(Debug, Clone)]
+struct Program {
+    kinds: Vec<u8>,
+    operands: Vec<u64>,
+    reach: usize,
+}
+
+impl Program {
+    fn of(ops: &[Op]) -> Program {
+        let (kinds, operands) = ops.iter().map(Op::encode).unzip();
+        let reach = ops.iter().map(Op::reach).max().unwrap_or(0);
+        Program {
+            kinds,
+            operands,
+            reach,
+        }
+    }
 }
 
 impl Vm {
@@ -269,21 +296,10 @@ impl Vm {
 
     /// A program with its caller and the storage that it finds.
     pub fn with_context(program: Vec<Op>, caller: u64, storage: Vec<u64>) -> Self {
-        let (kinds, operands): (Vec<u8>, Vec<u64>) = program.iter().map(Op::encode).unzip();
-        let reach = program
-            .iter()
-            .filter_map(|op| match *op {
-                Op::Store(slot) if slot < MAX_STORAGE_SLOTS => Some(slot + 1),
-                _ => None,
-            })
-            .max()
-            .unwrap_or(0);
         Vm {
-            kinds,
-            operands,
+            program: Program::of(&program),
             caller,
             storage,
-            reach,
             receipt: None,
         }
     }
@@ -362,7 +378,10 @@ impl Vm {
     /// assert_eq!(Vm::new(vec![Op::Jump(1)]).verify().unwrap_err().number(), 45);
     /// ```
     pub fn verify(&self) -> Result<(), VmError> {
-        let answer = sys::verify(&self.kinds, &self.operands, self.storage.len() as u64);
+        let Program {
+            kinds, operands, ..
+        } = &self.program;
+        let answer = sys::verify(kinds, operands, self.storage.len() as u64);
         if answer.number == 0 {
             Ok(())
         } else {
@@ -375,55 +394,77 @@ impl Vm {
         self.perform(|run| sys::run_with_gas(run, gas_limit))
     }
 
-    // Lends what a run needs and no more: 34 and 51 can't be given, and what isn't lent needn't be cleared.
+    // Lends what a run needs and no more, since all that is lent is cleared: 4,096 items, and one number of slots, which
+    // holds those used and those that the program may store to. So 34 and 51 can't be given; nor can 44.
     fn perform(
         &mut self,
         call: impl FnOnce(sys::Run<'_>) -> sys::Answer,
     ) -> Result<Vec<u64>, VmError> {
         let used = self.storage.len();
-        let slots = used.max(self.reach);
-        let mut lent = LENT.try_with(Cell::take).unwrap_or_default();
-        lent.stack.resize(MAX_STACK_ITEMS, 0);
-        if lent.work.len() < slots {
-            lent.work.resize(slots, 0);
-        }
-        self.storage.resize(slots, 0);
+        let slots = used.max(self.program.reach);
+        let mut lent: Box<Lent> = LENT.try_with(Cell::take).ok().flatten().unwrap_or_default();
+        // A program may name slots that no run uses. Where they would take more than the used ones, the thread lends them.
+        let own = slots <= self.storage.capacity().max(2 * used);
+        let storage = if own {
+            self.storage.reserve_exact(slots - used);
+            self.storage.resize(slots, 0);
+            &mut self.storage[..]
+        } else {
+            let storage = first(&mut lent.storage, slots);
+            storage[..used].copy_from_slice(&self.storage);
+            storage
+        };
         let answer = call(sys::Run {
-            kinds: &self.kinds,
-            operands: &self.operands,
+            kinds: &self.program.kinds,
+            operands: &self.program.operands,
             caller: self.caller,
-            stack: &mut lent.stack,
-            work: &mut lent.work[..slots],
-            storage: &mut self.storage,
+            stack: first(&mut lent.stack, MAX_STACK_ITEMS),
+            work: first(&mut lent.work, slots),
+            storage,
             used: used as u64,
         });
-        let result = if answer.number == 0 {
-            self.storage.truncate(answer.word(3));
-            self.receipt = Some(Receipt {
-                gas_spent: answer.words[0],
-                operations: answer.words[1],
-            });
+        let succeeded = answer.number == 0;
+        let after = if succeeded { answer.word(3) } else { used };
+        if own {
+            self.storage.truncate(after);
+        } else if succeeded {
+            self.storage.clear();
+            self.storage.reserve_exact(after);
+            self.storage.extend_from_slice(&lent.storage[..after]);
+        }
+        self.receipt = succeeded.then_some(Receipt {
+            gas_spent: answer.words[0],
+            operations: answer.words[1],
+        });
+        let result = if succeeded {
             Ok(lent.stack[..answer.word(2)].to_vec())
         } else {
-            self.storage.truncate(used);
-            self.receipt = None;
             Err(VmError::of(answer))
         };
         if slots <= MAX_STORAGE_SLOTS {
             // On a thread that is ending there is nothing to keep them for.
-            let _ = LENT.try_with(|kept| kept.set(lent));
+            let _ = LENT.try_with(|kept| kept.set(Some(lent)));
         }
         result
     }
 }
 
-// The stack and work buffers. Each thread keeps those of its last run for its next.
+// The first n words of a buffer, which grows where it has fewer.
+fn first(buffer: &mut Vec<u64>, n: usize) -> &mut [u64] {
+    if buffer.len() < n {
+        buffer.resize(n, 0);
+    }
+    &mut buffer[..n]
+}
+
+// The buffers of a run. Each thread keeps those of its last run for its next.
 #[derive(Default)]
 struct Lent {
     stack: Vec<u64>,
     work: Vec<u64>,
+    storage: Vec<u64>,
 }
 
 thread_local! {
-    static LENT: Cell<Lent> = const { Cell::new(Lent { stack: Vec::new(), work: Vec::new() }) };
+    static LENT: Cell<Option<Box<Lent>>> = const { Cell::new(None) };
 }

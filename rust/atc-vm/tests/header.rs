@@ -1,5 +1,5 @@
-//! include/atc_vm.h declares what crates/atc_vm exports and src/sys.rs calls. The header and tests/abi.c compile without a
-//! warning, as C99 and as C++, and the program finds all as due.
+//! include/atc_vm.h declares what crates/atc_vm exports and src/sys.rs calls, and has this crate's limits. The header and
+//! tests/abi.c compile without a warning, as C99 and as C++, and the program finds all as due.
 
 use std::env;
 use std::fs;
@@ -136,4 +136,20 @@ fn header_and_sys_declare_what_is_exported() {
     assert_eq!(exported.len(), 8);
     assert_eq!(in_the_header(), exported);
     assert_eq!(in_sys(), exported);
+}
+
+#[test]
+fn the_limits_are_those_of_the_crate() {
+    let header = text("../../include/atc_vm.h");
+    for (name, due) in [
+        ("MAX_TEXT", atc_vm::assembler::MAX_TEXT),
+        ("MAX_OUTPUT", atc_vm::assembler::MAX_OUTPUT),
+        ("MAX_PROGRAM_OPS", atc_vm::vm::MAX_PROGRAM_OPS),
+        ("MAX_STACK_ITEMS", atc_vm::vm::MAX_STACK_ITEMS),
+        ("MAX_STORAGE_SLOTS", atc_vm::vm::MAX_STORAGE_SLOTS),
+    ] {
+        let (_, rest) = header.split_once(&format!("ATC_{name} = ")).unwrap();
+        let digits = rest.split(|c: char| !c.is_ascii_digit()).next().unwrap();
+        assert_eq!(digits.parse(), Ok(due), "{name}");
+    }
 }

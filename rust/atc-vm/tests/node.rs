@@ -366,6 +366,17 @@ fn a_short_rule_follows_a_long_one() {
 }
 
 #[test]
+fn slots_of_another_machine_do_not_show() {
+    let mut full = Vm::with_context(vec![Op::Push(9), Op::Store(20)], 0, vec![9; 8]);
+    let mut empty = Vm::new(vec![Op::Load(3), Op::Push(7), Op::Store(5)]);
+    assert_eq!(full.run_with_gas(100), Ok(vec![]));
+    assert_eq!(empty.run_with_gas(100), Ok(vec![0]));
+    assert_eq!(empty.state(), [0, 0, 0, 0, 0, 7]);
+    assert_eq!(full.state()[..9], [9, 9, 9, 9, 9, 9, 9, 9, 0]);
+    assert_eq!((full.state().len(), full.state()[20]), (21, 9));
+}
+
+#[test]
 fn a_transition_passes_the_gate_first() {
     let good = context();
     let genesis = good.genesis_id.clone();
