@@ -17,6 +17,7 @@ use Rattle.lines.proofs.Cursor.{fed}
 use Rattle.trim.specs.Trim.{white1, startTrimmed, endTrimmed, trimmed}
 use Rattle.trim.specs.Blank.{Blank, none, one, three, Blanks}
 use Rattle.trim.proofs.Laws.{start-stays}
+use Rattle.trim.proofs.Suffix.{end-start}
 use Rattle.trim.proofs.Blanks.{wide, start-blank, end-blank}
 use Rattle.ops.specs.Kinds.{lineWith}
 use Rattle.ops.specs.Line.{skipped, lineOf}
@@ -24,7 +25,6 @@ use Rattle.ops.specs.Passes.{lineReadAt, OperationAt}
 use Rattle.ops.specs.declared.line.LineRead.{LineRead}
 use Rattle.ops.specs.declared.line.LineRead.the-variants.{Skip, Op}
 use Rattle.ops.proofs.PlainLines.{digits-graphic, Reads, reads}
-use Rattle.ops.proofs.Suffix.{end-start}
 use Rattle.ops.proofs.Trimmed.{skip-read}
 
 span-free : (s t : List ℕ) → feedFree s ≡ true → span (s ++ (10 ∷ t)) ≡ suc (length s)

@@ -2,7 +2,8 @@
 ghost use mathlib.Core.Path.{_≡_};
 ghost use Prim.Native.Nat.{_+_, _-_, _≤_, _<_};
 ghost use lib.ListN.{length, getD};
-ghost use Rattle.trim.specs.Trim.{TrimStart, TrimEnd, Trim, white1, white2, white3};
+ghost use Rattle.byte.specs.Part.{Part};
+ghost use Rattle.trim.specs.Trim.{startTrimmed, endTrimmed, trimmed, passed, white1, white2, white3};
 ghost use Rattle.trim.specs.Step.{WhiteAt, WhiteBefore};
 ghost use Rattle.trim.specs.Blank.{BlankAt, BlanksTo};
 use byte::both;
@@ -10,13 +11,13 @@ use byte::either;
 use byte::in_range;
 
 pub fn trim<'a>(s: &'a [u8]) -> &'a [u8]
-    ensures { λ r. ⌜ Trim (now (s .entry)) (now r) ⌝ }
+    ensures { λ r. ⌜ Part (s .entry) r (passed (now (s .entry))) (trimmed (now (s .entry))) ⌝ }
 {
     trim_end(trim_start(s))
 }
 
 pub fn trim_start<'a>(s: &'a [u8]) -> &'a [u8]
-    ensures { λ r. ⌜ TrimStart (now (s .entry)) (now r) ⌝ }
+    ensures { λ r. ⌜ Part (s .entry) r (passed (now (s .entry))) (startTrimmed (now (s .entry))) ⌝ }
 {
     let mut i: usize = 0;
     while i < s.len() {
@@ -30,7 +31,7 @@ pub fn trim_start<'a>(s: &'a [u8]) -> &'a [u8]
 }
 
 pub fn trim_end<'a>(s: &'a [u8]) -> &'a [u8]
-    ensures { λ r. ⌜ TrimEnd (now (s .entry)) (now r) ⌝ }
+    ensures { λ r. ⌜ Part (s .entry) r 0 (endTrimmed (now (s .entry))) ⌝ }
 {
     let mut e = s.len();
     while 0 < e {
