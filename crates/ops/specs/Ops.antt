@@ -11,6 +11,7 @@ use Rattle.lines.specs.declared.Step.{Step}
 use Rattle.lines.specs.declared.Step.the-variants.{Next, Done}
 use Rattle.trim.specs.Trim.{trimmed, passed}
 use Rattle.ops.specs.Line.{lineOf}
+use Rattle.ops.specs.Numbers.{parsedOpsNumbered}
 use Rattle.ops.specs.declared.OpsError.{OpsError}
 use Rattle.ops.specs.declared.OpsError.the-variants.{NotUtf8, Full, Empty}
 use Rattle.ops.specs.declared.ParsedOps.{ParsedOps}
@@ -80,9 +81,10 @@ operandsOf os = map (λ o. o .operand) os
 abbrev pub onto : List ℕ → List ℕ → List ℕ
 onto xs buffer = xs ++ drop (length xs) buffer
 
--- what reading gives
+-- what reading gives: the answer, document 01's number and values of it, and the buffers
 pub record Parsed (text kinds operands kindsAfter operandsAfter : List ℕ) (r : ParsedOps) : Type 0 where
   pub answer : r ≡ answerOf (readText text (min (length kinds) (length operands)))
+  pub says : parsedOpsNumbered r ≡ parsedOpsNumbered (answerOf (readText text (min (length kinds) (length operands))))
   pub kindsWritten : kindsAfter ≡ onto (kindsOf (opsOf (readText text (min (length kinds) (length operands))))) kinds
   pub operandsWritten : operandsAfter ≡ onto (operandsOf (opsOf (readText text (min (length kinds) (length operands))))) operands
 
