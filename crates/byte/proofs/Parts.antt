@@ -19,16 +19,6 @@ last s e k h n =
 pub rest : (s : List ℕ) (i : ℕ) → take (length s - i) (drop i s) ≡ drop i s
 rest s i = take-all (length s - i) (drop i s) (simp length-drop (omega arith))
 
--- a part's place by its length
-pub from-end : (s : List ℕ) (i : ℕ) → i ≤ length s → take (length s - i) (drop i s) ≡ drop (length s - length (take (length s - i) (drop i s))) s
-from-end s i h =
-    let n : length (take (length s - i) (drop i s)) ≡ length s - i = ap length (rest s i) ∙ length-drop i s in
-    let m : i ≡ length s - length (take (length s - i) (drop i s)) = omega arith in
-    rest s i ∙ ap (λ (k : ℕ). drop k s) m
-
-pub from-start : (s : List ℕ) (e : ℕ) → e ≤ length s → take e s ≡ take (length (take e s)) s
-from-start s e h = ap (λ (k : ℕ). take k s) (sym (length-take-le e s h))
-
 -- a part of a part
 pub inner : (s t : List ℕ) (j m k n i : ℕ) → t ≡ take m (drop j s) → k + n ≤ length t → i ≡ j + k → take n (drop k t) ≡ take n (drop i s)
 inner s t j m k n i e h f =

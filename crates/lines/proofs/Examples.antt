@@ -10,7 +10,7 @@ foo : lines (102 ∷ 111 ∷ 111 ∷ 13 ∷ 10 ∷ 98 ∷ 97 ∷ 114 ∷ 10 ∷ 
 foo = refl
 
 -- "foo\nbar\n\r\nbaz": the last line ending is optional
-optional : lines (102 ∷ 10 ∷ 98 ∷ 10 ∷ 13 ∷ 10 ∷ 122 ∷ []) ≡ (102 ∷ []) ∷ (98 ∷ []) ∷ [] ∷ (122 ∷ []) ∷ []
+optional : lines (102 ∷ 111 ∷ 111 ∷ 10 ∷ 98 ∷ 97 ∷ 114 ∷ 10 ∷ 13 ∷ 10 ∷ 98 ∷ 97 ∷ 122 ∷ []) ≡ (102 ∷ 111 ∷ 111 ∷ []) ∷ (98 ∷ 97 ∷ 114 ∷ []) ∷ [] ∷ (98 ∷ 97 ∷ 122 ∷ []) ∷ []
 optional = refl
 
 empty : lines [] ≡ []

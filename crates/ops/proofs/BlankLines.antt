@@ -1,6 +1,6 @@
 -- Lines with White_Space at their start and their end, read from their start on.
 use Prim.Native.Nat.{ℕ, suc, _+_, _<_}
-use mathlib.Core.Path.{_≡_, refl, sym, ap, ap₂, _∙_}
+use mathlib.Core.Path.{_≡_, refl, sym, ap, ap₂, subst, _∙_}
 use mathlib.Core.List.{List, [], _∷_, _++_, append-assoc, append-nil}
 use mathlib.Core.Bool.{true, false}
 use borrow.Author.Tests.{eq-eqb, ne-eqb}
@@ -8,6 +8,7 @@ use native.Mathlib.Omega.{arith}
 use lib.ListN.{length, getD, drop, length-append}
 use Rattle.byte.specs.Range.{within}
 use Rattle.byte.proofs.Tests.{never, by-eqb, between, above}
+use Rattle.byte.proofs.Parts.{next}
 use Rattle.search.specs.First.{prefixOf}
 use Rattle.search.proofs.Prefix.{split}
 use Rattle.lines.specs.Lines.{feedFree, lessReturn}
@@ -15,16 +16,16 @@ use Rattle.lines.specs.Cursor.{feedFrom, span, headOf, firstLine}
 use Rattle.lines.proofs.Written.{free-cons, free-append, line-then}
 use Rattle.lines.proofs.Cursor.{fed}
 use Rattle.trim.specs.Trim.{white1, startTrimmed, endTrimmed, trimmed}
-use Rattle.trim.specs.Blank.{Blank, none, one, three, Blanks}
+use Rattle.trim.specs.Blank.{blanksLen, blanksEnd}
 use Rattle.trim.proofs.Laws.{start-stays}
-use Rattle.trim.proofs.Blanks.{wide, start-blank, end-blank}
+use Rattle.trim.proofs.Suffix.{end-start}
+use Rattle.trim.proofs.Blanks.{Blank, none, one, three, Blanks, blanks, no-blank, wide, start-blank, end-blank}
 use Rattle.ops.specs.Kinds.{lineWith}
 use Rattle.ops.specs.Line.{skipped, lineOf}
-use Rattle.ops.specs.Passes.{lineReadAt, OperationAt}
+use Rattle.ops.specs.Passes.{lineReadAt, Indented, OperationAt}
 use Rattle.ops.specs.declared.line.LineRead.{LineRead}
 use Rattle.ops.specs.declared.line.LineRead.the-variants.{Skip, Op}
 use Rattle.ops.proofs.PlainLines.{digits-graphic, Reads, reads}
-use Rattle.ops.proofs.Suffix.{end-start}
 use Rattle.ops.proofs.Trimmed.{skip-read}
 
 span-free : (s t : List ℕ) → feedFree s ≡ true → span (s ++ (10 ∷ t)) ≡ suc (length s)
@@ -103,6 +104,18 @@ trim-between {b} {y} h k (a ∷ w) e t =
         let r = between 65 90 a e in
         let white : white1 a ≡ false = simp (above 0x09 0x0D a (omega arith), ne-eqb a 0x20 (λ e. omega arith)) in
         start-stays a s white (λ p. omega arith) (λ p q. omega arith)
+
+-- a line that starts with no White_Space
+pub not-indented : (text : List ℕ) (at : ℕ) → at < length text → within 0x24 0x7F (getD text at 0) ≡ true → Indented text at at
+not-indented text at h e =
+    let a = getD text at 0 in
+    let r = between 0x24 0x7F a e in
+    let white : white1 a ≡ false = simp (above 0x09 0x0D a (omega arith), ne-eqb a 0x20 (λ e. omega arith)) in
+    let n : blanksLen (drop at text) ≡ 0 = ap blanksLen (next text at (at + 1) h refl) ∙ no-blank a (drop (at + 1) text) (simp white) (r .1) in
+    record { within = h; is = omega (arith, n) }
+
+pub indent : (text : List ℕ) (at first : ℕ) → Indented text at first → Blanks text at first
+indent text at first i = let h = i .within in subst (Blanks text at) (sym (i .is)) (blanks text at (omega arith))
 
 module _ (text : List ℕ) (at first : ℕ) (b : Blanks text at first) (line : ℕ) where
   pub blank-read : prefixOf (10 ∷ []) (drop first text) ≡ true → lineReadAt text at line ≡ record { read = Skip; next = first + 1 }

@@ -1,11 +1,12 @@
 -- What the definitions give, computed.
 use mathlib.Core.Path.{_≡_, refl}
-use mathlib.Core.List.{[], _∷_}
+use Prim.Native.Nat.{ℕ}
+use mathlib.Core.List.{List, [], _∷_}
+use Rattle.numbered.specs.declared.Numbered.{Numbered}
+use Rattle.numbered.specs.Numbered.{plain, carrying}
 use Rattle.ops.specs.Ascii.{ascii}
-use Rattle.ops.specs.Kinds.{parted}
-use Rattle.ops.specs.Ops.{ops, refused, readText}
-use Rattle.ops.specs.declared.kind.Parted.the-variants.{Unknown}
-use Rattle.ops.specs.declared.OpsError.the-variants.{NotUtf8, BadPush, BadSlot, UnknownOp, BadTarget, Full, Empty}
+use Rattle.ops.specs.Numbers.{parsedOpsNumbered}
+use Rattle.ops.specs.Ops.{ops, readText, answerOf}
 
 -- document 01's tally
 tally :
@@ -20,39 +21,46 @@ tally :
     ∷ [])
 tally = refl
 
+-- document 01's number of what is read, and the values
+abbrev said : List ℕ → ℕ → Numbered
+said text room = parsedOpsNumbered (answerOf (readText text room))
+
 -- E7
 plus-five : readText (ascii "Push +5") 1 ≡ ops (record { kind = 0; operand = 5 } ∷ [])
 plus-five = refl
 
-minus-zero : readText (ascii "Push -0") 1 ≡ refused (BadPush 1 5 2)
+plus-five-said : said (ascii "Push +5") 1 ≡ carrying 0 (1 ∷ [])
+plus-five-said = refl
+
+minus-zero : said (ascii "Push -0") 1 ≡ carrying 28 (1 ∷ 5 ∷ 2 ∷ [])
 minus-zero = refl
 
 -- E8
-push-alone : readText (ascii "Push") 1 ≡ refused (UnknownOp 1 0 4)
+push-alone : said (ascii "Push") 1 ≡ carrying 30 (1 ∷ 0 ∷ 4 ∷ [])
 push-alone = refl
 
 -- the places of the parts, behind lines that are skipped but counted
-slot : readText (ascii "# x\n\n \tLoad  x1 \r\n") 1 ≡ refused (BadSlot 3 13 2)
+slot : said (ascii "# x\n\n \tLoad  x1 \r\n") 1 ≡ carrying 29 (3 ∷ 13 ∷ 2 ∷ [])
 slot = refl
 
-target : readText (ascii "# x\nx") 1 ≡ refused (UnknownOp 2 4 1)
+unknown : said (ascii "# x\nx") 1 ≡ carrying 30 (2 ∷ 4 ∷ 1 ∷ [])
+unknown = refl
+
+target : said (ascii "Add\nJumpIfZero +") 1 ≡ carrying 31 (2 ∷ 15 ∷ 1 ∷ [])
 target = refl
 
-jump : readText (ascii "Add\nJumpIfZero +") 1 ≡ refused (BadTarget 2 15 1)
-jump = refl
-
-tab : parted (ascii "Push\t5") ≡ Unknown
+tab : said (ascii "Push\t5") 1 ≡ carrying 30 (1 ∷ 0 ∷ 6 ∷ [])
 tab = refl
 
 -- a bad line comes before a full buffer, a full buffer before what follows
-full : readText (ascii "Add\n\nAdd\nx") 1 ≡ refused (Full 3)
+full : said (ascii "Add\n\nAdd\nx") 1 ≡ carrying 32 (3 ∷ [])
 full = refl
 
-bad-first : readText (ascii "Add\nPush 18446744073709551616") 1 ≡ refused (BadPush 2 9 20)
+bad-first : said (ascii "Add\nPush 18446744073709551616") 1 ≡ carrying 28 (2 ∷ 9 ∷ 20 ∷ [])
 bad-first = refl
 
-none : readText (ascii " \n# Add\n") 0 ≡ refused Empty
+none : said (ascii " \n# Add\n") 0 ≡ plain 33
 none = refl
 
-not-utf8 : readText (255 ∷ []) 0 ≡ refused NotUtf8
+not-utf8 : said (255 ∷ []) 0 ≡ plain 27
 not-utf8 = refl

@@ -1,5 +1,4 @@
 pub mod Words
-pub mod Suffix
 pub mod PlainLines
 pub mod PlainReads
 pub mod BlankLines

@@ -7,6 +7,7 @@ use native.Mathlib.Omega.{arith}
 use lib.ListN.{length}
 use Rattle.utf8.specs.Utf8.{utf8}
 use Rattle.ops.specs.Ops.{Operation, Reading, ops, refused, someRead, readText, answerOf, opsOf, kindsOf, operandsOf, onto, Parsed}
+use Rattle.ops.specs.Numbers.{parsedOpsNumbered}
 use Rattle.ops.specs.Passes.{readInto, Good, Passed}
 use Rattle.ops.specs.declared.OpsError.{OpsError}
 use Rattle.ops.specs.declared.OpsError.the-variants.{NotUtf8}
@@ -26,7 +27,9 @@ refused-is (refused x) e p = let z : x ≡ e = cc in ap refused z
 module _ (text kinds operands : List ℕ) where
   parsed : (x : Reading) (r : ParsedOps) (kindsAfter operandsAfter : List ℕ) → readText text (min (length kinds) (length operands)) ≡ x → r ≡ answerOf x
       → kindsAfter ≡ onto (kindsOf (opsOf x)) kinds → operandsAfter ≡ onto (operandsOf (opsOf x)) operands → Parsed text kinds operands kindsAfter operandsAfter r
-  parsed x r kindsAfter operandsAfter e p q s = record { answer = rw e p; kindsWritten = rw e q; operandsWritten = rw e s }
+  parsed x r kindsAfter operandsAfter e p q s =
+      let a : r ≡ answerOf (readText text (min (length kinds) (length operands))) = rw e p in
+      record { answer = a; says = ap parsedOpsNumbered a; kindsWritten = rw e q; operandsWritten = rw e s }
 
   pub not-utf8 : utf8 text ≡ false → Parsed text kinds operands kinds operands (Refused NotUtf8)
   not-utf8 u = parsed (refused NotUtf8) (Refused NotUtf8) kinds operands (simp u) refl refl refl

@@ -10,7 +10,7 @@ use Rattle.utf8.proofs.Lead.{one-is}
 use Rattle.utf8.proofs.Encoding.{append}
 use Rattle.lines.specs.Lines.{lines, feedFree}
 use Rattle.lines.proofs.Written.{free-cons, line-then}
-use Rattle.trim.specs.Blank as Blank
+use Rattle.trim.proofs.Blanks as Blank
 use Rattle.number.specs.Decimal.{decimal}
 use Rattle.number.proofs.Decimal.{allDigits-decimal, length-positive, round-trip}
 use Rattle.ops.specs.Kinds.{kindOf}

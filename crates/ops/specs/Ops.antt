@@ -1,16 +1,17 @@
 -- The operations of a text, and the refusals by document 01's numbers.
-use Prim.Native.Nat.{ℕ, zero, suc, _+_, min}
+use Prim.Native.Nat.{ℕ, zero, suc, _+_, _-_, min}
 use mathlib.Core.Path.{_≡_}
 use mathlib.Core.List.{List, [], _∷_, _++_, map}
 use mathlib.Core.Bool.{cond}
-use lib.ListN.{length, getD, drop}
+use lib.ListN.{length, getD, take, drop}
 use Rattle.utf8.specs.Utf8.{utf8}
 use Rattle.lines.specs.Lines.{lines}
 use Rattle.lines.specs.Cursor.{span, lineAt}
 use Rattle.lines.specs.declared.Step.{Step}
-use Rattle.lines.specs.declared.Step.the-variants.{Done}
-use Rattle.trim.specs.Trim.{trimmed}
+use Rattle.lines.specs.declared.Step.the-variants.{Next, Done}
+use Rattle.trim.specs.Trim.{trimmed, passed}
 use Rattle.ops.specs.Line.{lineOf}
+use Rattle.ops.specs.Numbers.{parsedOpsNumbered}
 use Rattle.ops.specs.declared.OpsError.{OpsError}
 use Rattle.ops.specs.declared.OpsError.the-variants.{NotUtf8, Full, Empty}
 use Rattle.ops.specs.declared.ParsedOps.{ParsedOps}
@@ -80,9 +81,10 @@ operandsOf os = map (λ o. o .operand) os
 abbrev pub onto : List ℕ → List ℕ → List ℕ
 onto xs buffer = xs ++ drop (length xs) buffer
 
--- what reading gives
+-- what reading gives: the answer, document 01's number and values of it, and the buffers
 pub record Parsed (text kinds operands kindsAfter operandsAfter : List ℕ) (r : ParsedOps) : Type 0 where
   pub answer : r ≡ answerOf (readText text (min (length kinds) (length operands)))
+  pub says : parsedOpsNumbered r ≡ parsedOpsNumbered (answerOf (readText text (min (length kinds) (length operands))))
   pub kindsWritten : kindsAfter ≡ onto (kindsOf (opsOf (readText text (min (length kinds) (length operands))))) kinds
   pub operandsWritten : operandsAfter ≡ onto (operandsOf (opsOf (readText text (min (length kinds) (length operands))))) operands
 
@@ -102,3 +104,11 @@ nthStep (suc n) text = lineAt text (startOf n text)
 
 abbrev pub lineNumbered : List ℕ → ℕ → Step
 lineNumbered text n = cond (utf8 text) (nthStep n text) Done
+
+-- where its trimmed text starts; 0 where there is no such line
+abbrev pub trimmedFrom : List ℕ → Step → ℕ
+trimmedFrom text (Next l) = l .start + passed (take (l .end - l .start) (drop (l .start) text))
+trimmedFrom text Done = 0
+
+abbrev pub trimmedPlace : List ℕ → ℕ → ℕ
+trimmedPlace text n = trimmedFrom text (lineNumbered text n)

@@ -9,6 +9,7 @@ use Rattle.number.specs.Decimal.{allDigits, numberOf}
 use Rattle.number.specs.declared.Number.the-variants.{Is}
 use Rattle.lines.specs.Lines.{lines}
 use Rattle.lines.specs.Cursor.{span, firstLine}
+use Rattle.trim.specs.Blank.{blanksEnd}
 use Rattle.ops.specs.Kinds.{kindOf, lineWith}
 use Rattle.ops.specs.Line.{lineOf}
 use Rattle.ops.specs.Ops.{Operation, Reading, ops, readLines, someRead, answerOf, opsOf, kindsOf, operandsOf, onto}
@@ -29,6 +30,11 @@ abbrev pub KnownRead : List ℕ → ℕ → Known → Type 0
 KnownRead text at (Known.Op k v next) = (line : ℕ) → lineReadAt text at line ≡ record { read = LineRead.Op k v; next = next }
 KnownRead text at (Known.Skip next) = (line : ℕ) → lineReadAt text at line ≡ record { read = LineRead.Skip; next = next }
 KnownRead text at Known.Unknown = Unit
+
+-- a line starts at a place, and the White_Space that it starts with ends at another
+pub record Indented (text : List ℕ) (at first : ℕ) : Type 0 where
+  pub within : at < length text
+  pub is : first ≡ blanksEnd text at
 
 -- an operation stands from a place to another: its word, and behind it a space and the digits of its operand where one follows
 pub record OperationAt (text : List ℕ) (at k v end : ℕ) : Type 0 where

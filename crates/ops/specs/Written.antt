@@ -6,12 +6,12 @@ use mathlib.Core.Bool.{true, cond}
 use Rattle.utf8.specs.Utf8.{utf8}
 use Rattle.lines.specs.Lines.{feedFree}
 use Rattle.number.specs.Decimal.{decimal}
-use Rattle.ops.specs.Kinds.{kindOf}
+use Rattle.ops.specs.Kinds.{kindOf, lineWith}
 use Rattle.ops.specs.Ops.{Operation}
 
 -- an operation's line without the line feed
 abbrev pub shown : Operation → List ℕ
-shown o = kindOf (o .kind) .word ++ cond (kindOf (o .kind) .operand) (32 ∷ decimal (o .operand)) []
+shown o = lineWith (o .kind) (decimal (o .operand))
 
 abbrev pub written : Operation → List ℕ
 written o = shown o ++ 10 ∷ []

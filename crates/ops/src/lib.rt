@@ -14,8 +14,9 @@ use numbered::plain;
 ghost use mathlib.Core.Path.{_≡_};
 ghost use mathlib.Core.Bool.{true};
 ghost use Prim.Native.Nat.{min};
+ghost use Rattle.byte.specs.Part.{Part};
 ghost use Rattle.ops.specs.Numbers.{opsErrorNumbered, parsedOpsNumbered};
-ghost use Rattle.ops.specs.Ops.{Parsed, trimmedLine, lineNumbered};
+ghost use Rattle.ops.specs.Ops.{Parsed, trimmedLine, trimmedPlace, lineNumbered};
 ghost use Rattle.ops.specs.Passes.{Good, Passed};
 
 // Lines are counted from 1. Places count bytes from 0 in the whole text.
@@ -103,7 +104,7 @@ pub fn parse_ops(text: &[u8], kinds: &mut [u8], operands: &mut [u64]) -> ParsedO
 
 // The trimmed line of a number from 1, as a part of the text.
 pub fn trimmed_line<'a>(text: &'a [u8], line: usize) -> &'a [u8]
-    ensures { λ r. ⌜ now r ≡ trimmedLine (now (text .entry)) line ⌝ }
+    ensures { λ r. ⌜ Part (text .entry) r (trimmedPlace (now (text .entry)) line) (trimmedLine (now (text .entry)) line) ⌝ }
 {
     let step = nth_line(text, line);
     match step {

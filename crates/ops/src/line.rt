@@ -13,8 +13,7 @@ ghost use mathlib.Core.Path.{_≡_};
 ghost use Prim.Native.Nat.{_+_, _-_, _^_, _<_, _≤_};
 ghost use lib.ListN.{length, take, drop};
 ghost use Rattle.ops.specs.Line.{badNumber, operandOf, skipped, lineOf};
-ghost use Rattle.trim.specs.Blank.{Blanks};
-ghost use Rattle.ops.specs.Passes.{lineReadAt, KnownRead};
+ghost use Rattle.ops.specs.Passes.{lineReadAt, KnownRead, Indented};
 
 pub enum LineRead {
     Skip,
@@ -67,10 +66,10 @@ fn known_line_at(text: &[u8], at: usize) -> Known
     operation_line_at(text, at, first)
 }
 
-// A place behind White_Space at the start of a line.
+// Where the White_Space at the start of a line ends.
 fn first_at(text: &[u8], at: usize) -> usize
     requires { ⌜ at < length (now text) ⌝ }
-    ensures { λ r. ⌜ Blanks (now (text .entry)) at r ⌝ }
+    ensures { λ r. ⌜ Indented (now (text .entry)) at r ⌝ }
 {
     if in_range(b'$', 0x7F, text[at]) {
         return at;
@@ -80,7 +79,7 @@ fn first_at(text: &[u8], at: usize) -> usize
 
 // An operation with White_Space before it, from at to first, and behind it; or a line that is skipped.
 fn operation_line_at(text: &[u8], at: usize, first: usize) -> Known
-    requires { ⌜ Blanks (now text) at first ⌝ }
+    requires { ⌜ Indented (now text) at first ⌝ }
     ensures { λ r. ⌜ KnownRead (now (text .entry)) at r ⌝ }
 {
     let plain = plain_at(text, first);
@@ -107,7 +106,7 @@ fn operation_line_at(text: &[u8], at: usize, first: usize) -> Known
 
 // White_Space alone, or a remark with White_Space before it, from at to first.
 fn skipped_line_at(text: &[u8], at: usize, first: usize) -> Known
-    requires { ⌜ Blanks (now text) at first ⌝ }
+    requires { ⌜ Indented (now text) at first ⌝ }
     ensures { λ r. ⌜ KnownRead (now (text .entry)) at r ⌝ }
 {
     if one(text, first, b'\n') {

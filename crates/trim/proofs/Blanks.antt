@@ -1,16 +1,26 @@
--- White_Space within a line: what stands before it and behind it is trimmed as if it were not there.
-use Prim.Native.Nat.{ℕ, _+_, _<_, _≤_}
-use mathlib.Core.Path.{_≡_, refl, sym, ap, _∙_}
+-- White_Space within a line: what stands before it and behind it is trimmed as if it were not there, and how much of it there is.
+use Prim.Native.Nat.{ℕ, suc, _+_, _-_, _<_, _≤_}
+use mathlib.Core.Path.{_≡_, refl, sym, ap, subst, _∙_}
 use mathlib.Core.List.{List, [], _∷_, _++_, append-assoc, reverse, reverse-cons, reverse-append}
-use mathlib.Core.Bool.{true, false}
+use mathlib.Core.Bool.{true, false, cond, not}
+use borrow.Author.Tests.{eq-eqb, ne-eqb}
 use native.Mathlib.Omega.{arith}
-use lib.ListN.{length, getD, drop, length-append}
-use Rattle.byte.proofs.Tests.{never}
+use lib.Dec.{eqb}
+use lib.ListN.{length, getD, drop, length-append, length-drop}
+use lib.Seq.{drop-drop}
+use Rattle.byte.proofs.Tests.{never, and-left, and-right, by-bool, by-leb}
 use Rattle.trim.specs.Trim.{white1, white2, white3, startTrimmed, back2, back3, back, endTrimmed}
-use Rattle.trim.specs.Blank.{Blank, none, one, three, Blanks, NoBlank, BlankAt}
+use Rattle.trim.specs.Step.{threeLen}
+use Rattle.trim.specs.Blank.{blank1, blanksLen, blanks1, blanks2, blanksEnd, BlankAt}
 use Rattle.trim.proofs.White.{by-white3, not1, not2, not3}
 use Rattle.trim.proofs.Laws.{yes1, yes3}
-use Rattle.trim.proofs.Steps.{at1, at3}
+use Rattle.trim.proofs.Steps.{at1, at3, three-short}
+
+-- such characters, one after the other
+pub data Blank : List ℕ → Type 0 where
+  none : Blank []
+  one : {a : ℕ} {s : List ℕ} → white1 a ≡ true → (a ≡ 10 → ⊥) → Blank s → Blank (a ∷ s)
+  three : {a b c : ℕ} {s : List ℕ} → white3 a b c ≡ true → Blank s → Blank (a ∷ b ∷ c ∷ s)
 
 pub wide : (a b c : ℕ) → white3 a b c ≡ true → (0xE1 ≤ a) × (0x80 ≤ b) × (b ≤ 0x9A) × (0x80 ≤ c)
 wide a b c e =
@@ -42,58 +52,130 @@ back-blank (three {a} {b} {c} {s} e h) v =
 pub end-blank : {b : List ℕ} → Blank b → (u : List ℕ) → endTrimmed (u ++ b) ≡ endTrimmed u
 end-blank {b} h u = ap (λ (t : List ℕ). reverse (back t)) (reverse-append u b) ∙ ap reverse (back-blank h (reverse u))
 
-append-blank : {x y : List ℕ} → Blank x → Blank y → Blank (x ++ y)
-append-blank none k = k
-append-blank (one e n h) k = one e n (append-blank h k)
-append-blank (three e h) k = three e (append-blank h k)
+-- they stand from a place to another
+pub record Blanks (s : List ℕ) (at end : ℕ) : Type 0 where
+  pub between : List ℕ
+  pub is : Blank between
+  pub stands : drop at s ≡ between ++ drop end s
+  pub place : end ≡ at + length between
+  pub fits : end ≤ length s
 
-pub no-blanks : (s : List ℕ) (at end : ℕ) → at ≤ length s → end ≡ at → Blanks s at end
-no-blanks s at end h e =
-    record { between = []; is = none; stands = ap (λ (i : ℕ). drop i s) (sym e); place = omega arith; fits = omega arith }
+pub no-blanks : (s : List ℕ) (at : ℕ) → at ≤ length s → Blanks s at at
+no-blanks s at h = record { between = []; is = none; stands = refl; place = omega arith; fits = h }
 
-pub more-blanks : (s : List ℕ) (at i end : ℕ) → Blanks s at i → Blanks s i end → Blanks s at end
-more-blanks s at i end x y =
-    let p = x .place in
-    let q = y .place in
+-- what a text starts with
+record Front (s : List ℕ) (n : ℕ) : Type 0 where
+  between : List ℕ
+  is : Blank between
+  stands : s ≡ between ++ drop n s
+  long : n ≡ length between
+
+nothing : (s : List ℕ) → Front s 0
+nothing s = record { between = []; is = none; stands = refl; long = refl }
+
+mutual
+  front : (s : List ℕ) → Front s (blanksLen s)
+  front [] = nothing []
+  front (a ∷ s) =
+      by-bool (blank1 a)
+      (λ e. rw (e, blanksLen)
+      (let f = front s in
+      record {
+        between = a ∷ f .between;
+        is = one (and-left (white1 a) (not (eqb a 10)) e) (λ q. never (sym (ap not (eq-eqb a 10 q)) ∙ and-right (white1 a) (not (eqb a 10)) e)) (f .is);
+        stands = ap (λ (t : List ℕ). a ∷ t) (f .stands);
+        long = ap suc (f .long);
+      }))
+      (λ e. rw (e, blanksLen) (front1 s a))
+
+  front1 : (s : List ℕ) (a : ℕ) → Front (a ∷ s) (blanks1 a s)
+  front1 [] a = nothing (a ∷ [])
+  front1 (b ∷ s) a = front2 s a b
+
+  front2 : (s : List ℕ) (a b : ℕ) → Front (a ∷ b ∷ s) (blanks2 a b s)
+  front2 [] a b = nothing (a ∷ b ∷ [])
+  front2 (c ∷ s) a b =
+      by-bool (white3 a b c)
+      (λ e. rw (e, blanks2)
+      (let f = front s in
+      record {
+        between = a ∷ b ∷ c ∷ f .between;
+        is = three e (f .is);
+        stands = ap (λ (t : List ℕ). a ∷ b ∷ c ∷ t) (f .stands);
+        long = ap (λ (n : ℕ). suc (suc (suc n))) (f .long);
+      }))
+      (λ e. rw (e, blanks2) (nothing (a ∷ b ∷ c ∷ s)))
+
+pub blanks : (s : List ℕ) (at : ℕ) → at ≤ length s → Blanks s at (blanksEnd s at)
+blanks s at h =
+    let f = front (drop at s) in
+    let n = blanksLen (drop at s) in
+    let l = f .long in
     record {
-      between = x .between ++ y .between;
-      is = append-blank (x .is) (y .is);
-      stands = x .stands ∙ ap (λ (t : List ℕ). x .between ++ t) (y .stands) ∙ sym (append-assoc (x .between) (y .between) (drop end s));
-      place = omega (arith, length-append (x .between) (y .between));
-      fits = y .fits;
+      between = f .between;
+      is = f .is;
+      stands = f .stands ∙ ap (λ (t : List ℕ). f .between ++ t) (drop-drop n at s);
+      place = ap (λ (m : ℕ). at + m) l;
+      fits = omega (arith, ap length (f .stands), length-append (f .between) (drop n (drop at s)), length-drop at s);
     }
 
-pub one-blank : (s : List ℕ) (at : ℕ) → at < length s → white1 (getD s at 0) ≡ true → (getD s at 0 ≡ 10 → ⊥) → Blanks s at (at + 1)
-one-blank s at h e n =
-    record { between = getD s at 0 ∷ []; is = one e n none; stands = at1 s at h; place = refl; fits = omega arith }
+-- by the bytes that a text starts with
+pub blank-one : (a : ℕ) (t : List ℕ) → white1 a ≡ true → (a ≡ 10 → ⊥) → blanksLen (a ∷ t) ≡ suc (blanksLen t)
+blank-one a t e n = let b : blank1 a ≡ true = simp (e, ne-eqb a 10 n) in rw (b, blanksLen)
 
-pub wide-blank : (s : List ℕ) (at : ℕ) → at + 2 < length s → white3 (getD s at 0) (getD s (at + 1) 0) (getD s (at + 2) 0) ≡ true → Blanks s at (at + 3)
-wide-blank s at h e =
-    record {
-      between = getD s at 0 ∷ getD s (at + 1) 0 ∷ getD s (at + 2) 0 ∷ [];
-      is = three e none;
-      stands = at3 s at h;
-      place = refl;
-      fits = omega arith;
-    }
+pub at-feed : (a : ℕ) → a ≡ 10 → blank1 a ≡ false
+at-feed a e = rw e refl
 
--- none stands at a line feed, at another byte of ASCII that is not White_Space, at three other bytes, and at the end
+on : (a : ℕ) (t : List ℕ) → blank1 a ≡ false → blanksLen (a ∷ t) ≡ blanks1 a t
+on a t e = rw (e, blanksLen)
+
+wide-short : (a : ℕ) (t : List ℕ) → blank1 a ≡ false → length t < 2 → blanksLen (a ∷ t) ≡ 0
+wide-short a [] e h = on a [] e
+wide-short a (b ∷ []) e h = on a (b ∷ []) e
+wide-short a (b ∷ c ∷ t) e h = absurd (omega arith)
+
+module _ (a b c : ℕ) (t : List ℕ) (e : blank1 a ≡ false) where
+  yes : white3 a b c ≡ true → blanks2 a b (c ∷ t) ≡ 3 + blanksLen t
+  yes f = rw (f, blanks2) (omega arith)
+
+  no : white3 a b c ≡ false → blanks2 a b (c ∷ t) ≡ 0
+  no f = rw (f, blanks2)
+
+  wide-yes : white3 a b c ≡ true → blanksLen (a ∷ b ∷ c ∷ t) ≡ 3 + blanksLen t
+  wide-yes f = on a (b ∷ c ∷ t) e ∙ yes f
+
+  wide-no : white3 a b c ≡ false → blanksLen (a ∷ b ∷ c ∷ t) ≡ 0
+  wide-no f = on a (b ∷ c ∷ t) e ∙ no f
+
+pub no-blank : (a : ℕ) (t : List ℕ) → blank1 a ≡ false → a ≤ 0x7F → blanksLen (a ∷ t) ≡ 0
+no-blank a [] e h = wide-short a [] e (omega arith)
+no-blank a (b ∷ []) e h = wide-short a (b ∷ []) e (omega arith)
+no-blank a (b ∷ c ∷ t) e h = wide-no a b c t e (not3 a b c (λ p. omega arith))
+
+-- what stands at a place
 module _ (s : List ℕ) (at : ℕ) where
-  pub at-feed : getD s at 0 ≡ 10 → NoBlank s at
-  at-feed e = record { narrow = λ h w. e; wide = λ h. not3 (getD s at 0) (getD s (at + 1) 0) (getD s (at + 2) 0) (λ p. omega arith) }
+  pub none-here : blanksLen (drop at s) ≡ 0 → BlankAt s at 0
+  none-here e =
+      let z : at ≡ at + 0 = omega arith in
+      record { fits = omega arith; on = omega (arith, ap (λ (i : ℕ). blanksLen (drop i s)) z); none = λ _. e }
 
-  pub at-other : white1 (getD s at 0) ≡ false → getD s at 0 ≤ 0x7F → NoBlank s at
-  at-other e l = record { narrow = λ h w. never (sym e ∙ w); wide = λ h. not3 (getD s at 0) (getD s (at + 1) 0) (getD s (at + 2) 0) (λ p. omega arith) }
+  pub some-here : (n : ℕ) → 0 < n → n ≤ length s - at → blanksLen (drop at s) ≡ n + blanksLen (drop (at + n) s) → BlankAt s at n
+  some-here n k h e = record { fits = h; on = e; none = λ z. absurd (omega arith) }
 
-  pub at-wide : 0x7F < getD s at 0 → (at + 2 < length s → white3 (getD s at 0) (getD s (at + 1) 0) (getD s (at + 2) 0) ≡ false) → NoBlank s at
-  at-wide l f = record { narrow = λ h w. never (sym (not1 (getD s at 0) (omega arith)) ∙ w); wide = f }
+  pub one-here : at < length s → white1 (getD s at 0) ≡ true → (getD s at 0 ≡ 10 → ⊥) → BlankAt s at 1
+  one-here h e n = some-here 1 (omega arith) (omega arith) (ap blanksLen (at1 s at h) ∙ blank-one (getD s at 0) (drop (at + 1) s) e n ∙ omega arith)
 
-  pub at-end : length s ≤ at → NoBlank s at
-  at-end l = record { narrow = λ h w. absurd (omega arith); wide = λ h. absurd (omega arith) }
-
-  -- the character that a test gives
-  pub found : (n : ℕ) → (n ≡ 0 → ⊥) → Blanks s at (at + n) → BlankAt s at n
-  found n k b = record { blanks = b; absent = λ e. absurd (k e) }
-
-  pub nothing : at ≤ length s → NoBlank s at → BlankAt s at 0
-  nothing h n = record { blanks = no-blanks s at (at + 0) h (omega arith); absent = λ e. n }
+  pub three-here : (n : ℕ) → at < length s → 0x7F < getD s at 0 → n ≡ threeLen (drop at s) → BlankAt s at n
+  three-here n h k e =
+      let x = getD s at 0 in
+      let y = getD s (at + 1) 0 in
+      let z = getD s (at + 2) 0 in
+      let b : blank1 x ≡ false = simp (not1 x k) in
+      by-leb (length s) (at + 2)
+      (λ l. subst (BlankAt s at) (sym (e ∙ three-short (drop at s) (omega (arith, length-drop at s))))
+      (none-here (ap blanksLen (at1 s at h) ∙ wide-short x (drop (at + 1) s) b (omega (arith, length-drop (at + 1) s)))))
+      (λ l. by-bool (white3 x y z)
+      (λ w. subst (BlankAt s at) (sym (e ∙ ap threeLen (at3 s at l) ∙ ap (λ b. cond b 3 0) w))
+      (some-here 3 (omega arith) (omega arith) (ap blanksLen (at3 s at l) ∙ wide-yes x y z (drop (at + 3) s) b w)))
+      (λ w. subst (BlankAt s at) (sym (e ∙ ap threeLen (at3 s at l) ∙ ap (λ b. cond b 3 0) w))
+      (none-here (ap blanksLen (at3 s at l) ∙ wide-no x y z (drop (at + 3) s) b w))))

@@ -1,11 +1,16 @@
 -- A step of the walk: what the bytes at a position of a text, or before it, say of the White_Space there.
 use Prim.Native.Nat.{ℕ, _+_, _-_, _<_, _≤_}
-use mathlib.Core.Path.{_≡_, refl, ap, _∙_}
+use mathlib.Core.Path.{_≡_, refl, sym, ap, subst, _∙_}
 use mathlib.Core.List.{List, [], _∷_, reverse}
+use mathlib.Core.Bool.{cond}
 use native.Mathlib.Omega.{arith}
-use lib.ListN.{length, getD, take, drop}
+use lib.ListN.{length, getD, take, drop, length-drop, drop-of-length-le}
+use Rattle.byte.proofs.Tests.{by-bool, by-leb}
 use Rattle.byte.proofs.Parts.{next, last}
-use Rattle.trim.specs.Step.{Step}
+use Rattle.trim.specs.Trim.{white2, white3}
+use Rattle.trim.specs.Step.{Step, WhiteAt, threeLen}
+use Rattle.trim.proofs.White.{not1, not2}
+use Rattle.trim.proofs.Laws.{yes3, no3, end1, end2}
 
 pub stays : {f : List ℕ → List ℕ} {t l u : List ℕ} {room : ℕ} → t ≡ l → f l ≡ l → Step f t u room 0
 stays p e = record { fits = omega arith; none = λ _. rw p e; some = λ x. absurd (x refl) }
@@ -22,6 +27,31 @@ module _ (s : List ℕ) (at : ℕ) where
 
   pub at3 : at + 2 < length s → drop at s ≡ getD s at 0 ∷ getD s (at + 1) 0 ∷ getD s (at + 2) 0 ∷ drop (at + 3) s
   at3 h = at2 (omega arith) ∙ ap (λ (t : List ℕ). getD s at 0 ∷ getD s (at + 1) 0 ∷ t) (next s (at + 2) (at + 3) h (omega arith))
+
+-- a character of three bytes
+pub three-short : (t : List ℕ) → length t < 3 → threeLen t ≡ 0
+three-short [] h = refl
+three-short (a ∷ []) h = refl
+three-short (a ∷ b ∷ []) h = refl
+three-short (a ∷ b ∷ c ∷ t) h = absurd (omega arith)
+
+pub white-three : (s : List ℕ) (at n : ℕ) → at < length s → 0xC2 < getD s at 0 → n ≡ threeLen (drop at s) → WhiteAt s at n
+white-three s at n h k e =
+    let x = getD s at 0 in
+    let y = getD s (at + 1) 0 in
+    let z = getD s (at + 2) 0 in
+    let one = not1 x (omega arith) in
+    let two = not2 x y (λ p. omega arith) in
+    by-leb (length s) (at + 2)
+    (λ l. subst (WhiteAt s at) (sym (e ∙ three-short (drop at s) (omega (arith, length-drop at s))))
+    (by-leb (length s) (at + 1)
+    (λ m. stays (at1 s at h) (end1 white2 white3 x (drop (at + 1) s) (drop-of-length-le s {i = at + 1} m) one))
+    (λ m. stays (at2 s at m) (end2 white2 white3 x y (drop (at + 2) s) (drop-of-length-le s {i = at + 2} l) one two))))
+    (λ l. by-bool (white3 x y z)
+    (λ w. subst (WhiteAt s at) (sym (e ∙ ap threeLen (at3 s at l) ∙ ap (λ b. cond b 3 0) w))
+    (goes 3 (omega arith) (omega arith) (at3 s at l) (yes3 white2 white3 x y z (drop (at + 3) s) one two w)))
+    (λ w. subst (WhiteAt s at) (sym (e ∙ ap threeLen (at3 s at l) ∙ ap (λ b. cond b 3 0) w))
+    (stays (at3 s at l) (no3 white2 white3 x y z (drop (at + 3) s) one two w))))
 
 pub none : (s : List ℕ) (e : ℕ) → e ≡ 0 → reverse (take e s) ≡ []
 none s e h = rw h refl

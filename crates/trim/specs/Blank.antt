@@ -1,36 +1,35 @@
--- White_Space within a line.
-use Prim.Native.Nat.{ℕ, _+_, _<_, _≤_}
+-- White_Space within a line: the characters of one byte but the line feed, and those of three.
+use Prim.Native.Nat.{ℕ, suc, _+_, _-_, _≤_}
 use mathlib.Core.Path.{_≡_}
-use mathlib.Core.List.{List, [], _∷_, _++_}
-use mathlib.Core.Bool.{true, false}
-use lib.ListN.{length, getD, drop}
+use mathlib.Core.List.{List, [], _∷_}
+use mathlib.Core.Bool.{Bool, true, false, not, _&&_}
+use lib.Dec.{eqb}
+use lib.ListN.{length, drop}
 use Rattle.trim.specs.Trim.{white1, white3}
 
--- White_Space characters of one byte, the line feed not among them, and of three
-pub data Blank : List ℕ → Type 0 where
-  none : Blank []
-  one : {a : ℕ} {s : List ℕ} → white1 a ≡ true → (a ≡ 10 → ⊥) → Blank s → Blank (a ∷ s)
-  three : {a b c : ℕ} {s : List ℕ} → white3 a b c ≡ true → Blank s → Blank (a ∷ b ∷ c ∷ s)
+abbrev pub blank1 : ℕ → Bool
+blank1 a = white1 a && not (eqb a 0x0A)
 
--- they stand from a place to another
-pub record Blanks (s : List ℕ) (at end : ℕ) : Type 0 where
-  pub between : List ℕ
-  pub is : Blank between
-  pub stands : drop at s ≡ between ++ drop end s
-  pub place : end ≡ at + length between
-  pub fits : end ≤ length s
+-- how many bytes of it a text starts with
+abbrev mutual
+  pub blanksLen : List ℕ → ℕ
+  blanksLen [] = 0
+  blanksLen (a ∷ s) = elim (blank1 a) [ true ↦ suc (blanksLen s) | false ↦ blanks1 a s ]
 
--- none of them stands at a place
-pub record NoBlank (s : List ℕ) (at : ℕ) : Type 0 where
-  pub narrow : at < length s → white1 (getD s at 0) ≡ true → getD s at 0 ≡ 10
-  pub wide : at + 2 < length s → white3 (getD s at 0) (getD s (at + 1) 0) (getD s (at + 2) 0) ≡ false
+  pub blanks1 : ℕ → List ℕ → ℕ
+  blanks1 a [] = 0
+  blanks1 a (b ∷ s) = blanks2 a b s
 
--- one of them stands at a place and has n bytes, or n is 0 and none does
+  pub blanks2 : ℕ → ℕ → List ℕ → ℕ
+  blanks2 a b [] = 0
+  blanks2 a b (c ∷ s) = elim (white3 a b c) [ true ↦ suc (suc (suc (blanksLen s))) | false ↦ 0 ]
+
+-- where it ends that stands from a place on
+abbrev pub blanksEnd : List ℕ → ℕ → ℕ
+blanksEnd s at = at + blanksLen (drop at s)
+
+-- n bytes of it stand at a place, and n is 0 only where none does
 pub record BlankAt (s : List ℕ) (at n : ℕ) : Type 0 where
-  pub blanks : Blanks s at (at + n)
-  pub absent : n ≡ 0 → NoBlank s at
-
--- all that stand from a place on end at another
-pub record BlanksTo (s : List ℕ) (at end : ℕ) : Type 0 where
-  pub blanks : Blanks s at end
-  pub over : NoBlank s end
+  pub fits : n ≤ length s - at
+  pub on : blanksLen (drop at s) ≡ n + blanksLen (drop (at + n) s)
+  pub none : n ≡ 0 → blanksLen (drop at s) ≡ 0

@@ -1,10 +1,9 @@
 -- A text without the White_Space characters at its start and at its end. Each stands here by its bytes in UTF-8.
 use Prim.Native.Nat.{ℕ, _-_}
-use mathlib.Core.Path.{_≡_}
 use mathlib.Core.List.{List, [], _∷_, reverse}
 use mathlib.Core.Bool.{Bool, true, false, _&&_, _||_}
 use lib.Dec.{eqb}
-use lib.ListN.{length, drop, take}
+use lib.ListN.{length}
 use Rattle.byte.specs.Range.{within}
 
 -- U+0009..000D, U+0020
@@ -60,18 +59,3 @@ trimmed s = endTrimmed (startTrimmed s)
 -- how many bytes the White_Space takes that a text starts with
 abbrev pub passed : List ℕ → ℕ
 passed s = length s - length (startTrimmed s)
-
--- what trim_start gives, and where it stands
-pub record TrimStart (s r : List ℕ) : Type 0 where
-  pub text : r ≡ startTrimmed s
-  pub place : r ≡ drop (length s - length r) s
-
--- what trim_end gives, and where it stands
-pub record TrimEnd (s r : List ℕ) : Type 0 where
-  pub text : r ≡ endTrimmed s
-  pub place : r ≡ take (length r) s
-
--- what trim gives, and where it stands
-pub record Trim (s r : List ℕ) : Type 0 where
-  pub text : r ≡ trimmed s
-  pub place : r ≡ take (length r) (drop (passed s) s)

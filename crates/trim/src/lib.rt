@@ -1,22 +1,23 @@
 // A text without the White_Space at its start and its end, as a part of what was lent.
 ghost use mathlib.Core.Path.{_≡_};
 ghost use Prim.Native.Nat.{_+_, _-_, _≤_, _<_};
-ghost use lib.ListN.{length, getD};
-ghost use Rattle.trim.specs.Trim.{TrimStart, TrimEnd, Trim, white1, white2, white3};
-ghost use Rattle.trim.specs.Step.{WhiteAt, WhiteBefore};
-ghost use Rattle.trim.specs.Blank.{BlankAt, BlanksTo};
+ghost use lib.ListN.{length, getD, drop};
+ghost use Rattle.byte.specs.Part.{Part};
+ghost use Rattle.trim.specs.Trim.{startTrimmed, endTrimmed, trimmed, passed, white1, white2, white3};
+ghost use Rattle.trim.specs.Step.{WhiteAt, WhiteBefore, threeLen};
+ghost use Rattle.trim.specs.Blank.{BlankAt, blanksEnd};
 use byte::both;
 use byte::either;
 use byte::in_range;
 
 pub fn trim<'a>(s: &'a [u8]) -> &'a [u8]
-    ensures { λ r. ⌜ Trim (now (s .entry)) (now r) ⌝ }
+    ensures { λ r. ⌜ Part (s .entry) r (passed (now (s .entry))) (trimmed (now (s .entry))) ⌝ }
 {
     trim_end(trim_start(s))
 }
 
 pub fn trim_start<'a>(s: &'a [u8]) -> &'a [u8]
-    ensures { λ r. ⌜ TrimStart (now (s .entry)) (now r) ⌝ }
+    ensures { λ r. ⌜ Part (s .entry) r (passed (now (s .entry))) (startTrimmed (now (s .entry))) ⌝ }
 {
     let mut i: usize = 0;
     while i < s.len() {
@@ -30,7 +31,7 @@ pub fn trim_start<'a>(s: &'a [u8]) -> &'a [u8]
 }
 
 pub fn trim_end<'a>(s: &'a [u8]) -> &'a [u8]
-    ensures { λ r. ⌜ TrimEnd (now (s .entry)) (now r) ⌝ }
+    ensures { λ r. ⌜ Part (s .entry) r 0 (endTrimmed (now (s .entry))) ⌝ }
 {
     let mut e = s.len();
     while 0 < e {
@@ -43,11 +44,9 @@ pub fn trim_end<'a>(s: &'a [u8]) -> &'a [u8]
     &s[..e]
 }
 
-// Where the White_Space ends that stands from a position on: that of one byte but line feeds, and that of three. The ops reader calls it at
-// the start of a line of its text and behind an operation that it has read there.
+// Where the White_Space ends that stands from a position on: that of one byte but line feeds, and that of three.
 pub fn blanks_end(s: &[u8], at: usize) -> usize
-    requires { ⌜ at ≤ length (now s) ⌝ }
-    ensures { λ r. ⌜ BlanksTo (now (s .entry)) at r ⌝ }
+    ensures { λ r. ⌜ r ≡ blanksEnd (now (s .entry)) at ⌝ }
 {
     let mut i = at;
     while i < s.len() {
@@ -75,21 +74,7 @@ fn blank_at(s: &[u8], at: usize) -> usize
     if a <= 0x7F {
         return 0;
     }
-    wide_blank_at(s, at)
-}
-
-// The same at a byte that is not ASCII.
-fn wide_blank_at(s: &[u8], at: usize) -> usize
-    requires { ⌜ (at < length (now s)) × (0x7F < getD (now s) at 0) ⌝ }
-    ensures { λ r. ⌜ BlankAt (now (s .entry)) at r ⌝ }
-{
-    if s.len() - at < 3 {
-        return 0;
-    }
-    if is_white3(s[at], s[at + 1], s[at + 2]) {
-        return 3;
-    }
-    0
+    three_at(s, at)
 }
 
 // How many bytes the White_Space character at a position has, or 0 where none stands.
@@ -127,10 +112,10 @@ fn two_at(s: &[u8], at: usize) -> usize
     0
 }
 
-// The same at a byte that starts characters of three bytes.
+// The same where only a character of three bytes can stand.
 fn three_at(s: &[u8], at: usize) -> usize
-    requires { ⌜ (at < length (now s)) × (0xC2 < getD (now s) at 0) ⌝ }
-    ensures { λ r. ⌜ WhiteAt (now (s .entry)) at r ⌝ }
+    requires { ⌜ at < length (now s) ⌝ }
+    ensures { λ r. ⌜ r ≡ threeLen (drop at (now (s .entry))) ⌝ }
 {
     if s.len() - at < 3 {
         return 0;

@@ -1,7 +1,9 @@
 -- `ops::trimmed_line` meets its contract: the line of the number, trimmed.
 -- Assumes nothing.
-use mathlib.Core.Path.{sym, _∙_}
+use mathlib.Core.Path.{refl, sym, ap, _∙_}
+use native.Mathlib.Omega.{arith}
 use denote.Ref.{now}
+use Rattle.ops.specs.Ops.{trimmedFrom}
 use Rattle.ops.proofs.Reached.{numbered-line, numbered-text, numbered-none}
 use borrow.Author.Needs.{needs}
 use Rattle.ops.proofs.trimmed_line.Statement.{statement}
@@ -56,13 +58,16 @@ returns : tie.Need-returns
 returns c =
     let text = now (c .before .before .before .before .before .before .before .args .text) in
     let n = c .before .before .before .before .before .before .before .args .line in
-    c .trim .ensures .text ∙ numbered-text text n _ (sym (c .before .before .before .before .before .nth-line .ensures) ∙ c .before .before .before .step .given .1)
+    let e = sym (c .before .before .before .before .before .nth-line .ensures) ∙ c .before .before .before .step .given .1 in
+    let t = c .trim .ensures in
+    record { text = t .text ∙ numbered-text text n _ e; block = t .block; offset = omega (arith, t .offset, ap (trimmedFrom text) e) }
 
 returns-2 : tie.Need-returns-2
 returns-2 c =
     let text = now (c .before .before .before .before .before .args .text) in
     let n = c .before .before .before .before .before .args .line in
-    sym (numbered-none text n (sym (c .before .before .before .nth-line .ensures) ∙ c .before .enum-told .given .1))
+    let e = sym (c .before .before .before .nth-line .ensures) ∙ c .before .enum-told .given .1 in
+    record { text = sym (numbered-none text n e); block = refl; offset = omega (arith, ap (trimmedFrom text) e) }
 
 pub trimmed-line-spec : {M : Type 1} → statement M
 trimmed-line-spec =

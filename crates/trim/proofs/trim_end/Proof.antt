@@ -8,7 +8,6 @@ use native.Mathlib.Omega.{arith}
 use lib.ListN.{length, take}
 use lib.Seq.{take-length, length-take-le}
 use denote.Ref.{now}
-use Rattle.byte.proofs.Parts.{from-start}
 use Rattle.trim.specs.Trim.{back}
 use borrow.Author.Needs.{needs}
 use Rattle.trim.proofs.trim_end.Statement.{statement}
@@ -47,7 +46,7 @@ returns c =
     let e = l .loop .e in
     let s = now (l .before .before .args .s) in
     let p : back (reverse (take e s)) ≡ reverse (take e s) = ⊎-elim (λ w. ended s e (w .left)) (λ w. w .1 .ensures .none (w .2 .taken)) (c .before .loop-test .came) in
-    record { text = sym (ap reverse (l .loop .inv .1 ∙ p) ∙ reverse-reverse (take e s)); place = from-start s e (l .loop .inv .0) }
+    record { text = sym (ap reverse (l .loop .inv .1 ∙ p) ∙ reverse-reverse (take e s)); block = refl; offset = omega arith }
 
 pub trim-end-spec : {M : Type 1} → statement M
 trim-end-spec =

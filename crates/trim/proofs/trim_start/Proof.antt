@@ -1,12 +1,13 @@
 -- `trim::trim_start` meets its contract: what is left has the same trimmed text as the whole.
 -- Assumes nothing.
 use Prim.Native.Nat.{ℕ, _≤_, _-_}
-use mathlib.Core.Path.{_≡_, refl, sym, _∙_}
+use mathlib.Core.Path.{_≡_, refl, sym, ap, _∙_}
 use mathlib.Core.List.{List}
 use mathlib.Core.Logic.{⊎-elim}
-use lib.ListN.{length, drop, drop-of-length-le}
+use native.Mathlib.Omega.{arith}
+use lib.ListN.{length, drop, drop-of-length-le, length-drop}
 use denote.Ref.{now}
-use Rattle.byte.proofs.Parts.{rest, from-end}
+use Rattle.byte.proofs.Parts.{rest}
 use Rattle.trim.specs.Trim.{startTrimmed}
 use borrow.Author.Needs.{needs}
 use Rattle.trim.proofs.trim_start.Statement.{statement}
@@ -51,7 +52,9 @@ returns c =
     let i = l .loop .i in
     let s = now (l .before .before .args .s) in
     let e : startTrimmed (drop i s) ≡ drop i s = ⊎-elim (λ w. ended s i (w .left)) (λ w. w .1 .ensures .none (w .2 .taken)) (c .before .loop-test .came) in
-    record { text = rest s i ∙ sym (l .loop .inv .1 ∙ e); place = from-end s i (l .loop .inv .0) }
+    let q : startTrimmed s ≡ drop i s = l .loop .inv .1 ∙ e in
+    let h = l .loop .inv .0 in
+    record { text = rest s i ∙ sym q; block = refl; offset = omega (arith, ap length q, length-drop i s) }
 
 pub trim-start-spec : {M : Type 1} → statement M
 trim-start-spec =

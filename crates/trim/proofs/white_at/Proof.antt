@@ -9,7 +9,7 @@ use Rattle.byte.proofs.Tests.{between, inside, never}
 use Rattle.trim.specs.Trim.{white2, white3}
 use Rattle.trim.proofs.White.{not1}
 use Rattle.trim.proofs.Laws.{yes1, start-stays}
-use Rattle.trim.proofs.Steps.{stays, goes, at1}
+use Rattle.trim.proofs.Steps.{stays, goes, at1, white-three}
 use borrow.Author.Needs.{needs}
 use Rattle.trim.proofs.white_at.Statement.{statement}
 use Rattle.trim.proofs.white_at.Tie as tie
@@ -46,15 +46,14 @@ in-range-requires : tie.Need-in-range-requires
 in-range-requires c κs = search needs
 
 three-at-requires : tie.Need-three-at-requires
-three-at-requires c κs =
-    let a = c .before .before .before .before .before .before .before .before .args in
-    let s = now (a .s) in
-    let x = getD s (a .at) 0 in
-    let h = between 0xE1 0xE3 x (sym (c .before .in-range .ensures) ∙ c .if4 .taken) in
-    omega arith
+three-at-requires c κs = search needs
 
 returns-4 : tie.Need-returns-4
-returns-4 c = search needs
+returns-4 c =
+    let a = c .before .before .before .before .before .before .before .before .before .args in
+    let s = now (a .s) in
+    let h = between 0xE1 0xE3 (getD s (a .at) 0) (sym (c .before .before .in-range .ensures) ∙ c .before .if4 .taken) in
+    white-three s (a .at) _ (omega arith) (omega arith) (c .three-at .ensures)
 
 returns-5 : tie.Need-returns-5
 returns-5 c =

@@ -1,9 +1,8 @@
 -- `line::first_at` meets its contract: a line that starts with no White_Space, or what `trim` passes.
 -- Assumes nothing.
-use mathlib.Core.Path.{refl}
-use native.Mathlib.Omega.{arith}
+use mathlib.Core.Path.{sym, _∙_}
 use denote.Ref.{now}
-use Rattle.trim.proofs.Blanks.{no-blanks}
+use Rattle.ops.proofs.BlankLines.{not-indented}
 use borrow.Author.Needs.{needs}
 use Rattle.ops.proofs.line.first_at.Statement.{statement}
 use Rattle.ops.proofs.line.first_at.Tie as tie
@@ -17,13 +16,13 @@ in-range-requires c κs = search needs
 returns : tie.Need-returns
 returns c =
     let a = c .before .before .before .before .args in
-    no-blanks (now (a .text)) (a .at) (a .at) (omega arith) refl
+    not-indented (now (a .text)) (a .at) (c .before .before .before .before .pre) (sym (c .before .in-range .ensures) ∙ c .if1 .taken)
 
 blanks-end-requires : tie.Need-blanks-end-requires
 blanks-end-requires c κs = search needs
 
 returns-2 : tie.Need-returns-2
-returns-2 c = c .blanks-end .ensures .blanks
+returns-2 c = record { within = search needs; is = c .blanks-end .ensures }
 
 pub first-at-spec : {M : Type 1} → statement M
 first-at-spec =

@@ -4,16 +4,16 @@ use mathlib.Core.Path.{refl, sym, subst, _∙_}
 use borrow.Author.Tests.{not-false}
 use native.Mathlib.Omega.{arith}
 use denote.Ref.{now}
-use Rattle.trim.proofs.Blanks.{no-blanks}
+use Rattle.trim.proofs.Blanks.{Blanks, blanks, no-blanks}
 use Rattle.ops.specs.Passes.{PlainRead}
 use Rattle.ops.proofs.PlainReads.{operation-within}
-use Rattle.ops.proofs.BlankLines.{operation-read}
+use Rattle.ops.proofs.BlankLines.{indent, operation-read}
 use borrow.Author.Needs.{needs}
 use Rattle.ops.proofs.line.operation_line_at.Statement.{statement}
 use Rattle.ops.proofs.line.operation_line_at.Tie as tie
 
 plain-at-requires : tie.Need-plain-at-requires
-plain-at-requires c κs = search needs
+plain-at-requires c κs = indent _ _ _ (c .before .pre) .fits
 
 enum-known-plain : tie.Need-enum-known-plain
 enum-known-plain c = search needs
@@ -35,7 +35,7 @@ add-t10 c =
     let a = c .before .before .before .before .before .before .before .args in
     let text = now (a .text) in
     let o = subst (PlainRead text (a .first)) (c .before .before .before .plain .given .1) (c .before .before .before .before .before .plain-at .ensures) in
-    let w = operation-within text (a .first) _ _ _ (c .before .before .before .before .before .before .before .pre .fits) o in
+    let w = operation-within text (a .first) _ _ _ (indent _ _ _ (c .before .before .before .before .before .before .before .pre) .fits) o in
     let g = c .before .before .before .before .before .before .before .good .0 .1 in record { fits = omega arith }
 
 returns-2 : tie.Need-returns-2
@@ -43,15 +43,11 @@ returns-2 c =
     let a = c .before .before .before .before .before .before .before .args in
     let text = now (a .text) in
     let o = subst (PlainRead text (a .first)) (c .before .before .before .plain .given .1) (c .before .before .before .before .before .plain-at .ensures) in
-    λ line. operation-read text (a .at) (a .first) (c .before .before .before .before .before .before .before .pre) line _ _ _ _ o
-    (no-blanks text _ _ (operation-within text (a .first) _ _ _ (c .before .before .before .before .before .before .before .pre .fits) o) refl) (sym (c .before .one .ensures) ∙ c .if1 .taken)
+    λ line. operation-read text (a .at) (a .first) (indent _ _ _ (c .before .before .before .before .before .before .before .pre)) line _ _ _ _ o
+    (no-blanks text _ (operation-within text (a .first) _ _ _ (indent _ _ _ (c .before .before .before .before .before .before .before .pre) .fits) o)) (sym (c .before .one .ensures) ∙ c .if1 .taken)
 
 blanks-end-requires : tie.Need-blanks-end-requires
-blanks-end-requires c κs =
-    let a = c .before .before .before .before .before .before .before .args in
-    let text = now (a .text) in
-    operation-within text (a .first) _ _ _ (c .before .before .before .before .before .before .before .pre .fits)
-    (subst (PlainRead text (a .first)) (c .before .before .before .plain .given .1) (c .before .before .before .before .before .plain-at .ensures))
+blanks-end-requires c κs = search needs
 
 one-requires-2 : tie.Need-one-requires-2
 one-requires-2 c κs = search needs
@@ -60,15 +56,26 @@ returns-3 : tie.Need-returns-3
 returns-3 c = search needs
 
 add-t13 : tie.Need-add-t13
-add-t13 c = search needs
+add-t13 c =
+    let start = c .before .before .before .before .before .before .before .before .before .before in
+    let a = start .args in
+    let text = now (a .text) in
+    let o = subst (PlainRead text (a .first)) (c .before .before .before .before .before .before .plain .given .1) (c .before .before .before .before .before .before .before .before .plain-at .ensures) in
+    let f = blanks text _ (operation-within text (a .first) _ _ _ (indent _ _ _ (start .pre) .fits) o) .fits in
+    let e = c .before .before .blanks-end .ensures in
+    let g = start .good .0 .1 in
+    record { fits = omega (arith, e, f) }
 
 returns-4 : tie.Need-returns-4
 returns-4 c =
-    let a = c .before .before .before .before .before .before .before .before .before .before .args in
+    let start = c .before .before .before .before .before .before .before .before .before .before in
+    let a = start .args in
     let text = now (a .text) in
-    λ line. operation-read text (a .at) (a .first) (c .before .before .before .before .before .before .before .before .before .before .pre) line _ _ _ _
-    (subst (PlainRead text (a .first)) (c .before .before .before .before .before .before .plain .given .1) (c .before .before .before .before .before .before .before .before .plain-at .ensures))
-    (c .before .before .blanks-end .ensures .blanks) (sym (c .before .one2 .ensures) ∙ not-false _ (c .if2 .left))
+    let i = indent _ _ _ (start .pre) in
+    let o = subst (PlainRead text (a .first)) (c .before .before .before .before .before .before .plain .given .1) (c .before .before .before .before .before .before .before .before .plain-at .ensures) in
+    λ line. operation-read text (a .at) (a .first) i line _ _ _ _ o
+    (subst (Blanks text _) (sym (c .before .before .blanks-end .ensures)) (blanks text _ (operation-within text (a .first) _ _ _ (i .fits) o)))
+    (sym (c .before .one2 .ensures) ∙ not-false _ (c .if2 .left))
 
 pub operation-line-at-spec : {M : Type 1} → statement M
 operation-line-at-spec =

@@ -6,7 +6,7 @@ use borrow.Author.Tests.{not-false}
 use lib.ListN.{length}
 use denote.Ref.{now}
 use Rattle.ops.specs.declared.line.LineRead.the-variants.{Skip}
-use Rattle.ops.proofs.BlankLines.{blank-read, remark-read}
+use Rattle.ops.proofs.BlankLines.{indent, blank-read, remark-read}
 use borrow.Author.Needs.{needs}
 use Rattle.ops.proofs.line.skipped_line_at.Statement.{statement}
 use Rattle.ops.proofs.line.skipped_line_at.Tie as tie
@@ -15,12 +15,12 @@ one-requires : tie.Need-one-requires
 one-requires c κs = search needs
 
 add-t6 : tie.Need-add-t6
-add-t6 c = search needs
+add-t6 c = let f = indent _ _ _ (c .before .before .before .pre) .fits in search needs
 
 returns : tie.Need-returns
 returns c =
     let a = c .before .before .before .args in
-    λ line. blank-read (now (a .text)) (a .at) (a .first) (c .before .before .before .pre) line (sym (c .before .one .ensures) ∙ c .if1 .taken)
+    λ line. blank-read (now (a .text)) (a .at) (a .first) (indent _ _ _ (c .before .before .before .pre)) line (sym (c .before .one .ensures) ∙ c .if1 .taken)
 
 one-requires-2 : tie.Need-one-requires-2
 one-requires-2 c κs = search needs
@@ -39,7 +39,7 @@ returns-3 c =
     let a = c .before .before .before .before .before .before .before .args in
     let text = now (a .text) in
     let f = c .before .line-feed .ensures in
-    λ line. remark-read text (a .at) (a .first) (c .before .before .before .before .before .before .before .pre) line
+    λ line. remark-read text (a .at) (a .first) (indent _ _ _ (c .before .before .before .before .before .before .before .pre)) line
     (sym (c .before .before .before .one2 .ensures) ∙ not-false _ (c .before .before .if2 .left)) (subst (λ (n : ℕ). n < length text) f (c .if3 .taken))
     ∙ ap (λ (n : ℕ). record { read = Skip; next = n + 1 }) (sym f)
 

@@ -1,10 +1,13 @@
--- A text trimmed at its end is a start of it.
+-- What trimming leaves is a part of the text: where it stands.
 use Prim.Native.Nat.{ℕ}
-use mathlib.Core.Path.{_≡_, refl, sym, ap, _∙_}
+use mathlib.Core.Path.{_≡_, refl, sym, ap, ap₂, _∙_}
 use mathlib.Core.List.{List, [], _∷_, _++_, reverse, reverse-append, reverse-reverse}
 use mathlib.Core.Bool.{Bool}
+use native.Mathlib.Omega.{arith}
+use lib.ListN.{length, take, drop, length-append}
+use lib.Seq.{take-at, drop-at}
 use Rattle.byte.proofs.Tests.{by-bool}
-use Rattle.trim.specs.Trim.{white1, trimmedBy, after1, after2, back2, back3, back, endTrimmed}
+use Rattle.trim.specs.Trim.{white1, white2, white3, trimmedBy, after1, after2, startTrimmed, back2, back3, back, endTrimmed, trimmed, passed}
 
 -- what was passed, and what is left
 abbrev Left : List ℕ → List ℕ → Type 0
@@ -34,3 +37,20 @@ pub end-start : (s : List ℕ) → (p : List ℕ) × (s ≡ endTrimmed s ++ p)
 end-start s =
     let l = left back2 back3 (reverse s) in
     (reverse (l .0), sym (reverse-reverse s) ∙ ap reverse (l .1) ∙ reverse-append (l .0) (back (reverse s)))
+
+-- the text from the White_Space passed on; the start of the text; and both
+pub start-place : (s : List ℕ) → startTrimmed s ≡ drop (passed s) s
+start-place s =
+    let l = left white2 white3 s in
+    let t = startTrimmed s in
+    let n : passed s ≡ length (l .0) = omega (arith, ap length (l .1), length-append (l .0) t) in
+    sym (ap₂ drop n (l .1) ∙ drop-at (l .0) t (length (l .0)) refl)
+
+pub end-place : (s : List ℕ) → endTrimmed s ≡ take (length (endTrimmed s)) s
+end-place s =
+    let l = end-start s in
+    let t = endTrimmed s in
+    sym (ap (take (length t)) (l .1) ∙ take-at t (l .0) (length t) refl)
+
+pub trimmed-place : (s : List ℕ) → trimmed s ≡ take (length (trimmed s)) (drop (passed s) s)
+trimmed-place s = end-place (startTrimmed s) ∙ ap (take (length (trimmed s))) (start-place s)
