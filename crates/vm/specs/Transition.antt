@@ -1,5 +1,5 @@
 -- A transition, from all of its inputs to the answer, the state and each lent buffer.
-use Prim.Native.Nat.{ℕ, _+_, _-_, _≤_}
+use Prim.Native.Nat.{ℕ, _-_, _≤_}
 use mathlib.Core.Path.{_≡_}
 use mathlib.Core.List.{List, [], _∷_, _++_}
 use lib.ListN.{length, take, drop, replicate}
@@ -69,9 +69,15 @@ abbrev pub transitionOf : Gate → (ks vs : List ℕ) (caller g : ℕ) (s w m : 
 transitionOf gate ks vs caller g s w m state =
     afterCheck (checksOf gate ks vs s w m (state .used)) (λ f. untouched f state s w m) (performed ks vs caller g s m state)
 
--- a call's answer and buffers are those of a result
-pub record Meets (t : Result) (a : Answer) (s w m : List ℕ) : Type 0 where
+-- the state after an answer: a success carries it, a refusal leaves it
+abbrev pub stateAfter : Answer → State → State
+stateAfter (Success spent operations items after) state = after
+stateAfter (Refused f) state = state
+
+-- the answer, the state and the buffers of a call that was made in the state `from` are those of a result
+pub record Meets (t : Result) (from : State) (a : Answer) (s w m : List ℕ) : Type 0 where
   pub answer : a ≡ t .answer
+  pub state : stateAfter a from ≡ t .state
   pub stack : s ≡ t .stack
   pub work : w ≡ t .work
   pub storage : m ≡ t .storage

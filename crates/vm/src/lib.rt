@@ -73,7 +73,7 @@ pub fn run_with_gas(
     storage: &mut [u64],
     state: State,
 ) -> Answer
-    ensures { λ a. ⌜ Meets (transitionOf gate.Passed (now (kinds .entry)) (now (operands .entry)) caller «gas_limit» (now (stack .entry)) (now (work .entry)) (now (storage .entry)) state) a (now (stack .exit)) (now (work .exit)) (now (storage .exit)) ⌝ }
+    ensures { λ a. ⌜ Meets (transitionOf gate.Passed (now (kinds .entry)) (now (operands .entry)) caller «gas_limit» (now (stack .entry)) (now (work .entry)) (now (storage .entry)) state) state a (now (stack .exit)) (now (work .exit)) (now (storage .exit)) ⌝ }
 {
     if !verify::buffers_fit(
         kinds.len(),
@@ -115,7 +115,7 @@ pub fn execute_state_transition_with_gas(
     storage: &mut [u64],
     state: State,
 ) -> Answer
-    ensures { λ a. ⌜ Meets (transitionOf (gateOf (now («chain_id» .entry)) (now («network_id» .entry)) (now («genesis_id» .entry)) (now («protocol_version» .entry)) (now («vm_version» .entry)) (now («computed_genesis_id» .entry)) (now («expected_protocol» .entry)) (now («expected_vm» .entry))) (now (kinds .entry)) (now (operands .entry)) caller «gas_limit» (now (stack .entry)) (now (work .entry)) (now (storage .entry)) state) a (now (stack .exit)) (now (work .exit)) (now (storage .exit)) ⌝ }
+    ensures { λ a. ⌜ Meets (transitionOf (gateOf (now («chain_id» .entry)) (now («network_id» .entry)) (now («genesis_id» .entry)) (now («protocol_version» .entry)) (now («vm_version» .entry)) (now («computed_genesis_id» .entry)) (now («expected_protocol» .entry)) (now («expected_vm» .entry))) (now (kinds .entry)) (now (operands .entry)) caller «gas_limit» (now (stack .entry)) (now (work .entry)) (now (storage .entry)) state) state a (now (stack .exit)) (now (work .exit)) (now (storage .exit)) ⌝ }
 {
     if !verify::buffers_fit(
         kinds.len(),
@@ -170,7 +170,7 @@ pub fn execute_state_transition(
     storage: &mut [u64],
     state: State,
 ) -> Answer
-    ensures { λ a. ⌜ Meets (transitionOf (gateOf (now («chain_id» .entry)) (now («network_id» .entry)) (now («genesis_id» .entry)) (now («protocol_version» .entry)) (now («vm_version» .entry)) (now («computed_genesis_id» .entry)) (now («expected_protocol» .entry)) (now («expected_vm» .entry))) (now (kinds .entry)) (now (operands .entry)) caller 0 (now (stack .entry)) (now (work .entry)) (now (storage .entry)) state) a (now (stack .exit)) (now (work .exit)) (now (storage .exit)) ⌝ }
+    ensures { λ a. ⌜ Meets (transitionOf (gateOf (now («chain_id» .entry)) (now («network_id» .entry)) (now («genesis_id» .entry)) (now («protocol_version» .entry)) (now («vm_version» .entry)) (now («computed_genesis_id» .entry)) (now («expected_protocol» .entry)) (now («expected_vm» .entry))) (now (kinds .entry)) (now (operands .entry)) caller 0 (now (stack .entry)) (now (work .entry)) (now (storage .entry)) state) state a (now (stack .exit)) (now (work .exit)) (now (storage .exit)) ⌝ }
 {
     execute_state_transition_with_gas(
         chain_id,
