@@ -7,7 +7,7 @@ use Rattle.word.specs.Apply.{Binary, add, sub, mul, div, eq, lt}
 use Rattle.machine.specs.declared.Refusal.{Refusal}
 use Rattle.machine.specs.declared.Refusal.the-variants.{OutOfGas, StackUnderflow, StackLimitExceeded, DivisionByZero, StorageLimitExceeded, OutsideStorage}
 use Rattle.machine.specs.declared.Regs.{Regs}
-use Rattle.machine.specs.Operation.{Op, priceOf}
+use Rattle.machine.specs.Operation.{Op}
 use Rattle.machine.specs.Machine.{Frame, Effect, Outcome, next, done, stop, settle, pay, actOf, machine, runOf}
 
 -- the first n of a buffer, the last of them first

@@ -1,9 +1,8 @@
 // A state transition: the lent buffers' lengths, the chain gate, the verifier, the metered run.
 ghost use Rattle.context.specs.Gate.{gateOf};
-ghost use Rattle.context.specs.declared.Gate.the-variants as gate;
 ghost use mathlib.Core.Path.{_≡_};
 ghost use Rattle.vm.specs.Numbers.{checkNumbered, answerNumbered};
-ghost use Rattle.vm.specs.Transition.{Meets, transitionOf};
+ghost use Rattle.vm.specs.Transition.{Meets, meteredOf, transitionOf};
 
 mod buffers;
 mod perform;
@@ -73,7 +72,7 @@ pub fn run_with_gas(
     storage: &mut [u64],
     state: State,
 ) -> Answer
-    ensures { λ a. ⌜ Meets (transitionOf gate.Passed (now (kinds .entry)) (now (operands .entry)) caller «gas_limit» (now (stack .entry)) (now (work .entry)) (now (storage .entry)) state) state a (now (stack .exit)) (now (work .exit)) (now (storage .exit)) ⌝ }
+    ensures { λ a. ⌜ Meets (meteredOf (now (kinds .entry)) (now (operands .entry)) caller «gas_limit» (now (stack .entry)) (now (work .entry)) (now (storage .entry)) state) state a (now (stack .exit)) (now (work .exit)) (now (storage .exit)) ⌝ }
 {
     if !verify::buffers_fit(
         kinds.len(),

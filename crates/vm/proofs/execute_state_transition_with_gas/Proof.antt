@@ -1,5 +1,5 @@
 -- `execute_state_transition_with_gas` meets its contract: the lengths, the gate, then the verifier and the run.
-use mathlib.Core.Path.{_≡_, refl, sym, _∙_}
+use mathlib.Core.Path.{refl, sym, _∙_}
 use Rattle.context.proofs.Laws.{holds, fails}
 use Rattle.vm.proofs.Laws.{lent}
 use borrow.Author.Needs.{needs}

@@ -1,5 +1,5 @@
 -- `run_with_gas` meets its contract: the lengths, then the verifier and the run.
-use mathlib.Core.Path.{_≡_, refl}
+use mathlib.Core.Path.{refl}
 use Rattle.context.proofs.Laws.{holds, fails}
 use Rattle.vm.proofs.Laws.{lent}
 use borrow.Author.Needs.{needs}
