@@ -9,6 +9,7 @@ use mathlib.Core.List.{List}
 use lib.ListN.{length, getD}
 use lib.Dec.{ltb}
 use borrow.Author.Tests.{lt-ltb, le-ltb}
+use Rattle.machine.specs.declared.Refusal.the-variants.{OutOfGas}
 use Rattle.machine.specs.Operation.{Op, push, binary, dup, swap, jump, jumpIfNotZero, load, store, caller, jumpIfZero, halt}
 use Rattle.machine.specs.Machine.{Frame, Effect, moves, jumps, ends, fails, Act, over, costs, Outcome, next, done, stop, effectOf, settle, pay, actOf, machine, follow, runOf, start, whole}
 
@@ -49,6 +50,13 @@ priced program c room fr = go (ltb (fr .pos) (length program))
     go true = priced-op c room (getD program (fr .pos) halt) fr
     go false = tt
 
+-- a price above the gas left refuses, whatever the operation would do; any other is taken
+pub unpaid : (g p : ℕ) (fr : Frame) (e : Effect) → g < p → pay g fr (costs p e) ≡ stop (OutOfGas p g)
+unpaid g p fr e h = rw (lt-ltb g p h)
+
+pub afforded : (g p : ℕ) (fr : Frame) (e : Effect) → p ≤ g → pay g fr (costs p e) ≡ settle (g - p) fr e
+afforded g p fr e h = rw (le-ltb g p h)
+
 -- n operations and then m more are n + m operations
 pub split : (act : Frame → Act) (n m g : ℕ) (fr : Frame) → runOf act (n + m) g fr ≡ follow (runOf act n g fr) (runOf act m)
 unfolding runOf
@@ -85,8 +93,8 @@ counted act pr (suc n) g fr = go (act fr) (pr fr) (λ h f l. more (f .ops + h) (
     effect p (fails f) l one ih = tt
 
     paid : (p : ℕ) (e : Effect) → PricedAct (costs p e) → ((h : ℕ) (f : Frame) → f .ops + h ≤ fr .ops + g → Counted (fr .ops + g) (runOf act n h f)) → Dec (g < p) → Counted (fr .ops + g) (follow (pay g fr (costs p e)) (runOf act n))
-    paid p e one ih (yes l) = rw (lt-ltb g p l) tt
-    paid p e one ih (no l) = let k : p ≤ g = omega arith in rw (le-ltb g p k) (effect p e k one ih)
+    paid p e one ih (yes l) = rw (unpaid g p fr e l) tt
+    paid p e one ih (no l) = let k : p ≤ g = omega arith in rw (afforded g p fr e k) (effect p e k one ih)
 
     go : (a : Act) → PricedAct a → ((h : ℕ) (f : Frame) → f .ops + h ≤ fr .ops + g → Counted (fr .ops + g) (runOf act n h f)) → Counted (fr .ops + g) (follow (pay g fr a) (runOf act n))
     go over one ih = omega arith
@@ -110,8 +118,8 @@ ended act pr (suc n) g fr h = go (act fr) (pr fr) (λ g₁ f. ended act pr n g�
     effect p (fails f) k one ih = tt
 
     paid : (p : ℕ) (e : Effect) → PricedAct (costs p e) → ((g₁ : ℕ) (f : Frame) → g₁ < n → Ended (runOf act n g₁ f)) → Dec (g < p) → Ended (follow (pay g fr (costs p e)) (runOf act n))
-    paid p e one ih (yes l) = rw (lt-ltb g p l) tt
-    paid p e one ih (no l) = let k : p ≤ g = omega arith in rw (le-ltb g p k) (effect p e k one ih)
+    paid p e one ih (yes l) = rw (unpaid g p fr e l) tt
+    paid p e one ih (no l) = let k : p ≤ g = omega arith in rw (afforded g p fr e k) (effect p e k one ih)
 
     go : (a : Act) → PricedAct a → ((g₁ : ℕ) (f : Frame) → g₁ < n → Ended (runOf act n g₁ f)) → Ended (follow (pay g fr a) (runOf act n))
     go over one ih = tt

@@ -8,7 +8,6 @@ use mathlib.Core.Option.{Option, some, none}
 use mathlib.Core.List.{List, [], _∷_}
 use lib.ListN.{length, getD}
 use lib.Dec.{ltb, leb, eqb}
-use borrow.Author.Tests.{lt-ltb, le-ltb}
 use Rattle.word.specs.Apply.{apply}
 use Rattle.context.specs.declared.ContextError.the-variants.{InvalidChainId, InvalidNetworkId, InvalidGenesisId, ProtocolMismatch, VmMismatch, GenesisMismatch}
 use Rattle.context.specs.declared.Gate.{Gate}
@@ -17,6 +16,7 @@ use Rattle.machine.specs.declared.Refusal.{Refusal}
 use Rattle.machine.specs.declared.Refusal.the-variants.{BufferLengths, EmptyProgram, ProgramTooLarge, StorageTooLarge, UnknownKind, JumpOutOfRange, OutOfGas, StackUnderflow, StackLimitExceeded, DivisionByZero, StorageLimitExceeded, OutsideStorage}
 use Rattle.machine.specs.Operation.{Op, push, binary, dup, swap, jump, jumpIfNotZero, load, store, caller, jumpIfZero, halt, opOf, priceOf}
 use Rattle.machine.specs.Machine.{Frame, Effect, moves, jumps, ends, fails, over, costs, Outcome, next, done, stop, storeAt, pushOf, valueOf, effectOf, requested, settle, pay, actOf, machine, follow, runOf, start, whole}
+use Rattle.machine.proofs.Runs.{unpaid, afforded}
 use Rattle.vm.specs.declared.Check.{Check}
 use Rattle.vm.specs.declared.Check.the-variants as check
 use Rattle.vm.specs.Verify.{need, andThen, buffersFit, gateCheck, targetFits, operationCheck, operationsCheck, verifyOf}
@@ -140,8 +140,8 @@ module _ (g : ℕ) where
   pay-stops p h fr e l q = go (decLt h p)
     where
       go : Dec (h < p) → Stops (pay h fr (costs p e))
-      go (yes y) = rw (lt-ltb h p y) (out-of-gas p h y l)
-      go (no y) = let k : p ≤ h = omega arith in rw (le-ltb h p k) (settle-stops (h - p) fr e (omega arith) q)
+      go (yes y) = rw (unpaid h p fr e y) (out-of-gas p h y l)
+      go (no y) = let k : p ≤ h = omega arith in rw (afforded h p fr e k) (settle-stops (h - p) fr e (omega arith) q)
 
   module _ (program : List Op) (c room : ℕ) where
     step-stops : (h : ℕ) (fr : Frame) → h ≤ g → Stops (pay h fr (machine program c room fr))
