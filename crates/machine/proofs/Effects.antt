@@ -1,11 +1,11 @@
 -- An operation's effect as its function leaves it in the registers and the buffers.
 use Prim.Native.Nat.{ℕ, zero, suc, _+_, _≤_}
 use native.Mathlib.Omega.{arith}
-use mathlib.Core.Path.{_≡_, refl, ap, _∙_}
+use mathlib.Core.Path.{_≡_, refl, _∙_}
 use mathlib.Core.List.{List}
 use lib.ListN.{length, take}
 use Rattle.machine.specs.declared.Regs.{Regs}
-use Rattle.machine.specs.Machine.{Frame, Effect, moves, jumps, fails, stop, settle}
+use Rattle.machine.specs.Machine.{Frame, Effect, moves, jumps, fails, stop}
 use Rattle.machine.specs.Registers.{down, frameOf, refusalOf, byCode, goneOn, stopped, Did}
 
 -- any code but 0 and 1 is a refusal

@@ -3,3 +3,5 @@ pub mod Storage
 pub mod Program
 pub mod Effects
 pub mod Runs
+pub mod Alike
+pub mod Slots

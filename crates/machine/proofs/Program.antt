@@ -6,7 +6,7 @@ use mathlib.Core.Path.{_≡_, refl, ap, subst}
 use mathlib.Core.List.{List, [], _∷_}
 use lib.ListN.{length, getD, List·getD-eq-default}
 use Rattle.word.specs.Apply.{lt}
-use Rattle.machine.specs.Operation.{Op, halt, kinds, opOf, decode}
+use Rattle.machine.specs.Operation.{halt, kinds, opOf, decode}
 use Rattle.machine.specs.Registers.{binaryOf}
 
 -- a rule at each of n numbers from b on

@@ -1,14 +1,15 @@
--- Theorems of runs: an operation that goes on costs at least 1, a run in pieces, equal programs, and a run's bound.
+-- Theorems of runs: an operation that goes on costs at least 1, a run in pieces, its count and its end.
 use Prim.Native.Nat.{ℕ, zero, suc, _+_, _-_, _≤_, _<_}
 use native.Mathlib.Omega.{arith}
 use native.Mathlib.Nat.{zero-add, suc-add}
 use native.Mathlib.Decide.{decLt}
-use mathlib.Core.Path.{_≡_, refl, ap, fun-ext}
+use mathlib.Core.Path.{_≡_, refl}
 use mathlib.Core.Bool.{Bool, true, false, cond}
 use mathlib.Core.List.{List}
 use lib.ListN.{length, getD}
 use lib.Dec.{ltb}
 use borrow.Author.Tests.{lt-ltb, le-ltb}
+use Rattle.machine.specs.declared.Refusal.the-variants.{OutOfGas}
 use Rattle.machine.specs.Operation.{Op, push, binary, dup, swap, jump, jumpIfNotZero, load, store, caller, jumpIfZero, halt}
 use Rattle.machine.specs.Machine.{Frame, Effect, moves, jumps, ends, fails, Act, over, costs, Outcome, next, done, stop, effectOf, settle, pay, actOf, machine, follow, runOf, start, whole}
 
@@ -49,6 +50,13 @@ priced program c room fr = go (ltb (fr .pos) (length program))
     go true = priced-op c room (getD program (fr .pos) halt) fr
     go false = tt
 
+-- a price above the gas left refuses, whatever the operation would do; any other is taken
+pub unpaid : (g p : ℕ) (fr : Frame) (e : Effect) → g < p → pay g fr (costs p e) ≡ stop (OutOfGas p g)
+unpaid g p fr e h = rw (lt-ltb g p h)
+
+pub afforded : (g p : ℕ) (fr : Frame) (e : Effect) → p ≤ g → pay g fr (costs p e) ≡ settle (g - p) fr e
+afforded g p fr e h = rw (le-ltb g p h)
+
 -- n operations and then m more are n + m operations
 pub split : (act : Frame → Act) (n m g : ℕ) (fr : Frame) → runOf act (n + m) g fr ≡ follow (runOf act n g fr) (runOf act m)
 unfolding runOf
@@ -61,38 +69,36 @@ split act (suc n) m g fr = rw suc-add (go (pay g fr (act fr)) (λ h f. split act
     go (done h f) ih = refl
     go (stop e) ih = refl
 
--- programs that act alike run alike
-pub alike : (act act′ : Frame → Act) → ((fr : Frame) → act fr ≡ act′ fr) → (n g : ℕ) (fr : Frame) → runOf act n g fr ≡ runOf act′ n g fr
-alike act act′ h n g fr = ap (λ (a : Frame → Act). runOf a n g fr) (fun-ext h)
-
--- what an outcome has counted: a frame with at most n operations
+-- what an outcome has counted: a run that goes on has paid 1 or more for each operation, and a done one for each but a Halt
 abbrev pub Counted : ℕ → Outcome → Type 0
-Counted n (next h fr) = fr .ops ≤ n
-Counted n (done h fr) = fr .ops ≤ n
+Counted n (next h fr) = fr .ops + h ≤ n
+Counted n (done h fr) = fr .ops + h ≤ n + 1
 Counted n (stop f) = Unit {0}
 
--- at most n operations are executed
-pub counted : (act : Frame → Act) (n g : ℕ) (fr : Frame) → Counted (fr .ops + n) (runOf act n g fr)
+-- operations and gas together never rise but by a last Halt
+pub counted : (act : Frame → Act) → Priced act → (n g : ℕ) (fr : Frame) → Counted (fr .ops + g) (runOf act n g fr)
 unfolding runOf
-counted act zero g fr = omega arith
-counted act (suc n) g fr = go (act fr) (λ h f k. more (fr .ops) n h f k (counted act n h f))
+counted act pr zero g fr = omega arith
+counted act pr (suc n) g fr = go (act fr) (pr fr) (λ h f l. more (f .ops + h) (fr .ops + g) (runOf act n h f) l (counted act pr n h f))
   where
-    more : (k n h : ℕ) (f : Frame) → f .ops ≡ k + 1 → Counted (f .ops + n) (runOf act n h f) → Counted (k + suc n) (runOf act n h f)
-    more k n h f e c = let s : f .ops + n ≡ k + suc n = omega arith in rw s at c
+    more : (a b : ℕ) (o : Outcome) → a ≤ b → Counted a o → Counted b o
+    more a b (next h f) l q = omega arith
+    more a b (done h f) l q = omega arith
+    more a b (stop f) l q = tt
 
-    effect : (h : ℕ) (e : Effect) → ((h : ℕ) (f : Frame) → f .ops ≡ fr .ops + 1 → Counted (fr .ops + suc n) (runOf act n h f)) → Counted (fr .ops + suc n) (follow (settle h fr e) (runOf act n))
-    effect h (moves s m) ih = ih h (record { pos = fr .pos + 1; stack = s; storage = m; ops = fr .ops + 1 }) refl
-    effect h (jumps t s m) ih = ih h (record { pos = t; stack = s; storage = m; ops = fr .ops + 1 }) refl
-    effect h ends ih = omega arith
-    effect h (fails f) ih = tt
+    effect : (p : ℕ) (e : Effect) → p ≤ g → PricedAct (costs p e) → ((h : ℕ) (f : Frame) → f .ops + h ≤ fr .ops + g → Counted (fr .ops + g) (runOf act n h f)) → Counted (fr .ops + g) (follow (settle (g - p) fr e) (runOf act n))
+    effect p (moves s m) l one ih = ih (g - p) (record { pos = fr .pos + 1; stack = s; storage = m; ops = fr .ops + 1 }) (omega arith)
+    effect p (jumps t s m) l one ih = ih (g - p) (record { pos = t; stack = s; storage = m; ops = fr .ops + 1 }) (omega arith)
+    effect p ends l one ih = omega arith
+    effect p (fails f) l one ih = tt
 
-    go : (a : Act) → ((h : ℕ) (f : Frame) → f .ops ≡ fr .ops + 1 → Counted (fr .ops + suc n) (runOf act n h f)) → Counted (fr .ops + suc n) (follow (pay g fr a) (runOf act n))
-    go over ih = omega arith
-    go (costs p e) ih = paid (decLt g p)
-      where
-        paid : Dec (g < p) → Counted (fr .ops + suc n) (follow (pay g fr (costs p e)) (runOf act n))
-        paid (yes l) = rw (lt-ltb g p l) tt
-        paid (no l) = let k : p ≤ g = omega arith in rw (le-ltb g p k) (effect (g - p) e ih)
+    paid : (p : ℕ) (e : Effect) → PricedAct (costs p e) → ((h : ℕ) (f : Frame) → f .ops + h ≤ fr .ops + g → Counted (fr .ops + g) (runOf act n h f)) → Dec (g < p) → Counted (fr .ops + g) (follow (pay g fr (costs p e)) (runOf act n))
+    paid p e one ih (yes l) = rw (unpaid g p fr e l) tt
+    paid p e one ih (no l) = let k : p ≤ g = omega arith in rw (afforded g p fr e k) (effect p e k one ih)
+
+    go : (a : Act) → PricedAct a → ((h : ℕ) (f : Frame) → f .ops + h ≤ fr .ops + g → Counted (fr .ops + g) (runOf act n h f)) → Counted (fr .ops + g) (follow (pay g fr a) (runOf act n))
+    go over one ih = omega arith
+    go (costs p e) one ih = paid p e one ih (decLt g p)
 
 abbrev pub Ended : Outcome → Type 0
 Ended (next h fr) = ⊥
@@ -112,18 +118,18 @@ ended act pr (suc n) g fr h = go (act fr) (pr fr) (λ g₁ f. ended act pr n g�
     effect p (fails f) k one ih = tt
 
     paid : (p : ℕ) (e : Effect) → PricedAct (costs p e) → ((g₁ : ℕ) (f : Frame) → g₁ < n → Ended (runOf act n g₁ f)) → Dec (g < p) → Ended (follow (pay g fr (costs p e)) (runOf act n))
-    paid p e one ih (yes l) = rw (lt-ltb g p l) tt
-    paid p e one ih (no l) = let k : p ≤ g = omega arith in rw (le-ltb g p k) (effect p e k one ih)
+    paid p e one ih (yes l) = rw (unpaid g p fr e l) tt
+    paid p e one ih (no l) = let k : p ≤ g = omega arith in rw (afforded g p fr e k) (effect p e k one ih)
 
     go : (a : Act) → PricedAct a → ((g₁ : ℕ) (f : Frame) → g₁ < n → Ended (runOf act n g₁ f)) → Ended (follow (pay g fr a) (runOf act n))
     go over one ih = tt
     go (costs p e) one ih = paid p e one ih (decLt g p)
 
--- a whole run under the limit g ends, and executes at most g + 1 operations
+-- a whole run ends, and its operations are at most one more than the gas it spends
 pub whole-ends : (program : List Op) (c room g : ℕ) (m : List ℕ) → Ended (whole program c room g m)
 unfolding whole
 whole-ends program c room g m = ended (machine program c room) (priced program c room) (g + 1) g (start m) (omega arith)
 
-pub whole-bounded : (program : List Op) (c room g : ℕ) (m : List ℕ) → Counted (g + 1) (whole program c room g m)
+pub whole-counted : (program : List Op) (c room g : ℕ) (m : List ℕ) → Counted g (whole program c room g m)
 unfolding whole
-whole-bounded program c room g m = rw zero-add at (counted (machine program c room) (g + 1) g (start m))
+whole-counted program c room g m = rw zero-add at (counted (machine program c room) (priced program c room) (g + 1) g (start m))

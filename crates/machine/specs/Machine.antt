@@ -36,6 +36,12 @@ pub data Outcome : Type 0 where
   done : ℕ → Frame → Outcome
   stop : Refusal → Outcome
 
+-- what comes after an outcome that goes on
+abbrev pub follow : Outcome → (ℕ → Frame → Outcome) → Outcome
+follow (next g fr) k = k g fr
+follow (done g fr) k = done g fr
+follow (stop f) k = stop f
+
 -- the two ways to touch the storage: a slot past the used ones reads 0, and zeros fill what a store leaves between
 abbrev pub loadAt : List ℕ → ℕ → ℕ
 loadAt m i = getD m i 0
@@ -120,11 +126,6 @@ actOf c room op fr = costs (priceOf op (length (fr .storage))) (effectOf c room 
 -- what a program does at a frame
 abbrev pub machine : List Op → ℕ → ℕ → Frame → Act
 machine program c room fr = cond (ltb (fr .pos) (length program)) (actOf c room (getD program (fr .pos) halt) fr) over
-
-abbrev pub follow : Outcome → (ℕ → Frame → Outcome) → Outcome
-follow (next g fr) k = k g fr
-follow (done g fr) k = done g fr
-follow (stop f) k = stop f
 
 -- at most n operations
 unfoldable pub runOf : (Frame → Act) → ℕ → ℕ → Frame → Outcome

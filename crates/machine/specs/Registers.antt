@@ -7,7 +7,7 @@ use Rattle.word.specs.Apply.{Binary, add, sub, mul, div, eq, lt}
 use Rattle.machine.specs.declared.Refusal.{Refusal}
 use Rattle.machine.specs.declared.Refusal.the-variants.{OutOfGas, StackUnderflow, StackLimitExceeded, DivisionByZero, StorageLimitExceeded, OutsideStorage}
 use Rattle.machine.specs.declared.Regs.{Regs}
-use Rattle.machine.specs.Operation.{Op, priceOf}
+use Rattle.machine.specs.Operation.{Op}
 use Rattle.machine.specs.Machine.{Frame, Effect, Outcome, next, done, stop, settle, pay, actOf, machine, runOf}
 
 -- the first n of a buffer, the last of them first
@@ -70,7 +70,9 @@ pub record Kept (lo room : ℕ) (r q : Regs) : Type 0 where
   pub once : q .ops ≤ r .ops + 1
   pub pos : lo ≤ q .pos + q .code
 
--- an operation's effect on the buffers s and w, which it leaves as s′ and w′
+-- an operation's effect on the buffers s and w, which it leaves as s′ and w′.
+-- Free are the stack buffer above the items and the work buffer past the used slots, and the note where the code is 0 or 1.
+-- After a refusal both buffers are free; items, used, position and count are so within `Kept`, and of code and note what `refusalOf` leaves
 pub record Did (lo : ℕ) (effect : List ℕ → List ℕ → Effect) (r q : Regs) (s w s′ w′ : List ℕ) : Type 0 where
   pub outcome : outcomeOf s′ w′ q ≡ settle (r .gas) (frameOf s w r) (effect (down (r .items) s) (take (r .used) w))
   pub kept : Kept lo (length w) r q
@@ -85,7 +87,7 @@ pub record Running (r : Regs) (stack work : ℕ) : Type 0 where
   pub code : r .code ≡ 0
   pub room : 4096 ≤ stack
 
--- one operation, paid for and done
+-- one operation, paid for and done; what `Did` leaves free is free here, within `Held`
 pub record Stepped (c : ℕ) (op : Op) (r q : Regs) (s w s′ w′ : List ℕ) : Type 0 where
   pub outcome : outcomeOf s′ w′ q ≡ pay (r .gas) (frameOf s w r) (actOf c (length w) op (frameOf s w r))
   pub held : Held (length w) q
@@ -96,7 +98,7 @@ pub record Stepped (c : ℕ) (op : Op) (r q : Regs) (s w s′ w′ : List ℕ) :
 abbrev pub binaryOf : ℕ → Binary
 binaryOf k = getD (lt ∷ add ∷ sub ∷ mul ∷ div ∷ lt ∷ lt ∷ lt ∷ lt ∷ eq ∷ []) k lt
 
--- a run to its end: with more operations than gas it is the machine's
+-- a run to its end: with more operations than gas it is the machine's; what `Did` leaves free is free here, within `Held`
 pub record Ran (program : List Op) (c : ℕ) (r q : Regs) (s w s′ w′ : List ℕ) : Type 0 where
   pub outcome : (n : ℕ) → r .gas < n → outcomeOf s′ w′ q ≡ runOf (machine program c (length w)) n (r .gas) (frameOf s w r)
   pub held : Held (length w) q

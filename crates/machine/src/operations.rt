@@ -1,5 +1,5 @@
 // What each operation does once its price is taken. The loop of crate `metered` calls these, and its registers
-// are always ready for one operation more.
+// are always ready for one operation more. What a contract leaves free is named at `Did`.
 ghost use mathlib.Core.Path.{_≡_};
 ghost use mathlib.Core.List.{List, _++_};
 ghost use mathlib.Core.Option.{some};
@@ -7,7 +7,7 @@ ghost use Prim.Native.Nat.{ℕ, _+_, _-_, _≤_, _<_, _^_};
 ghost use lib.ListN.{length, take, drop, replicate};
 ghost use Rattle.word.specs.Apply.{apply as applyOf};
 ghost use Rattle.machine.specs.Machine.{jumps, pushOf, twoOf, dupOf, swapOf, jumpIfZeroOf, jumpIfNotZeroOf, loadOf, storeOf, requested as requestedOf};
-ghost use Rattle.machine.specs.Registers.{Ready, Did, DidAny, binaryOf};
+ghost use Rattle.machine.specs.Registers.{Ready, Did, DidAny, binaryOf, goneOn};
 use super::Regs;
 use super::registers;
 
@@ -20,7 +20,7 @@ pub fn push(stack: &mut [u64], r: Regs, v: u64) -> Regs
         return registers::stop(r, 48, 0);
     }
     stack[n] = v;
-    registers::go_on(r, r.pos + 1, n + 1, r.used)
+    go_on(r, r.pos + 1, n + 1, r.used)
 }
 
 // The two-sided operation of a kind: the Rust's closures, as a choice.
@@ -54,7 +54,7 @@ pub fn two(stack: &mut [u64], r: Regs, kind: u8) -> Regs
         }
     }
     stack[n - 2] = apply(kind, a, b);
-    registers::go_on(r, r.pos + 1, n - 1, r.used)
+    go_on(r, r.pos + 1, n - 1, r.used)
 }
 
 pub fn dup(stack: &mut [u64], r: Regs) -> Regs
@@ -81,7 +81,7 @@ pub fn swap(stack: &mut [u64], r: Regs) -> Regs
     let a = stack[n - 2];
     stack[n - 1] = a;
     stack[n - 2] = b;
-    registers::go_on(r, r.pos + 1, n, r.used)
+    go_on(r, r.pos + 1, n, r.used)
 }
 
 pub fn jump(r: Regs, t: u64) -> Regs
@@ -89,7 +89,7 @@ pub fn jump(r: Regs, t: u64) -> Regs
     requires { ⌜ r .items ≤ 4096 ⌝ }
     ensures { λ q. ⌜ ((s : List ℕ) → DidAny 0 (jumps t) r q s s) ⌝ }
 {
-    registers::go_on(r, t as usize, r.items, r.used)
+    go_on(r, t as usize, r.items, r.used)
 }
 
 pub fn jump_if_zero(stack: &[u64], r: Regs, t: u64) -> Regs
@@ -101,9 +101,9 @@ pub fn jump_if_zero(stack: &[u64], r: Regs, t: u64) -> Regs
         return registers::stop(r, 47, 0);
     }
     if stack[n - 1] == 0 {
-        return registers::go_on(r, t as usize, n - 1, r.used);
+        return go_on(r, t as usize, n - 1, r.used);
     }
-    registers::go_on(r, r.pos + 1, n - 1, r.used)
+    go_on(r, r.pos + 1, n - 1, r.used)
 }
 
 pub fn jump_if_not_zero(stack: &[u64], r: Regs, t: u64) -> Regs
@@ -115,9 +115,9 @@ pub fn jump_if_not_zero(stack: &[u64], r: Regs, t: u64) -> Regs
         return registers::stop(r, 47, 0);
     }
     if stack[n - 1] == 0 {
-        return registers::go_on(r, r.pos + 1, n - 1, r.used);
+        return go_on(r, r.pos + 1, n - 1, r.used);
     }
-    registers::go_on(r, t as usize, n - 1, r.used)
+    go_on(r, t as usize, n - 1, r.used)
 }
 
 pub fn load(stack: &mut [u64], work: &[u64], r: Regs, slot: u64) -> Regs
@@ -153,11 +153,27 @@ pub fn store(stack: &[u64], work: &mut [u64], r: Regs, slot: u64) -> Regs
     }
     if at < used {
         work[at] = v;
-        return registers::go_on(r, r.pos + 1, n - 1, used);
+        return go_on(r, r.pos + 1, n - 1, used);
     }
     zero_out(work, used, at);
     work[at] = v;
-    registers::go_on(r, r.pos + 1, n - 1, at + 1)
+    go_on(r, r.pos + 1, n - 1, at + 1)
+}
+
+// The registers after an operation that goes on.
+fn go_on(r: Regs, pos: usize, items: usize, used: usize) -> Regs
+    requires { ⌜ r .ops + 1 < 2 ^ 64 ⌝ }
+    ensures { λ q. ⌜ q ≡ goneOn r pos items used ⌝ }
+{
+    Regs {
+        pos,
+        gas: r.gas,
+        items,
+        used,
+        ops: r.ops + 1,
+        code: 0,
+        note: 0,
+    }
 }
 
 // The slots that the storage would need, as far as a word counts them.

@@ -1,8 +1,8 @@
-// The registers after a payment, and after an operation that goes on, ends or is refused. A price is paid only
-// where the gas is enough.
+// The registers after a payment, and after an operation that ends or is refused. `step_of` of crate `metered` calls `pay`
+// only where the gas is enough.
 ghost use mathlib.Core.Path.{_≡_};
-ghost use Prim.Native.Nat.{_+_, _≤_, _<_, _^_};
-ghost use Rattle.machine.specs.Registers.{goneOn, ended, stopped, paid};
+ghost use Prim.Native.Nat.{_≤_};
+ghost use Rattle.machine.specs.Registers.{ended, stopped, paid};
 use super::Regs;
 
 pub fn pay(r: Regs, price: u64) -> Regs
@@ -17,21 +17,6 @@ pub fn pay(r: Regs, price: u64) -> Regs
         ops: r.ops,
         code: r.code,
         note: r.note,
-    }
-}
-
-pub fn go_on(r: Regs, pos: usize, items: usize, used: usize) -> Regs
-    requires { ⌜ r .ops + 1 < 2 ^ 64 ⌝ }
-    ensures { λ q. ⌜ q ≡ goneOn r pos items used ⌝ }
-{
-    Regs {
-        pos,
-        gas: r.gas,
-        items,
-        used,
-        ops: r.ops + 1,
-        code: 0,
-        note: 0,
     }
 }
 

@@ -1,12 +1,12 @@
 -- The turns of the loop against the definition of a run.
-use Prim.Native.Nat.{ℕ, zero, suc, _+_, _≤_, _<_}
+use Prim.Native.Nat.{ℕ, zero, suc, _≤_, _<_}
 use native.Mathlib.Omega.{arith}
-use mathlib.Core.Path.{_≡_, refl, sym, ap, _∙_}
+use mathlib.Core.Path.{_≡_, sym, ap, _∙_}
 use mathlib.Core.List.{List}
 use lib.ListN.{length, getD}
 use borrow.Author.Tests.{lt-ltb, le-ltb}
-use Rattle.machine.specs.Operation.{Op, opOf, decode}
-use Rattle.machine.specs.Machine.{Frame, Act, over, Outcome, next, done, pay, actOf, machine, follow, runOf}
+use Rattle.machine.specs.Operation.{opOf, decode}
+use Rattle.machine.specs.Machine.{Frame, Act, over, Outcome, next, pay, actOf, machine, runOf}
 use Rattle.machine.specs.declared.Regs.{Regs}
 use Rattle.machine.specs.Registers.{frameOf, byCode, outcomeOf, Stepped}
 use Rattle.machine.proofs.Program.{decode-length, decode-at}

@@ -10,7 +10,8 @@ use machine::Regs;
 use machine::registers;
 
 // Operations until the program ends or is refused, from any registers that run. Crate `vm` calls it behind its
-// test of the buffers' lengths (34).
+// test of the buffers' lengths (34). Free are, by `Ran`, what lies above the items and past the used slots, and after a
+// refusal both buffers: `vm` clears them.
 pub fn run(
     kinds: &[u8],
     operands: &[u64],

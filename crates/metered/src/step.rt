@@ -1,5 +1,4 @@
 // One operation: its price, then what it does.
-ghost use mathlib.Core.Path.{_≡_};
 ghost use Prim.Native.Nat.{_<_, _^_};
 ghost use lib.ListN.{length};
 ghost use Rattle.machine.specs.Operation.{opOf};

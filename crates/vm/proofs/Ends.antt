@@ -43,7 +43,7 @@ module _ (g : ℕ) (state : State) (r : Regs) (s w m s′ w′ : List ℕ) (same
 
   pub succeeded : (more : ℕ) (m′ : List ℕ) → r .code ≡ 1 → r .items ≤ length s → r .used ≤ length w → r .used + more ≤ length m
       → s′ ≡ take (r .items) s ++ replicate (length s - r .items) 0 → m′ ≡ take (r .used) w ++ drop (r .used) m
-      → Meets (ofRun g state (length s) m (widenedOutcome (take more (drop (r .used) m)) (outcomeOf s w r))) (Success (g - r .gas) (r .ops) (r .items) (record { used = r .used + more })) s′ w′ m′
+      → Meets (ofRun g state (length s) m (widenedOutcome (take more (drop (r .used) m)) (outcomeOf s w r))) state (Success (g - r .gas) (r .ops) (r .items) (record { used = r .used + more })) s′ w′ m′
   succeeded more m′ one hi hu hm es em =
       let d = length-down (r .items) s in
       let b = take more (drop (r .used) m) in
@@ -51,17 +51,18 @@ module _ (g : ℕ) (state : State) (r : Regs) (s w m s′ w′ : List ℕ) (same
       let e : drop (r .used) m ≡ b ++ drop (r .used + more) m = sym (take-append-drop more (drop (r .used) m)) ∙ ap (λ (t : List ℕ). b ++ t) (drop-drop more (r .used) m) in
       rw one (record {
         answer = rw (d, u);
+        state = rw u;
         stack = rw (up-down (r .items) s hi, d) es;
         work = cleared;
         storage = rw (u, append-assoc, ← e) em;
       })
 
   pub undone-by : (b : List ℕ) (f : Refusal) → 2 ≤ r .code → f ≡ refusalOf (r .code) (r .note) (r .gas) → s′ ≡ take 0 s ++ replicate (length s - 0) 0
-      → Meets (ofRun g state (length s) m (widenedOutcome b (outcomeOf s w r))) (Refused f) s′ w′ m
+      → Meets (ofRun g state (length s) m (widenedOutcome b (outcomeOf s w r))) state (Refused f) s′ w′ m
   undone-by b f two e es =
-      rw (refused (r .code) (r .note) (r .gas) (frameOf s w r) two) (record { answer = ap Refused e; stack = all-zero s s′ es; work = cleared; storage = refl })
+      rw (refused (r .code) (r .note) (r .gas) (frameOf s w r) two) (record { answer = ap Refused e; state = refl; stack = all-zero s s′ es; work = cleared; storage = refl })
 
 -- the same result, with the stack's length and the outcome named otherwise
 pub carried : (g : ℕ) (state : State) (m : List ℕ) {n n′ : ℕ} {o o′ : Outcome} {a : Answer} {s′ w′ m′ : List ℕ} → n ≡ n′ → o ≡ o′
-    → Meets (ofRun g state n m o) a s′ w′ m′ → Meets (ofRun g state n′ m o′) a s′ w′ m′
+    → Meets (ofRun g state n m o) state a s′ w′ m′ → Meets (ofRun g state n′ m o′) state a s′ w′ m′
 carried g state m p q h = rw (← p, ← q) h

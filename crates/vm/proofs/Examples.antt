@@ -3,18 +3,17 @@ use Prim.Native.Nat.{ℕ}
 use mathlib.Core.Path.{_≡_, refl}
 use mathlib.Core.List.{List, [], _∷_}
 use lib.ListN.{replicate}
-use Rattle.context.specs.declared.Gate.the-variants as gate
 use Rattle.machine.specs.Operation.{decode}
 use Rattle.machine.specs.Machine.{runOf, whole}
 use Rattle.vm.specs.Verify.{operationsCheck}
 use Rattle.numbered.specs.declared.Numbered.{Numbered}
 use Rattle.numbered.specs.Numbered.{plain, carrying}
 use Rattle.vm.specs.Numbers.{answerNumbered}
-use Rattle.vm.specs.Transition.{Result, up, transitionOf}
+use Rattle.vm.specs.Transition.{Result, up, meteredOf}
 
 -- a metered run by caller 7 with no storage used: buffers as lent, whatever they hold
 abbrev ran : (ks vs : List ℕ) (g : ℕ) (m : List ℕ) → Result
-ran ks vs g m = transitionOf gate.Passed ks vs 7 g (replicate 4096 9) m m (record { used = 0 })
+ran ks vs g m = meteredOf ks vs 7 g (replicate 4096 9) m m (record { used = 0 })
 
 abbrev answered : (ks vs : List ℕ) (g : ℕ) (m : List ℕ) → Numbered
 answered ks vs g m = answerNumbered (ran ks vs g m .answer)

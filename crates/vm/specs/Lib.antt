@@ -3,3 +3,4 @@ pub mod Blocks
 pub mod Numbers
 pub mod Reach
 pub mod Transition
+pub mod Refusals

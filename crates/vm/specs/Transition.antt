@@ -1,5 +1,5 @@
 -- A transition, from all of its inputs to the answer, the state and each lent buffer.
-use Prim.Native.Nat.{ℕ, _+_, _-_, _≤_}
+use Prim.Native.Nat.{ℕ, _-_, _≤_}
 use mathlib.Core.Path.{_≡_}
 use mathlib.Core.List.{List, [], _∷_, _++_}
 use lib.ListN.{length, take, drop, replicate}
@@ -56,22 +56,36 @@ afterCheck (check.Refused e) f r = f e
 abbrev pub lengthsCheck : (ks vs s w m : List ℕ) → ℕ → Check
 lengthsCheck ks vs s w m used = need (buffersFit (length ks) (length vs) (length s) (length w) (length m) used) BufferLengths check.Passed
 
--- what is tested before the run: the lengths, the gate, the verifier
-abbrev pub checksOf : Gate → (ks vs s w m : List ℕ) → ℕ → Check
-checksOf gate ks vs s w m used = andThen (lengthsCheck ks vs s w m used) (andThen (gateCheck gate) (verifyOf ks vs used))
+-- what is tested before the run: the lengths, then what the call itself asks, then the verifier
+abbrev pub checksOf : Check → (ks vs s w m : List ℕ) → ℕ → Check
+checksOf own ks vs s w m used = andThen (lengthsCheck ks vs s w m used) (andThen own (verifyOf ks vs used))
 
 -- the run itself, on the used slots of the storage
 abbrev pub performed : (ks vs : List ℕ) (caller g : ℕ) (s m : List ℕ) → State → Result
 performed ks vs caller g s m state = ofRun g state (length s) m (whole (decode ks vs) caller (length m) g (take (state .used) m))
 
--- a metered run is a transition whose gate is passed
-abbrev pub transitionOf : Gate → (ks vs : List ℕ) (caller g : ℕ) (s w m : List ℕ) → State → Result
-transitionOf gate ks vs caller g s w m state =
-    afterCheck (checksOf gate ks vs s w m (state .used)) (λ f. untouched f state s w m) (performed ks vs caller g s m state)
+-- a run behind its tests, `own` being the call's own
+abbrev pub runUnder : Check → (ks vs : List ℕ) (caller g : ℕ) (s w m : List ℕ) → State → Result
+runUnder own ks vs caller g s w m state =
+    afterCheck (checksOf own ks vs s w m (state .used)) (λ f. untouched f state s w m) (performed ks vs caller g s m state)
 
--- a call's answer and buffers are those of a result
-pub record Meets (t : Result) (a : Answer) (s w m : List ℕ) : Type 0 where
+-- a metered run asks nothing of its own
+abbrev pub meteredOf : (ks vs : List ℕ) (caller g : ℕ) (s w m : List ℕ) → State → Result
+meteredOf = runUnder check.Passed
+
+-- a transition asks the gate
+abbrev pub transitionOf : Gate → (ks vs : List ℕ) (caller g : ℕ) (s w m : List ℕ) → State → Result
+transitionOf gate = runUnder (gateCheck gate)
+
+-- the state after an answer: a success carries it, a refusal leaves it
+abbrev pub stateAfter : Answer → State → State
+stateAfter (Success spent operations items after) state = after
+stateAfter (Refused f) state = state
+
+-- the answer, the state and the buffers of a call that was made in the state `from` are those of a result
+pub record Meets (t : Result) (from : State) (a : Answer) (s w m : List ℕ) : Type 0 where
   pub answer : a ≡ t .answer
+  pub state : stateAfter a from ≡ t .state
   pub stack : s ≡ t .stack
   pub work : w ≡ t .work
   pub storage : m ≡ t .storage

@@ -1,9 +1,8 @@
 // A state transition: the lent buffers' lengths, the chain gate, the verifier, the metered run.
 ghost use Rattle.context.specs.Gate.{gateOf};
-ghost use Rattle.context.specs.declared.Gate.the-variants as gate;
 ghost use mathlib.Core.Path.{_≡_};
 ghost use Rattle.vm.specs.Numbers.{checkNumbered, answerNumbered};
-ghost use Rattle.vm.specs.Transition.{Meets, transitionOf};
+ghost use Rattle.vm.specs.Transition.{Meets, meteredOf, transitionOf};
 
 mod buffers;
 mod perform;
@@ -73,7 +72,7 @@ pub fn run_with_gas(
     storage: &mut [u64],
     state: State,
 ) -> Answer
-    ensures { λ a. ⌜ Meets (transitionOf gate.Passed (now (kinds .entry)) (now (operands .entry)) caller «gas_limit» (now (stack .entry)) (now (work .entry)) (now (storage .entry)) state) a (now (stack .exit)) (now (work .exit)) (now (storage .exit)) ⌝ }
+    ensures { λ a. ⌜ Meets (meteredOf (now (kinds .entry)) (now (operands .entry)) caller «gas_limit» (now (stack .entry)) (now (work .entry)) (now (storage .entry)) state) state a (now (stack .exit)) (now (work .exit)) (now (storage .exit)) ⌝ }
 {
     if !verify::buffers_fit(
         kinds.len(),
@@ -115,7 +114,7 @@ pub fn execute_state_transition_with_gas(
     storage: &mut [u64],
     state: State,
 ) -> Answer
-    ensures { λ a. ⌜ Meets (transitionOf (gateOf (now («chain_id» .entry)) (now («network_id» .entry)) (now («genesis_id» .entry)) (now («protocol_version» .entry)) (now («vm_version» .entry)) (now («computed_genesis_id» .entry)) (now («expected_protocol» .entry)) (now («expected_vm» .entry))) (now (kinds .entry)) (now (operands .entry)) caller «gas_limit» (now (stack .entry)) (now (work .entry)) (now (storage .entry)) state) a (now (stack .exit)) (now (work .exit)) (now (storage .exit)) ⌝ }
+    ensures { λ a. ⌜ Meets (transitionOf (gateOf (now («chain_id» .entry)) (now («network_id» .entry)) (now («genesis_id» .entry)) (now («protocol_version» .entry)) (now («vm_version» .entry)) (now («computed_genesis_id» .entry)) (now («expected_protocol» .entry)) (now («expected_vm» .entry))) (now (kinds .entry)) (now (operands .entry)) caller «gas_limit» (now (stack .entry)) (now (work .entry)) (now (storage .entry)) state) state a (now (stack .exit)) (now (work .exit)) (now (storage .exit)) ⌝ }
 {
     if !verify::buffers_fit(
         kinds.len(),
@@ -170,7 +169,7 @@ pub fn execute_state_transition(
     storage: &mut [u64],
     state: State,
 ) -> Answer
-    ensures { λ a. ⌜ Meets (transitionOf (gateOf (now («chain_id» .entry)) (now («network_id» .entry)) (now («genesis_id» .entry)) (now («protocol_version» .entry)) (now («vm_version» .entry)) (now («computed_genesis_id» .entry)) (now («expected_protocol» .entry)) (now («expected_vm» .entry))) (now (kinds .entry)) (now (operands .entry)) caller 0 (now (stack .entry)) (now (work .entry)) (now (storage .entry)) state) a (now (stack .exit)) (now (work .exit)) (now (storage .exit)) ⌝ }
+    ensures { λ a. ⌜ Meets (transitionOf (gateOf (now («chain_id» .entry)) (now («network_id» .entry)) (now («genesis_id» .entry)) (now («protocol_version» .entry)) (now («vm_version» .entry)) (now («computed_genesis_id» .entry)) (now («expected_protocol» .entry)) (now («expected_vm» .entry))) (now (kinds .entry)) (now (operands .entry)) caller 0 (now (stack .entry)) (now (work .entry)) (now (storage .entry)) state) state a (now (stack .exit)) (now (work .exit)) (now (storage .exit)) ⌝ }
 {
     execute_state_transition_with_gas(
         chain_id,

@@ -27,7 +27,7 @@ pub fn verified_run(
     state: State,
 ) -> Answer
     requires { ⌜ Lent (now kinds) (now operands) (now stack) (now work) (now storage) (state .used) ⌝ }
-    ensures { λ a. ⌜ Meets (afterCheck (verifyOf (now (kinds .entry)) (now (operands .entry)) (state .used)) (λ f. untouched f state (now (stack .entry)) (now (work .entry)) (now (storage .entry))) (performed (now (kinds .entry)) (now (operands .entry)) caller «gas_limit» (now (stack .entry)) (now (storage .entry)) state)) a (now (stack .exit)) (now (work .exit)) (now (storage .exit)) ⌝ }
+    ensures { λ a. ⌜ Meets (afterCheck (verifyOf (now (kinds .entry)) (now (operands .entry)) (state .used)) (λ f. untouched f state (now (stack .entry)) (now (work .entry)) (now (storage .entry))) (performed (now (kinds .entry)) (now (operands .entry)) caller «gas_limit» (now (stack .entry)) (now (storage .entry)) state)) state a (now (stack .exit)) (now (work .exit)) (now (storage .exit)) ⌝ }
 {
     match verify::verify(kinds, operands, state.used) {
         Check::Refused(f) => Answer::Refused(f),
@@ -55,7 +55,7 @@ fn run(
     state: State,
 ) -> Answer
     requires { ⌜ Lent (now kinds) (now operands) (now stack) (now work) (now storage) (state .used) ⌝ }
-    ensures { λ a. ⌜ Meets (performed (now (kinds .entry)) (now (operands .entry)) caller «gas_limit» (now (stack .entry)) (now (storage .entry)) state) a (now (stack .exit)) (now (work .exit)) (now (storage .exit)) ⌝ }
+    ensures { λ a. ⌜ Meets (performed (now (kinds .entry)) (now (operands .entry)) caller «gas_limit» (now (stack .entry)) (now (storage .entry)) state) state a (now (stack .exit)) (now (work .exit)) (now (storage .exit)) ⌝ }
 {
     let used = state.used;
     let reach = slots::reach(kinds, operands, used);
@@ -84,7 +84,7 @@ fn finish(
     state: State,
 ) -> Answer
     requires { ⌜ (length (now work) ≡ length (now storage)) × (4096 ≤ length (now stack)) × Held (length (now work)) r × (1 ≤ r .code) × (r .gas ≤ «gas_limit») × (r .code ≡ 1 → r .used + more ≤ length (now storage)) ⌝ }
-    ensures { λ a. ⌜ Meets (ofRun «gas_limit» state (length (now (stack .entry))) (now (storage .entry)) (widenedOutcome (take more (drop (r .used) (now (storage .entry)))) (outcomeOf (now (stack .entry)) (now (work .entry)) r))) a (now (stack .exit)) (now (work .exit)) (now (storage .exit)) ⌝ }
+    ensures { λ a. ⌜ Meets (ofRun «gas_limit» state (length (now (stack .entry))) (now (storage .entry)) (widenedOutcome (take more (drop (r .used) (now (storage .entry)))) (outcomeOf (now (stack .entry)) (now (work .entry)) r))) state a (now (stack .exit)) (now (work .exit)) (now (storage .exit)) ⌝ }
 {
     if r.code != 1 {
         buffers::clear_from(stack, 0);

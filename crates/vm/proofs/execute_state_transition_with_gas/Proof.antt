@@ -1,5 +1,5 @@
 -- `execute_state_transition_with_gas` meets its contract: the lengths, the gate, then the verifier and the run.
-use mathlib.Core.Path.{_≡_, refl, sym, _∙_}
+use mathlib.Core.Path.{refl, sym, _∙_}
 use Rattle.context.proofs.Laws.{holds, fails}
 use Rattle.vm.proofs.Laws.{lent}
 use borrow.Author.Needs.{needs}
@@ -10,7 +10,7 @@ buffers-fit-requires : tie.Need-buffers-fit-requires
 buffers-fit-requires c κs = search needs
 
 returns : tie.Need-returns
-returns c = rw (fails (c .before .buffers-fit .ensures) (c .if1 .taken)) (record { answer = refl; stack = refl; work = refl; storage = refl })
+returns c = rw (fails (c .before .buffers-fit .ensures) (c .if1 .taken)) (record { answer = refl; state = refl; stack = refl; work = refl; storage = refl })
 
 execution-gate-requires : tie.Need-execution-gate-requires
 execution-gate-requires c κs = search needs
@@ -25,7 +25,7 @@ verified-run-requires : tie.Need-verified-run-requires
 verified-run-requires c κs = let a = c .before .before .before .before .before .before .before .before .before .before .before .before .before .before .before .before .before .before .before .before .before .args in lent (a .kinds .now) (a .operands .now) (a .stack .now) (a .work .now) (a .storage .now) (a .state .used) (holds (c .before .before .before .before .before .before .before .buffers-fit .ensures) (c .before .before .before .before .before .before .if1 .left))
 
 returns-2 : tie.Need-returns-2
-returns-2 c = rw (holds (c .before .before .before .before .before .buffers-fit .ensures) (c .before .before .before .before .if1 .left), sym (c .before .before .before .execution-gate .ensures) ∙ c .before .gate .given .1) (record { answer = refl; stack = refl; work = refl; storage = refl })
+returns-2 c = rw (holds (c .before .before .before .before .before .buffers-fit .ensures) (c .before .before .before .before .if1 .left), sym (c .before .before .before .execution-gate .ensures) ∙ c .before .gate .given .1) (record { answer = refl; state = refl; stack = refl; work = refl; storage = refl })
 
 same-length : tie.Need-same-length
 same-length c = search needs

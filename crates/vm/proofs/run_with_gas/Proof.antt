@@ -1,5 +1,5 @@
 -- `run_with_gas` meets its contract: the lengths, then the verifier and the run.
-use mathlib.Core.Path.{_≡_, refl}
+use mathlib.Core.Path.{refl}
 use Rattle.context.proofs.Laws.{holds, fails}
 use Rattle.vm.proofs.Laws.{lent}
 use borrow.Author.Needs.{needs}
@@ -10,7 +10,7 @@ buffers-fit-requires : tie.Need-buffers-fit-requires
 buffers-fit-requires c κs = search needs
 
 returns : tie.Need-returns
-returns c = rw (fails (c .before .buffers-fit .ensures) (c .if1 .taken)) (record { answer = refl; stack = refl; work = refl; storage = refl })
+returns c = rw (fails (c .before .buffers-fit .ensures) (c .if1 .taken)) (record { answer = refl; state = refl; stack = refl; work = refl; storage = refl })
 
 verified-run-requires : tie.Need-verified-run-requires
 verified-run-requires c κs = let a = c .before .before .before .before .before .before .before .before .before .before .args in lent (a .kinds .now) (a .operands .now) (a .stack .now) (a .work .now) (a .storage .now) (a .state .used) (holds (c .before .before .before .before .buffers-fit .ensures) (c .before .before .before .if1 .left))

@@ -1,5 +1,4 @@
 -- `operations::dup` meets its contract: it pushes the top item again.
-use mathlib.Core.Path.{refl}
 use mathlib.Core.List.{List}
 use Prim.Native.Nat.{ℕ}
 use native.Mathlib.Omega.{arith}

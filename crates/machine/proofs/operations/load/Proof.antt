@@ -1,6 +1,5 @@
 -- `operations::load` meets its contract: a used slot is read from the buffer, any other is 0.
 use Prim.Native.Nat.{_≤_}
-use mathlib.Core.Path.{_≡_}
 use native.Mathlib.Omega.{arith}
 use lib.ListN.{length, take, length-take, List·getD-eq-default}
 use lib.Seq.{getD-take}

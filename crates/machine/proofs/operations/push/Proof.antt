@@ -1,6 +1,5 @@
 -- `operations::push` meets its contract: room is left on the stack, or not.
 use Prim.Native.Nat.{_+_, _<_}
-use mathlib.Core.Path.{_≡_}
 use native.Mathlib.Omega.{arith}
 use lib.ListN.{length}
 use borrow.Author.Tests.{lt-ltb, le-ltb}

@@ -1,6 +1,5 @@
 -- `operations::store` meets its contract: the pop, the two refusals, and a store within the used slots or past them.
 use Prim.Native.Nat.{ℕ, _+_, _-_}
-use mathlib.Core.Path.{_≡_}
 use mathlib.Core.List.{List}
 use native.Mathlib.Omega.{arith}
 use lib.ListN.{length, getD, take}

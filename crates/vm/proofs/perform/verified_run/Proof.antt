@@ -17,7 +17,7 @@ run-requires : tie.Need-run-requires
 run-requires c κs = search needs
 
 returns : tie.Need-returns
-returns c = rw (sym (c .before .before .before .verify .ensures) ∙ c .before .f .given .1) (record { answer = refl; stack = refl; work = refl; storage = refl })
+returns c = rw (sym (c .before .before .before .verify .ensures) ∙ c .before .f .given .1) (record { answer = refl; state = refl; stack = refl; work = refl; storage = refl })
 
 same-length : tie.Need-same-length
 same-length c = search needs
