@@ -25,13 +25,6 @@ module _ (s : List ℕ) (start end : ℕ) (h : start ≤ end) (k : end ≤ lengt
   pub part-length : length (part s start end) ≡ end - start
   part-length = length-take-le (end - start) (drop start s) (omega (arith, length-drop start s))
 
-  -- a part of a part
-  pub part-part : (i j : ℕ) → i ≤ j → j ≤ end - start → part (part s start end) i j ≡ part s (start + i) (start + j)
-  part-part i j g l =
-      let n : j - i ≡ start + j - (start + i) = omega arith in
-      inner s (part s start end) start (end - start) i (j - i) (start + i) refl (omega (arith, part-length)) refl
-      ∙ ap (λ (m : ℕ). take m (drop (start + i) s)) n
-
   pub trimmed-inside : Inside start end (trimmedIn s start end)
   trimmed-inside = let f = trimmed-fits (part s start end) in let n = part-length in record { low = omega arith; ordered = omega arith; high = omega arith }
 
