@@ -39,16 +39,24 @@ use Rattle.assembler.specs.Numbers.{refusalNumbered}
 use Rattle.assembler.specs.Stored.{noBindings, noValues, nothingYet}
 use Rattle.assembler.specs.Held.{LastIs, Represents, Good, Leads, Follows, Within, isRefused}
 use Rattle.assembler.specs.Assembled.{Assembled, accepted, rejected, readable, bodyRead, compared, returned, concluded, functionRead, assembledTree}
-use Rattle.assembler.specs.Concluded.{rejectedFor, ConcludesBy, Concludes, ConcludesAll, Located}
+use Rattle.assembler.specs.Concluded.{Reached, rejectedFor, ConcludesBy, Concludes, ConcludesAll, Located}
 use Rattle.assembler.proofs.Sourced.{env-none}
 use Rattle.assembler.proofs.Leading.{leads-off, by-leads, represents-later, leads-later}
 
 -- an answer that is refused
-pub concludes-off : {s : List ℕ} {o : Assembled} {r : Assembly} {why : Refusal} → r ≡ rejectedFor why → o ≡ rejected (refusalNumbered why) → Concludes s o r
-concludes-off {s} {o} f e = subst (λ (x : Assembly). Concludes s o x) (sym f) (record { by = (e, refl) })
+pub concludes-off : {s vector : List ℕ} {o : Assembled} {r : Assembly} {why : Refusal} → r ≡ rejectedFor why → o ≡ rejected (refusalNumbered why) → Concludes s vector o r
+concludes-off {s} {vector} {o} f e = subst (λ (x : Assembly). Concludes s vector o x) (sym f) (record { by = (e, refl) })
 
-pub concludes-on : {s : List ℕ} {o : Assembled} {r : Assembly} {st : State} {t : Tree} → Represents s (r .state) st → st .last ≡ some t → o ≡ accepted (r .expected) t → Concludes s o r
-concludes-on {s} {o} {r} {st} {t} q l e = record { by = subst (λ (x : Status). ConcludesBy x s o r) (sym (q .going)) (record { st = st; t = t; represents = q; last = l; returned = subst (λ (x : Option Tree). LastIs s (r .state .table) (r .state .values) (r .state .last) x) l (q .last); accepts = e }) }
+pub concludes-on : {s vector : List ℕ} {o : Assembled} {r : Assembly} {t : Tree} (q : Reached s vector (r .state)) → q .st .last ≡ some t → o ≡ accepted (r .expected) t → Concludes s vector o r
+concludes-on {s} {vector} {o} {r} {t} q l e = record {
+  by = subst (λ (x : Status). ConcludesBy x s vector o r) (sym (q .represents .going)) (record {
+    reached = q;
+    t = t;
+    last = l;
+    returned = subst (λ (x : Option Tree). LastIs s (r .state .table) (r .state .values) (r .state .last) x) l (q .represents .last);
+    accepts = e;
+  });
+}
 
 pub started-represents : (s : List ℕ) (a : Code.State) → a ≡ nothingYet → Represents s a started
 started-represents s a h = subst (λ (x : Code.State). Represents s x started) (sym h) (record {
@@ -106,40 +114,46 @@ refusalIn other (Refused why) = why
 module _ (a : Code.State) (expected : ℕ) where
   pub end-refused : (why : Refusal) → a .status ≡ Refused why → ConcludesAll a expected (rejectedFor why)
   end-refused why b = record {
-    is = λ s whole l.
+    is = λ s vector p f l.
         by-leads l
         (λ st q e. never (sym (ap isRefused b) ∙ ap isRefused (q .going)))
         (λ other t e. concludes-off refl (ap (concluded expected) e ∙ ap (λ (w : Refusal). rejected (refusalNumbered w)) (ap (refusalIn why) (sym t ∙ b))));
   }
 
   module _ (b : a .status ≡ Going) where
-    -- in each state that a represents
-    by-states : {r : Assembly} → ((s : List ℕ) (st : State) → Represents s a st → Concludes s (returned expected (st .last)) r) → ConcludesAll a expected r
-    by-states {r} f = record { is = λ s whole l. by-leads l (λ st q e. subst (λ (o : Assembled). Concludes s o r) (sym (ap (concluded expected) e)) (f s st q)) (λ why t e. never (sym (ap isRefused t) ∙ ap isRefused b)) }
+    -- wherever a was read
+    by-reached : {r : Assembly} → ((s vector : List ℕ) (q : Reached s vector a) → Concludes s vector (returned expected (q .st .last)) r) → ConcludesAll a expected r
+    by-reached {r} f = record {
+      is = λ s vector p g l.
+          by-leads l
+          (λ st q e. subst (λ (o : Assembled). Concludes s vector o r) (sym (ap (concluded expected) e)) (f s vector (record { places = p; found = g; st = st; read = e; represents = q })))
+          (λ why t e. never (sym (ap isRefused t) ∙ ap isRefused b));
+    }
 
     pub end-nothing : a .last ≡ Last.Nothing → ConcludesAll a expected (rejectedFor NoReturn)
-    end-nothing e = by-states (λ s st q. concludes-off refl (go s (st .last) (subst (λ (x : Last). LastIs s (a .table) (a .values) x (st .last)) e (q .last))))
+    end-nothing e = by-reached (λ s vector q. concludes-off refl (go s (q .st .last) (subst (λ (x : Last). LastIs s (a .table) (a .values) x (q .st .last)) e (q .represents .last))))
       where
         go : (s : List ℕ) (x : Option Tree) → LastIs s (a .table) (a .values) Last.Nothing x → returned expected x ≡ rejected (refusalNumbered NoReturn)
         go s none h = refl
         go s (some t) h = absurd h
 
     module _ (v : Returned) (e : a .last ≡ Last.Is v) where
-      pub end-with : {r : Assembly} → ((s : List ℕ) (st : State) (t : Tree) → Represents s a st → st .last ≡ some t → optionOf (v .read .value) ≡ valueOf t → Concludes s (compared expected t (valueOf t)) r) → ConcludesAll a expected r
-      end-with {r} f = by-states (λ s st q. go s st q (st .last) refl (subst (λ (x : Last). LastIs s (a .table) (a .values) x (st .last)) e (q .last)))
+      pub end-with : {r : Assembly}
+          → ((s vector : List ℕ) (q : Reached s vector a) (t : Tree) → q .st .last ≡ some t → optionOf (v .read .value) ≡ valueOf t → Concludes s vector (compared expected t (valueOf t)) r) → ConcludesAll a expected r
+      end-with {r} f = by-reached (λ s vector q. go s vector q (q .st .last) refl (subst (λ (x : Last). LastIs s (a .table) (a .values) x (q .st .last)) e (q .represents .last)))
         where
-          go : (s : List ℕ) (st : State) → Represents s a st → (x : Option Tree) → st .last ≡ x → LastIs s (a .table) (a .values) (Last.Is v) (st .last) → Concludes s (returned expected (st .last)) r
-          go s st q none l h = absurd (subst (λ (x : Option Tree). LastIs s (a .table) (a .values) (Last.Is v) x) l h)
-          go s st q (some t) l h = subst (λ (x : Option Tree). Concludes s (returned expected x) r) (sym l) (f s st t q l (subst (λ (x : Option Tree). LastIs s (a .table) (a .values) (Last.Is v) x) l h .figures .value))
+          go : (s vector : List ℕ) (q : Reached s vector a) (x : Option Tree) → q .st .last ≡ x → LastIs s (a .table) (a .values) (Last.Is v) (q .st .last) → Concludes s vector (returned expected (q .st .last)) r
+          go s vector q none l h = absurd (subst (λ (x : Option Tree). LastIs s (a .table) (a .values) (Last.Is v) x) l h)
+          go s vector q (some t) l h = subst (λ (x : Option Tree). Concludes s vector (returned expected x) r) (sym l) (f s vector q t l (subst (λ (x : Option Tree). LastIs s (a .table) (a .values) (Last.Is v) x) l h .figures .value))
 
       pub end-no-value : v .read .value ≡ None → ConcludesAll a expected (rejectedFor NoValue)
-      end-no-value n = end-with (λ s st t q l k. concludes-off refl (ap (compared expected t) (sym k ∙ ap optionOf n)))
+      end-no-value n = end-with (λ s vector q t l k. concludes-off refl (ap (compared expected t) (sym k ∙ ap optionOf n)))
 
       pub end-same : (n : ℕ) → v .read .value ≡ Is n → n ≡ expected → ConcludesAll a expected (record { state = a; expected = expected })
-      end-same n m h = end-with (λ s st t q l k. concludes-on q l (ap (compared expected t) (sym k ∙ ap optionOf m) ∙ (let b = eq-eqb n expected h in rw b)))
+      end-same n m h = end-with (λ s vector q t l k. concludes-on q l (ap (compared expected t) (sym k ∙ ap optionOf m) ∙ (let b = eq-eqb n expected h in rw b)))
 
       pub end-other : (n : ℕ) → v .read .value ≡ Is n → (n ≡ expected → ⊥) → ConcludesAll a expected (rejectedFor NotExpected)
-      end-other n m h = end-with (λ s st t q l k. concludes-off refl (ap (compared expected t) (sym k ∙ ap optionOf m) ∙ (let b = ne-eqb n expected h in rw b)))
+      end-other n m h = end-with (λ s vector q t l k. concludes-off refl (ap (compared expected t) (sym k ∙ ap optionOf m) ∙ (let b = ne-eqb n expected h in rw b)))
 
 -- both texts are readable, or one is not
 module _ (s vector : List ℕ) where

@@ -16,7 +16,6 @@ use Rattle.expression.proofs.Meaning.{meaning-empty}
 use Rattle.trim.specs.Trim.{trimmed}
 use Rattle.assembler.specs.declared.body.Checked.{Checked}
 use Rattle.assembler.specs.declared.body.Checked.the-variants.{Is, Refused}
-use Rattle.assembler.specs.declared.body.LineRead.the-variants as Line
 use Rattle.assembler.specs.declared.refusal.Refusal.{Refusal}
 use Rattle.assembler.specs.declared.refusal.Refusal.the-variants.{NoEquals}
 use Rattle.assembler.specs.declared.state.State as Code
@@ -27,9 +26,8 @@ use Rattle.assembler.specs.State.{State, Outcome, goes, bound}
 use Rattle.assembler.specs.Statement.{binds, returns}
 use Rattle.assembler.specs.Body.{treeOr, performed, lineRead}
 use Rattle.assembler.specs.Places.{Inside, AllInside, Stands, statementAt, texts}
-use Rattle.assembler.specs.Stored.{refusedAs, returning, numberIn, Small, Bound}
+use Rattle.assembler.specs.Stored.{refusedAs, returning, numberIn, Placed, Small, Bound}
 use Rattle.assembler.specs.Held.{Represents, Good, Leads, Follows, ChecksAll, Within, LetWithin}
-use Rattle.assembler.specs.Says.{letOf, returnOf, Says}
 use Rattle.assembler.proofs.Places.{stands}
 use Rattle.assembler.proofs.Holding.{part-take}
 use Rattle.assembler.proofs.Sourced.{Gives}
@@ -116,14 +114,14 @@ module _ (s : List ℕ) (start end : ℕ) (w : Within s start end) where
   within : (p : Span) → Inside start end p → Within s (p .start) (p .end)
   within p i = record { short = w .short; ordered = i .ordered; fits = let x = i .high in let y = w .fits in omega arith; inside = let x = i .high in let y = w .inside in omega arith }
 
-  module _ (name expr : Span) (e : Stmt.Let name expr ≡ statementAt s start end) where
+  module _ {name expr : Span} (e : Stmt.Let name expr ≡ statementAt s start end) where
     let-inside : AllInside start end (Stmt.Let name expr)
     let-inside = here _ e .inside
 
     pub let-within : LetWithin s name expr
     let-within = let i = let-inside in record { ordered = i .0 .ordered; between = i .1 .1; within = within expr (i .1 .0) }
 
-  module _ (expr : Span) (e : Stmt.Return expr ≡ statementAt s start end) where
+  module _ {expr : Span} (e : Stmt.Return expr ≡ statementAt s start end) where
     return-inside : Inside start end expr
     return-inside = here _ e .inside
 
@@ -149,39 +147,43 @@ module _ (s : List ℕ) (start end : ℕ) (w : Within s start end) where
     good-within : (p : Span) → Inside start end p → Good (take start s) a → Good (take (p .start) s) a
     good-within p i g = record { st = g .st; represents = represents-later s start (p .start) (i .low) (let y = w .inside in omega (arith, i .ordered, i .high)) (g .represents) }
 
-    -- a state that an equation gives
-    given : {x : Code.State} → Follows (take start s) a read (take end s) x → (r : Code.State) → r ≡ x → Follows (take start s) a read (take end s) r
-    given f r e = subst (λ (y : Code.State). Follows (take start s) a read (take end s) y) (sym e) f
+    abbrev ExprChecked : Span → Checked → Type 0
+    ExprChecked expr = ChecksAll (take (expr .end) s) (columns (a .table) (a .values)) line (part s (expr .start) (expr .end))
 
-    pub says-nothing : Stmt.Skipped ≡ statementAt s start end → Says s start end line a Line.Nothing
-    says-nothing e = record { fits = tt; follows = given (record { leads = λ st q. leads-on (represents-later s start end (w .ordered) (w .inside) q) (says _ e st) }) }
+    pub skipped-follows : Stmt.Skipped ≡ statementAt s start end → Follows (take start s) a read (take end s) a
+    skipped-follows e = record { leads = λ st q. leads-on (represents-later s start end (w .ordered) (w .inside) q) (says _ e st) }
 
-    pub says-no-equals : Stmt.NoEquals ≡ statementAt s start end → Says s start end line a (Line.Refused (NoEquals line))
-    says-no-equals e = record { fits = tt; follows = given (record { leads = λ st q. leads-off refl (says _ e st) }) }
+    pub no-equals-follows : Stmt.NoEquals ≡ statementAt s start end → Follows (take start s) a read (take end s) (refusedAs a (NoEquals line))
+    no-equals-follows e = record { leads = λ st q. leads-off refl (says _ e st) }
 
-    module _ (name expr : Span) (e : Stmt.Let name expr ≡ statementAt s start end) where
+    module _ {name expr : Span} (e : Stmt.Let name expr ≡ statementAt s start end) where
       line-let : {r : Code.State} → Follows (take (expr .start) s) a (λ st. performed line st (binds (part s (name .start) (name .end)) (part s (expr .start) (expr .end)))) (take (expr .end) s) r → Follows (take start s) a read (take end s) r
-      line-let g = wider expr (let-inside name expr e .1 .0) g (says _ e)
+      line-let g = wider expr (let-inside e .1 .0) g (says _ e)
 
-      pub says-let : (x : Checked) → ChecksAll (take (expr .end) s) (columns (a .table) (a .values)) line (part s (expr .start) (expr .end)) x → Good (take start s) a → Says s start end line a (letOf name expr x)
-      says-let (Is v) k g =
-          let l = let-within name expr e in
-          record {
-            fits = (
+      pub let-refused : {why : Refusal} → ExprChecked expr (Refused why) → Follows (take start s) a read (take end s) (refusedAs a why)
+      let-refused k = line-let (expression-refused s a expr (let-within e .within) line k (λ st. bound st (part s (name .start) (name .end))))
+
+      module _ {v : Read} (k : ExprChecked expr (Is v)) where
+        -- the binding's places and figures fit the table
+        pub let-fits : Good (take start s) a → Placed name × (Placed expr × Small v)
+        let-fits g =
+            let l = let-within e in (
               record { ordered = l .ordered; fits = omega (arith, l .between, l .within .ordered, l .within .fits) },
               (
                 record { ordered = l .within .ordered; fits = l .within .fits },
-                small s a expr (l .within) line k (good-within expr (let-inside name expr e .1 .0) g),
+                small s a expr (l .within) line k (good-within expr (let-inside e .1 .0) g),
               ),
-            );
-            follows = λ r b. line-let (let-read s a expr (l .within) line k name r (l .ordered) (l .between) b);
-          }
-      says-let (Refused why) k g = record { fits = tt; follows = given (line-let (expression-refused s a expr (let-within name expr e .within) line k (λ st. bound st (part s (name .start) (name .end))))) }
+            )
 
-    module _ (expr : Span) (e : Stmt.Return expr ≡ statementAt s start end) where
+        pub let-follows : {r : Code.State} → Bound a name expr v r → Follows (take start s) a read (take end s) r
+        let-follows {r} b = let l = let-within e in line-let (let-read s a expr (l .within) line k name r (l .ordered) (l .between) b)
+
+    module _ {expr : Span} (e : Stmt.Return expr ≡ statementAt s start end) where
       line-return : {r : Code.State} → Follows (take (expr .start) s) a (λ st. performed line st (returns (part s (expr .start) (expr .end)))) (take (expr .end) s) r → Follows (take start s) a read (take end s) r
-      line-return g = wider expr (return-inside expr e) g (says _ e)
+      line-return g = wider expr (return-inside e) g (says _ e)
 
-      pub says-return : (x : Checked) → ChecksAll (take (expr .end) s) (columns (a .table) (a .values)) line (part s (expr .start) (expr .end)) x → Says s start end line a (returnOf expr x)
-      says-return (Is v) k = record { fits = tt; follows = given (line-return (return-read s a expr (return-within expr e) line k)) }
-      says-return (Refused why) k = record { fits = tt; follows = given (line-return (expression-refused s a expr (return-within expr e) line k (λ st t. goes (record { env = st .env; last = some t })))) }
+      pub return-refused : {why : Refusal} → ExprChecked expr (Refused why) → Follows (take start s) a read (take end s) (refusedAs a why)
+      return-refused k = line-return (expression-refused s a expr (return-within e) line k (λ st t. goes (record { env = st .env; last = some t })))
+
+      pub return-follows : {v : Read} → ExprChecked expr (Is v) → Follows (take start s) a read (take end s) (returning a expr v)
+      return-follows k = line-return (return-read s a expr (return-within e) line k)

@@ -1,5 +1,5 @@
 -- Laws of a statement's places: they lie within the line, and hold the texts that the line says.
-use Prim.Native.Nat.{ℕ, _+_, _-_, _≤_}
+use Prim.Native.Nat.{ℕ, _+_, _-_, _<_, _≤_}
 use mathlib.Core.Path.{_≡_, refl, sym, ap, _∙_}
 use mathlib.Core.List.{List, [], _∷_}
 use mathlib.Core.Bool.{true, false}
@@ -24,13 +24,6 @@ use Rattle.assembler.specs.Places.{trimmedIn, letAt, trimmedAt, statemen
 module _ (s : List ℕ) (start end : ℕ) (h : start ≤ end) (k : end ≤ length s) where
   pub part-length : length (part s start end) ≡ end - start
   part-length = length-take-le (end - start) (drop start s) (omega (arith, length-drop start s))
-
-  -- a part of a part
-  pub part-part : (i j : ℕ) → i ≤ j → j ≤ end - start → part (part s start end) i j ≡ part s (start + i) (start + j)
-  part-part i j g l =
-      let n : j - i ≡ start + j - (start + i) = omega arith in
-      inner s (part s start end) start (end - start) i (j - i) (start + i) refl (omega (arith, part-length)) refl
-      ∙ ap (λ (m : ℕ). take m (drop (start + i) s)) n
 
   pub trimmed-inside : Inside start end (trimmedIn s start end)
   trimmed-inside = let f = trimmed-fits (part s start end) in let n = part-length in record { low = omega arith; ordered = omega arith; high = omega arith }
@@ -142,3 +135,18 @@ module _ (s : List ℕ) where
           inside = all-inside-more (statementAt s start end) (i .low) (i .high) (w .inside);
           says = w .says ∙ ap statement (trimmed-is s start end h k);
         }
+
+    no-word : (w : List ℕ) → end - start < length w → let l = trimmedIn s start end in prefixOf w (part s (l .start) (l .end)) ≡ false
+    no-word w g =
+        let l = trimmedIn s start end in
+        let i = trimmed-inside s start end h k in
+        by-bool (prefixOf w (part s (l .start) (l .end)))
+        (λ e. absurd (let b = word-inside (l .start) (l .end) (i .ordered) (omega arith) w e in omega (arith, i .low, i .high)))
+        (λ e. e)
+
+    -- a line that is shorter than both words
+    pub short-skipped : end - start < 4 → statementAt s start end ≡ Skipped
+    short-skipped g =
+        let l = trimmedIn s start end in
+        let i = trimmed-inside s start end h k in
+        at-neither (l .start) (l .end) (i .ordered) (omega arith) (no-word letWord g) (no-word returnWord (omega arith))

@@ -13,18 +13,25 @@ use Rattle.assembler.specs.declared.refusal.Refusal.{Refusal}
 use Rattle.assembler.specs.declared.state.Status.{Status}
 use Rattle.assembler.specs.declared.state.Status.the-variants.{Going, Refused}
 use Rattle.assembler.specs.declared.state.State as Code
-use Rattle.assembler.specs.State.{State, Outcome, goes}
+use Rattle.assembler.specs.State.{State, goes}
 use Rattle.assembler.specs.Numbers.{refusalNumbered}
 use Rattle.assembler.specs.Stored.{refusedAs, nothingYet}
 use Rattle.assembler.specs.Held.{LastIs, Represents, Leads}
-use Rattle.assembler.specs.Assembled.{Assembled, accepted, rejected, concluded}
+use Rattle.assembler.specs.Assembled.{Assembled, accepted, rejected, bodyRead, concluded}
+
+-- the contract's body was read, and a is what it has come to
+pub record Reached (s vector : List ℕ) (a : Code.State) : Type 0 where
+  pub places : Places
+  pub found : functionOf s ≡ Found places
+  pub st : State
+  pub read : bodyRead s vector places ≡ goes st
+  pub represents : Represents s a st
 
 -- the state's last return means the tree t, which is accepted
-pub record Accepts (s : List ℕ) (o : Assembled) (r : Assembly) : Type 0 where
-  pub st : State
+pub record Accepts (s vector : List ℕ) (o : Assembled) (r : Assembly) : Type 0 where
+  pub reached : Reached s vector (r .state)
   pub t : Tree
-  pub represents : Represents s (r .state) st
-  pub last : st .last ≡ some t
+  pub last : reached .st .last ≡ some t
   pub returned : LastIs s (r .state .table) (r .state .values) (r .state .last) (some t)
   pub accepts : o ≡ accepted (r .expected) t
 
@@ -32,17 +39,17 @@ pub record Accepts (s : List ℕ) (o : Assembled) (r : Assembly) : Type 0 where
 abbrev pub rejectedFor : Refusal → Assembly
 rejectedFor why = record { state = refusedAs nothingYet why; expected = 0 }
 
-abbrev pub ConcludesBy : Status → List ℕ → Assembled → Assembly → Type 0
-ConcludesBy Going s o r = Accepts s o r
-ConcludesBy (Refused why) s o r = (o ≡ rejected (refusalNumbered why)) × (r ≡ rejectedFor why)
+abbrev pub ConcludesBy : Status → List ℕ → List ℕ → Assembled → Assembly → Type 0
+ConcludesBy Going s vector o r = Accepts s vector o r
+ConcludesBy (Refused why) s vector o r = (o ≡ rejected (refusalNumbered why)) × (r ≡ rejectedFor why)
 
--- the answer r says o of the contract s: its state holds the tree that is accepted, or the refusal
-pub record Concludes (s : List ℕ) (o : Assembled) (r : Assembly) : Type 0 where
-  pub by : ConcludesBy (r .state .status) s o r
+-- the answer r says o of the contract s and its vector: its state holds the tree that is accepted, or the refusal
+pub record Concludes (s vector : List ℕ) (o : Assembled) (r : Assembly) : Type 0 where
+  pub by : ConcludesBy (r .state .status) s vector o r
 
--- what is made of a state and the expected value, wherever the state leads to
+-- what is made of a state and the expected value, wherever the state was read
 pub record ConcludesAll (a : Code.State) (expected : ℕ) (r : Assembly) : Type 0 where
-  pub is : (s : List ℕ) (whole : Outcome) → Leads s a whole goes → Concludes s (concluded expected whole) r
+  pub is : (s vector : List ℕ) (p : Places) → functionOf s ≡ Found p → Leads s a (bodyRead s vector p) goes → Concludes s vector (concluded expected (bodyRead s vector p)) r
 
 -- where the contract's function stands
 pub record Located (s : List ℕ) (p : Places) : Type 0 where

@@ -8,6 +8,5 @@ pub mod Places
 pub mod Stored
 pub mod Numbers
 pub mod Held
-pub mod Says
 pub mod Concluded
 pub mod Output

@@ -14,24 +14,24 @@ use crate::refusal::Refusal;
 use crate::state::Last;
 use crate::state::State;
 use crate::state::Status;
-use crate::state::is_refused;
-use crate::state::refuse;
-use crate::state::started;
+use crate::table::is_refused;
+use crate::table::refuse;
+use crate::table::started;
 use expression::figures::Value;
 use source::function::Function;
 use source::function::Places;
 use source::function::find_function;
 use utf8::is_utf8;
 
-// The bindings and the last return, which has the expected value; or the refusal, with no binding and no expected value. What the table's
-// arrays hold from the count on is left open.
+// The bindings and the last return, which has the expected value; or the refusal, with no binding and no expected value. Left open are what
+// the table's arrays hold from the count on, `next` of the last return, and which of the places whose text means the same it names.
 pub struct Assembly {
     pub state: State,
     pub expected: u64,
 }
 
 pub fn checked(contract: &[u8], vector: &[u8]) -> Assembly
-    ensures { λ r. ⌜ Concludes (now (contract .entry)) (assembledTree (now (contract .entry)) (now (vector .entry))) r ⌝ }
+    ensures { λ r. ⌜ Concludes (now (contract .entry)) (now (vector .entry)) (assembledTree (now (contract .entry)) (now (vector .entry))) r ⌝ }
 {
     if !is_readable(contract) {
         return rejected(Refusal::Contract);
@@ -66,7 +66,7 @@ fn rejected(refusal: Refusal) -> Assembly
 
 fn read_function(contract: &[u8], vector: &[u8], places: Places) -> Assembly
     requires { ⌜ Located (now contract) places ⌝ }
-    ensures { λ r. ⌜ Concludes (now (contract .entry)) (expectedRead (now (contract .entry)) (now (vector .entry)) places (keyed (vectorNumber (now (vector .entry)) expectedKey) 0)) r ⌝ }
+    ensures { λ r. ⌜ Concludes (now (contract .entry)) (now (vector .entry)) (expectedRead (now (contract .entry)) (now (vector .entry)) places (keyed (vectorNumber (now (vector .entry)) expectedKey) 0)) r ⌝ }
 {
     let number = number_for(vector, b"expected", 0);
     match number {

@@ -5,3 +5,4 @@ mod parameters;
 pub mod refusal;
 pub mod state;
 mod statement;
+mod table;

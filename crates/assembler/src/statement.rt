@@ -17,11 +17,15 @@ pub enum Statement {
     Return(Span),
 }
 
-// The line from start to end of the contract. `read_line` calls it with the places of a line that the cursor gave.
+// The line from start to end of the contract. `read_body` calls it with the places of a line that the cursor gave.
 pub fn statement_at(contract: &[u8], start: usize, end: usize) -> Statement
     requires { ⌜ (start ≤ end) × (end ≤ length (now contract)) ⌝ }
     ensures { λ r. ⌜ r ≡ statementAt (now (contract .entry)) start end ⌝ }
 {
+    // neither word has fewer than 4 bytes
+    if end - start < 4 {
+        return Statement::Skipped;
+    }
     let line = trimmed_part(contract, start, end);
     trimmed_at(contract, line.start, line.end)
 }

@@ -71,12 +71,12 @@ put-onto : {out text after : List ℕ} {r : ℕ} → Put out 0 text after r → 
 put-onto {out} {text} p = let z : 0 + length text ≡ length text = omega arith in p .is ∙ ap (λ (n : ℕ). text ++ drop n out) z
 
 -- what is concluded of the contract, by the status
-pub is-going : {s : List ℕ} {o : Assembled} {a : Code.Assembly} → Concludes s o a → a .state .status ≡ Going → Accepts s o a
-is-going {s} {o} {a} c e = subst (λ (x : Status). ConcludesBy x s o a) e (c .by)
+pub is-going : {s vector : List ℕ} {o : Assembled} {a : Code.Assembly} → Concludes s vector o a → a .state .status ≡ Going → Accepts s vector o a
+is-going {s} {vector} {o} {a} c e = subst (λ (x : Status). ConcludesBy x s vector o a) e (c .by)
 
-pub is-refused : {s : List ℕ} {o : Assembled} {a : Code.Assembly} {why : Refusal} → Concludes s o a → a .state .status ≡ Status.Refused why → (stem out : List ℕ) → Assembles (named o stem (length out)) out out (Refused why)
-is-refused {s} {o} {a} c e stem out =
-    let q = subst (λ (x : Status). ConcludesBy x s o a) e (c .by) .0 in
+pub is-refused : {s vector : List ℕ} {o : Assembled} {a : Code.Assembly} {why : Refusal} → Concludes s vector o a → a .state .status ≡ Status.Refused why → (stem out : List ℕ) → Assembles (named o stem (length out)) out out (Refused why)
+is-refused {s} {vector} {o} {a} c e stem out =
+    let q = subst (λ (x : Status). ConcludesBy x s vector o a) e (c .by) .0 in
     rw q (record { answer = refl; buffer = refl })
 
 pub as-assembled : (contract vector stem : List ℕ) {out after : List ℕ} {r : Answer} → Assembles (named (assembledTree contract vector) stem (length out)) out after r → Assembles (assembled contract vector stem (length out)) out after r
@@ -84,17 +84,17 @@ unfolding assembled
 as-assembled contract vector stem x = x
 
 -- the stem does not fit
-pub stem-refused : {s : List ℕ} {o : Assembled} {a : Code.Assembly} (stem out : List ℕ) → Accepts s o a → stemFits stem ≡ false → Assembles (named o stem (length out)) out out (Refused BadStem)
+pub stem-refused : {s vector : List ℕ} {o : Assembled} {a : Code.Assembly} (stem out : List ℕ) → Accepts s vector o a → stemFits stem ≡ false → Assembles (named o stem (length out)) out out (Refused BadStem)
 stem-refused stem out acc f = rw (acc .accepts) (simp f (record { answer = refl; buffer = refl }))
 
-module _ {s : List ℕ} {o : Assembled} {a : Code.Assembly} (acc : Accepts s o a) {last : Last} (q : a .state .last ≡ last) where
+module _ {s vector : List ℕ} {o : Assembled} {a : Code.Assembly} (acc : Accepts s vector o a) {last : Last} (q : a .state .last ≡ last) where
   returned-as : LastIs s (a .state .table) (a .state .values) last (some (acc .t))
   returned-as = subst (λ (x : Last). LastIs s (a .state .table) (a .state .values) x (some (acc .t))) q (acc .returned)
 
-pub no-return : {s : List ℕ} {o : Assembled} {a : Code.Assembly} → Accepts s o a → a .state .last ≡ Nothing → ⊥
+pub no-return : {s vector : List ℕ} {o : Assembled} {a : Code.Assembly} → Accepts s vector o a → a .state .last ≡ Nothing → ⊥
 no-return acc q = returned-as acc q
 
-module _ {s : List ℕ} {o : Assembled} {a : Code.Assembly} (acc : Accepts s o a) {l : Returned} (q : a .state .last ≡ Is l) where
+module _ {s vector : List ℕ} {o : Assembled} {a : Code.Assembly} (acc : Accepts s vector o a) {l : Returned} (q : a .state .last ≡ Is l) where
   returned : ReturnIs s (a .state .table) (a .state .values) l (acc .t)
   returned = returned-as acc q
 
@@ -109,8 +109,8 @@ module _ {s : List ℕ} {o : Assembled} {a : Code.Assembly} (acc : Accepts s o a
 
   pub means : Means s (sources (a .state .table) (a .state .values)) (l .count) (l .start) (l .end)
   means = record {
-    few = omega (arith, returned .few, acc .represents .holds .room);
-    stand = λ i h. acc .represents .stand i (omega (arith, returned .few));
+    few = omega (arith, returned .few, acc .reached .represents .holds .room);
+    stand = λ i h. acc .reached .represents .stand i (omega (arith, returned .few));
     inside = returned .inside;
     is = is-tree ∙ ap tree (sym same-tree);
   }

@@ -27,9 +27,10 @@ pub record Assembles (a : Output.Assembly) (out after : List ℕ) (r : Answer) :
 -- the contract s is accepted, and the stem is short
 pub record Ready (s stem : List ℕ) (a : Code.Assembly) : Type 0 where
   pub short : length stem ≤ 255
+  pub vector : List ℕ
   pub o : Assembled
-  pub accepts : Accepts s o a
+  pub accepts : Accepts s vector o a
 
 -- what is accepted is written where the stem fits
 pub record Writes (s stem : List ℕ) (a : Code.Assembly) (out after : List ℕ) (r : Answer) : Type 0 where
-  pub is : (o : Assembled) → Accepts s o a → stemFits stem ≡ true → Assembles (named o stem (length out)) out after r
+  pub is : (vector : List ℕ) (o : Assembled) → Accepts s vector o a → stemFits stem ≡ true → Assembles (named o stem (length out)) out after r

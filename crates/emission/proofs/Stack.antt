@@ -1,15 +1,14 @@
 -- Laws of the operators that wait, as a stack and as an array holds it.
-use Prim.Native.Nat.{ℕ, zero, suc, _+_, _-_, _*_, _<_, _≤_}
+use Prim.Native.Nat.{ℕ, zero, suc, _+_, _-_, _<_, _≤_}
 use mathlib.Core.Path.{_≡_, refl, sym, ap, _∙_}
 use mathlib.Core.List.{List, [], _∷_, _++_, append-nil, append-assoc}
-use mathlib.Core.Bool.{true, false}
+use mathlib.Core.Bool.{true}
 use native.Mathlib.Numerals.{add-one, sub-one}
 use native.Mathlib.Omega.{arith}
 use borrow.Author.Tests.{le-leb, lt-leb}
-use lib.Dec.{eqb}
-use lib.ListN.{length, getD, set, length-append}
+use lib.ListN.{length, getD, set}
 use lib.Seq.{getD-set-same, getD-set-other}
-use Rattle.byte.proofs.Tests.{never, by-bool, by-leb}
+use Rattle.byte.proofs.Tests.{never, by-leb}
 use Rattle.expression.specs.Parse.{joins}
 use Rattle.expression.specs.Tree.{num}
 use Rattle.expression.specs.Written.{textOf}
@@ -23,18 +22,6 @@ pub joins-level : (l a : ℕ) → joins (suc l) a ≡ true → levelOf a ≡ suc
 joins-level zero a e = simp e
 joins-level (suc zero) a e = let n = looser 1 a e in simp (n, e)
 joins-level (suc (suc l)) a e = never e
-
-pub level-joins : (l a : ℕ) → l < 2 → levelOf a ≡ suc l → joins (suc l) a ≡ true
-level-joins l a h e = by-bool (joins 1 a) (λ p. first l p h e) (λ p. by-bool (joins 2 a) (λ q. second l p q h e) (λ q. absurd (let z : 3 ≡ suc l = simp (p, q) at e in omega arith)))
-  where
-    first : (l : ℕ) → joins 1 a ≡ true → l < 2 → levelOf a ≡ suc l → joins (suc l) a ≡ true
-    first zero p h e = p
-    first (suc l) p h e = absurd (let z : 1 ≡ suc (suc l) = simp p at e in omega arith)
-
-    second : (l : ℕ) → joins 1 a ≡ false → joins 2 a ≡ true → l < 2 → levelOf a ≡ suc l → joins (suc l) a ≡ true
-    second zero p q h e = absurd (let z : _≡_ {A = ℕ} 2 1 = simp (p, q) at e in omega arith)
-    second (suc zero) p q h e = q
-    second (suc (suc l)) p q h e = absurd (omega arith)
 
 -- one operator on top of a stack
 
@@ -75,12 +62,6 @@ pub stack-top : (A : List ℕ) (n : ℕ) → 0 < n → stackOf A n ≡ getD A (n
 unfolding stackOf
 stack-top A zero h = absurd (omega arith)
 stack-top A (suc n) h = rw sub-one refl
-
--- a stack that is not empty, without its top
-pub stack-tail : (A : List ℕ) (n : ℕ) {y : ℕ} {st : List ℕ} → stackOf A n ≡ y ∷ st → (0 < n) × (stackOf A (n - 1) ≡ st)
-unfolding stackOf
-stack-tail A zero e = absurd (let z : _≡_ {A = ℕ} 0 1 = cc in omega arith)
-stack-tail A (suc n) e = (omega arith, rw sub-one (cc))
 
 -- what is left is the stack of so many elements fewer
 pub record Pops (A : List ℕ) (p n : ℕ) : Type 0 where
@@ -123,16 +104,6 @@ popped-more A p n h l = ap (popped p) (stack-top A n h) ∙ popped-one p (getD A
 
 pub text-num : (n : ℕ) → textOf (num n) ≡ pushText n
 text-num n = append-nil (pushText n)
-
-pub operator-length : (a : ℕ) → length (operatorText a) ≡ 4
-operator-length a =
-    by-bool (eqb a 43) (λ e. simp e)
-    (λ e. by-bool (eqb a 45) (λ f. simp (e, f))
-    (λ f. by-bool (eqb a 42) (λ g. simp (e, f, g)) (λ g. simp (e, f, g))))
-
-pub operators-length : (signs : List ℕ) → length (operatorsText signs) ≡ 4 * length signs
-operators-length [] = refl
-operators-length (a ∷ signs) = omega (arith, length-append (operatorText a) (operatorsText signs), operator-length a, operators-length signs)
 
 pub operators-append : (a b : List ℕ) → operatorsText (a ++ b) ≡ operatorsText a ++ operatorsText b
 operators-append [] b = refl

@@ -1,10 +1,9 @@
 -- Laws of the contract's function, by what each search finds, and where its parts stand.
-use Prim.Native.Nat.{ℕ, _+_, _-_, _<_, _≤_}
+use Prim.Native.Nat.{ℕ, _+_, _<_, _≤_}
 use mathlib.Core.Path.{_≡_}
 use mathlib.Core.List.{List, [], _∷_}
 use native.Mathlib.Omega.{arith}
-use lib.ListN.{length, take, drop}
-use Rattle.byte.proofs.Parts.{middle}
+use lib.ListN.{length}
 use Rattle.search.specs.declared.Found.the-variants.{At, Nothing}
 use Rattle.search.specs.First.{firstAt}
 use Rattle.source.specs.Function.{functionOf}
@@ -73,8 +72,3 @@ ordered s p h =
     (λ n. never-both _ p (unclosed-parameters s name e1 left e2 n) h))
     (λ n. never-both _ p (no-parameters s name e1 n) h))
     (λ n. never-both _ p (no-function s n) h)
-
--- the text between the parentheses, as the cursor takes it: from a place on, of the text before the other
-pub in-parentheses : (s : List ℕ) (p : Places) → functionOf s ≡ Found p
-    → take (p .«params_end» - p .«params_start») (drop (p .«params_start») s) ≡ drop (p .«params_start») (take (p .«params_end») s)
-in-parentheses s p h = let o = ordered s p h in middle s (p .«params_start») (p .«params_end») (o .params) (omega arith)

@@ -28,7 +28,7 @@ returns c =
 write-output-requires : tie.Need-write-output-requires
 write-output-requires c κs =
     let a = c .before .before .before .before .before .before .before .before .before .before .before .args in
-    record { short = stem-short (now (a .stem)) (sym (c .before .before .stem-fits .ensures) ∙ not-false _ (c .before .if1 .left)); o = _; accepts = is-going (c .before .before .before .before .before .before .checked .ensures) (c .before .before .before .enum-told .given .1) }
+    record { short = stem-short (now (a .stem)) (sym (c .before .before .stem-fits .ensures) ∙ not-false _ (c .before .if1 .left)); vector = _; o = _; accepts = is-going (c .before .before .before .before .before .before .checked .ensures) (c .before .before .before .enum-told .given .1) }
 
 returns-2 : tie.Need-returns-2
 returns-2 c =
@@ -41,7 +41,7 @@ same-length c = search needs
 returns-3 : tie.Need-returns-3
 returns-3 c =
     let a = c .before .before .before .before .before .before .before .before .before .before .before .before .before .before .args in
-    as-assembled (now (a .contract)) (now (a .vector)) (now (a .stem)) (c .before .before .write-output .ensures .is _ (is-going (c .before .before .before .before .before .before .before .before .before .checked .ensures) (c .before .before .before .before .before .before .enum-told .given .1)) (sym (c .before .before .before .before .before .stem-fits .ensures) ∙ not-false _ (c .before .before .before .before .if1 .left)))
+    as-assembled (now (a .contract)) (now (a .vector)) (now (a .stem)) (c .before .before .write-output .ensures .is _ _ (is-going (c .before .before .before .before .before .before .before .before .before .checked .ensures) (c .before .before .before .before .before .before .enum-told .given .1)) (sym (c .before .before .before .before .before .stem-fits .ensures) ∙ not-false _ (c .before .before .before .before .if1 .left)))
 
 pub assemble-spec : {M : Type 1} → statement M
 assemble-spec =

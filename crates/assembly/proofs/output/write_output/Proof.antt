@@ -32,7 +32,7 @@ returns-2 c =
     let q = c .before .before .before .before .last .given .1 in
     let e = c .before .header-len .ensures in
     let i = c .if1 .taken in
-    record { is = λ o acc f. no-room acc q (now (a .stem)) (a .out .now) f (omega (arith, e, i)) }
+    record { is = λ vector o acc f. no-room acc q (now (a .stem)) (a .out .now) f (omega (arith, e, i)) }
 
 returns-3 : tie.Need-returns-3
 returns-3 c =
@@ -42,7 +42,7 @@ returns-3 c =
     let e = c .before .before .before .header-len .ensures in
     let i = c .before .before .if1 .left in
     let j = c .if2 .taken in
-    record { is = λ o acc f. no-room acc q (now (a .stem)) (a .out .now) f (omega (arith, e, i, j)) }
+    record { is = λ vector o acc f. no-room acc q (now (a .stem)) (a .out .now) f (omega (arith, e, i, j)) }
 
 put-header-requires : tie.Need-put-header-requires
 put-header-requires c κs = search needs
@@ -90,7 +90,7 @@ returns-4 c =
     let j = c .before .before .before .before .before .before .before .before .before .before .before .before .before .before .before .if2 .left in
     let w = c .before .before .before .before .before .before .before .before .before .before .before .put-header .ensures in
     let v = c .before .before .before .before .before .before .before .emit .ensures in
-    record { is = λ o acc f. written-whole acc q (now (a .stem)) (a .out .now) f (omega (arith, e, i, j)) (put-then w (omega (arith, e, i)) v) (c .before .before .put-bytes .ensures) }
+    record { is = λ vector o acc f. written-whole acc q (now (a .stem)) (a .out .now) f (omega (arith, e, i, j)) (put-then w (omega (arith, e, i)) v) (c .before .before .put-bytes .ensures) }
 
 pub write-output-spec : {M : Type 1} → statement M
 write-output-spec =

@@ -1,10 +1,10 @@
--- `assembler::state::put` meets its contract: each array is set at one place.
+-- `assembler::table::put` meets its contract: each array is set at one place.
 -- Assumes nothing.
 use mathlib.Core.Path.{refl}
 use Rattle.assembler.proofs.Stored.{set-one}
 use borrow.Author.Needs.{needs}
-use Rattle.assembler.proofs.state.put.Statement.{statement}
-use Rattle.assembler.proofs.state.put.Tie as tie
+use Rattle.assembler.proofs.table.put.Statement.{statement}
+use Rattle.assembler.proofs.table.put.Tie as tie
 
 cast-t : tie.Need-cast-t
 cast-t c = search needs

@@ -1,11 +1,11 @@
--- `assembler::state::put_value` meets its contract: each array is set at one place.
+-- `assembler::table::put_value` meets its contract: each array is set at one place.
 -- Assumes nothing.
 use mathlib.Core.Path.{refl}
 use mathlib.Core.Bool.{false}
 use Rattle.assembler.proofs.Stored.{set-one}
 use borrow.Author.Needs.{needs}
-use Rattle.assembler.proofs.state.put_value.Statement.{statement}
-use Rattle.assembler.proofs.state.put_value.Tie as tie
+use Rattle.assembler.proofs.table.put_value.Statement.{statement}
+use Rattle.assembler.proofs.table.put_value.Tie as tie
 
 number-requires : tie.Need-number-requires
 number-requires c κs = search needs
