@@ -7,13 +7,12 @@ use mathlib.Core.Bool.{true}
 use lib.Dec.{leb}
 use lib.ListN.{length}
 use Rattle.byte.proofs.Tests.{by-bool}
-use Rattle.numbered.specs.Numbered.{carrying}
 use Rattle.ops.specs.Ops.{Reading, ops, readText, answerOf, opsOf, kindsOf, operandsOf, onto}
 use Rattle.ops.specs.Numbers.{parsedOpsNumbered}
 use Rattle.vm.specs.Verify.{buffersFit}
 use Rattle.expression.specs.Tree.{Tree, kOf, pOf}
 use Rattle.numbered.specs.declared.Numbered.{Numbered}
-use Rattle.numbered.specs.Numbered.{plain}
+use Rattle.numbered.specs.Numbered.{plain, carrying}
 use Rattle.assembler.specs.Assembled.{Assembled, accepted, rejected, assembledTree}
 use Rattle.assembler.specs.Output.{stemFits, operationsOf, output, success, refusal, named, assembled}
 use Rattle.compiled.specs.Call.{Call, readingOf}
