@@ -10,8 +10,8 @@ use Rattle.ops.specs.declared.OpsError.{OpsError}
 use Rattle.ops.specs.declared.ParsedOps.{ParsedOps}
 use Rattle.ops.specs.declared.ParsedOps.the-variants as parsed
 use Rattle.vm.specs.declared.Answer.{Answer}
-use Rattle.vm.specs.Transition as Transition
-use Rattle.vm.specs.Transition.{transitionOf, Meets}
+use Rattle.vm.specs.Numbers.{answerNumbered}
+use Rattle.vm.specs.Transition.{Meets}
 use Rattle.assembler.specs.declared.refusal.Refusal.{Refusal}
 use Rattle.assembler.specs.Output as Output
 use Rattle.assembler.specs.Output.{success}
@@ -20,17 +20,15 @@ use Rattle.assembly.specs.declared.Answer.the-variants.{Success, Refused}
 use Rattle.assembly.specs.Answers.{Assembles}
 use Rattle.compile.specs.declared.Compiled.{Compiled}
 use Rattle.compile.specs.declared.Compiled.the-variants.{NotAssembled, NotRead, Ran}
-use Rattle.compile.specs.Compile.{Buffers, Call, ran, assemblyOf, readingOf, thenRun, thenRead, compileOf, Composes}
+use Rattle.compiled.specs.Call.{Buffers, Call, assemblyOf, readingOf, transitionOn}
+use Rattle.compile.specs.Answer.{ran}
+use Rattle.compile.specs.Compile.{thenRun, thenRead, compileOf, Composes}
 use Rattle.compile.proofs.Assembled.{sized-as}
 
 abbrev buffers : (out kinds operands stack work storage : List ℕ) → Buffers
 buffers out kinds operands stack work storage = record { out = out; kinds = kinds; operands = operands; stack = stack; work = work; storage = storage }
 
 module _ (x : Call) where
-  -- the transition on two program buffers
-  abbrev run : (ks vs : List ℕ) → Transition.Result
-  run ks vs = transitionOf (x .context) ks vs (x .caller) (x .limit) (x .lent .stack) (x .lent .work) (x .lent .storage) (x .state)
-
   -- a success of assembly, which leaves o in its buffer
   pub record Written (o : List ℕ) (n k p v : ℕ) : Type 0 where
     pub answer : success n k p v ≡ assemblyOf x .answer
@@ -61,7 +59,7 @@ module _ (x : Call) where
         let a = subst (λ (z : assembly.Answer). Assembles (assemblyOf x) (x .lent .out) o z) e b in
         let kept : o ≡ x .lent .out = a .buffer ∙ ap (λ (l : List ℕ). onto l (x .lent .out)) (sized-as (x .contract) (x .vector) (x .stem) (x .lent .out) (a .answer)) in
         subst (λ (z : Output.Answer). Composes (thenRead x z) (NotAssembled why) (buffers o (x .lent .kinds) (x .lent .operands) (x .lent .stack) (x .lent .work) (x .lent .storage))) (a .answer)
-        (record { answer = refl; out = kept; kinds = refl; operands = refl; stack = refl; work = refl; storage = refl })
+        (record { answer = refl; number = refl; out = kept; kinds = refl; operands = refl; stack = refl; work = refl; storage = refl })
 
     module _ {n k p v : ℕ} (a : Written o n k p v) where
       -- what follows the success
@@ -77,15 +75,16 @@ module _ (x : Call) where
 
         stopped : {e : OpsError} (y : Reading) → Reads y (parsed.Refused e) ks vs → Composes (thenRun x n k p v y) (NotRead e) (buffers o ks vs (x .lent .stack) (x .lent .work) (x .lent .storage))
         stopped (ops os) r = absurd (let z : _≡_ {A = ℕ} 0 1 = cc (r .answer) in omega arith)
-        stopped (refused e) r = record { answer = cc (r .answer); out = a .buffer; kinds = r .kinds; operands = r .operands; stack = refl; work = refl; storage = refl }
+        stopped (refused e) r = record { answer = cc (r .answer); number = cc (r .answer); out = a .buffer; kinds = r .kinds; operands = r .operands; stack = refl; work = refl; storage = refl }
 
-        finished : {s w m : List ℕ} {j : ℕ} {t : Answer} (y : Reading) → Reads y (parsed.Read j) ks vs → Meets (run ks vs) t s w m → Composes (thenRun x n k p v y) (Ran n k p v j t) (buffers o ks vs s w m)
+        finished : {s w m : List ℕ} {j : ℕ} {t : Answer} (y : Reading) → Reads y (parsed.Read j) ks vs → Meets (transitionOn x ks vs) t s w m → Composes (thenRun x n k p v y) (Ran n k p v j t) (buffers o ks vs s w m)
         finished (refused e) r q = absurd (let z : _≡_ {A = ℕ} 0 1 = cc (r .answer) in omega arith)
         finished {s} {w} {m} {j} {t} (ops os) r q =
-            let u = subst (λ (l : List ℕ). Meets (run l (onto (operandsOf os) (x .lent .operands))) t s w m) (r .kinds) (subst (λ (l : List ℕ). Meets (run ks l) t s w m) (r .operands) q) in
+            let u = subst (λ (l : List ℕ). Meets (transitionOn x l (onto (operandsOf os) (x .lent .operands))) t s w m) (r .kinds) (subst (λ (l : List ℕ). Meets (transitionOn x ks l) t s w m) (r .operands) q) in
             let j-is : j ≡ length os = cc (r .answer) in
             record {
               answer = ap (λ (i : ℕ). ran n k p v i t) j-is ∙ ap (ran n k p v (length os)) (u .answer);
+              number = ap answerNumbered (u .answer);
               out = a .buffer;
               kinds = r .kinds;
               operands = r .operands;
@@ -98,6 +97,6 @@ module _ (x : Call) where
             → Composes (compileOf x) (NotRead e) (buffers o ks vs (x .lent .stack) (x .lent .work) (x .lent .storage))
         not-read q e = follows (stopped (readingOf x) (reads q e))
 
-        pub has-run : {r : ParsedOps} {j : ℕ} {t : Answer} {s w m : List ℕ} → Parsed (take n o) (x .lent .kinds) (x .lent .operands) ks vs r → r ≡ parsed.Read j → Meets (run ks vs) t s w m
+        pub has-run : {r : ParsedOps} {j : ℕ} {t : Answer} {s w m : List ℕ} → Parsed (take n o) (x .lent .kinds) (x .lent .operands) ks vs r → r ≡ parsed.Read j → Meets (transitionOn x ks vs) t s w m
             → Composes (compileOf x) (Ran n k p v j t) (buffers o ks vs s w m)
         has-run q e t = follows (finished (readingOf x) (reads q e) t)

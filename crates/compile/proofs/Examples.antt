@@ -6,22 +6,24 @@ use mathlib.Core.List.{List, [], _∷_, _++_}
 use lib.ListN.{replicate}
 use Rattle.number.specs.Decimal.{decimal}
 use Rattle.token.specs.Token.{scan}
+use Rattle.numbered.specs.Numbered.{carrying, plain}
 use Rattle.ops.specs.Ascii.{ascii}
 use Rattle.context.specs.Gate.{gateOf}
 use Rattle.machine.specs.Operation.{decode}
 use Rattle.machine.specs.Machine.{runOf, whole}
 use Rattle.machine.specs.declared.Refusal.the-variants.{OutOfGas}
 use Rattle.vm.specs.declared.Answer.the-variants.{Success, Refused}
-use Rattle.numbered.specs.Numbered.{plain, carrying}
 use Rattle.vm.specs.Verify.{operationsCheck}
 use Rattle.vm.specs.Transition.{up}
 use Rattle.expression.specs.Parse.{parseF, meaning}
 use Rattle.assembler.specs.State.{each}
 use Rattle.assembler.specs.Assembled.{assembledTree}
 use Rattle.assembler.specs.Output.{output, assembled}
-use Rattle.compile.specs.Compile.{Buffers, Call, ran, compileOf}
+use Rattle.compiled.specs.Call.{Buffers, Call}
+use Rattle.compiled.specs.Statement.{Hypotheses}
+use Rattle.compile.specs.Answer.{ran}
+use Rattle.compile.specs.Compile.{compileOf}
 use Rattle.compile.specs.Numbers.{numbered}
-use Rattle.compile.specs.Delivery.{HypothesesOf}
 
 contract : List ℕ
 contract = ascii "fn total (a, b) {\n  let s = a + b\n  return s * 2\n}\n"
@@ -53,7 +55,7 @@ tally g b = record {
 }
 
 -- the hypotheses of the compile statement hold of it, under every limit
-accepted : (g : ℕ) → HypothesesOf (tally g (lent 70 6)) 67 3 2 24
+accepted : (g : ℕ) → Hypotheses (tally g (lent 70 6)) 67 3 2 24
 unfolding assembled output decimal assembledTree each meaning parseF scan contract vector
 accepted g = record { accepts = refl; kindsRoom = refl; operandsRoom = refl; passes = refl; lent = refl; used = omega arith }
 

@@ -1,64 +1,21 @@
 -- The three calls in a row: assembly, reading of exactly what it wrote, and the transition on the program buffers as reading left them.
-use Prim.Native.Nat.{ℕ, min}
+use Prim.Native.Nat.{ℕ}
 use mathlib.Core.Path.{_≡_}
 use mathlib.Core.List.{List}
 use lib.ListN.{length}
-use Rattle.numbered.specs.declared.Numbered.{Numbered}
-use Rattle.ops.specs.Ops.{Operation, Reading, ops, refused, readText, kindsOf, operandsOf, onto}
-use Rattle.ops.specs.declared.OpsError.{OpsError}
-use Rattle.context.specs.declared.Gate.{Gate}
-use Rattle.vm.specs.declared.State.{State}
-use Rattle.vm.specs.declared.Answer as vm
+use Rattle.ops.specs.Ops.{Operation, Reading, ops, refused, kindsOf, operandsOf, onto}
 use Rattle.vm.specs.Transition as Transition
-use Rattle.vm.specs.Transition.{transitionOf}
-use Rattle.assembler.specs.Numbers.{refusalNumbered}
 use Rattle.assembler.specs.Output as Output
-use Rattle.assembler.specs.Output.{success, refusal, assembled}
+use Rattle.assembler.specs.Output.{success, refusal}
+use Rattle.compiled.specs.Call.{Buffers, Call, assemblyOf, readingOf, transitionOn}
 use Rattle.compile.specs.declared.Compiled.{Compiled}
-use Rattle.compile.specs.declared.Compiled.the-variants.{NotAssembled, NotRead, Ran}
-
--- the lent buffers: assembly's, reading's two, the transition's three
-pub record Buffers : Type 0 where
-  pub out : List ℕ
-  pub kinds : List ℕ
-  pub operands : List ℕ
-  pub stack : List ℕ
-  pub work : List ℕ
-  pub storage : List ℕ
-
--- what is passed; the context is what the gate says of its eight texts
-pub record Call : Type 0 where
-  pub contract : List ℕ
-  pub vector : List ℕ
-  pub stem : List ℕ
-  pub context : Gate
-  pub caller : ℕ
-  pub limit : ℕ
-  pub state : State
-  pub lent : Buffers
-
--- a refusal of assembly or reading ends it; else what the two gave, and the transition's answer
-pub data Answer : Type 0 where
-  notAssembled : Numbered → Answer
-  notRead : OpsError → Answer
-  ran : (written k p value operations : ℕ) → vm.Answer → Answer
-
-abbrev pub answerOf : Compiled → Answer
-answerOf (NotAssembled why) = notAssembled (refusalNumbered why)
-answerOf (NotRead e) = notRead e
-answerOf (Ran written k p value operations a) = ran written k p value operations a
+use Rattle.compile.specs.Answer.{Answer, notAssembled, notRead, ran, answerOf}
+use Rattle.compile.specs.Numbers.{numbered, compiledNumbered}
 
 -- the answer, and what is left in the buffers
 pub record Result : Type 0 where
   pub answer : Answer
   pub left : Buffers
-
--- assembly, and the reading of exactly the text that it writes
-abbrev pub assemblyOf : Call → Output.Assembly
-assemblyOf x = assembled (x .contract) (x .vector) (x .stem) (length (x .lent .out))
-
-abbrev pub readingOf : Call → Reading
-readingOf x = readText (assemblyOf x .text) (min (length (x .lent .kinds)) (length (x .lent .operands)))
 
 -- the buffers when assembly has written its text, and then reading its operations
 abbrev pub assembledIn : Call → Buffers
@@ -73,7 +30,7 @@ readIn x os =
 
 -- the transition takes all of both program buffers
 abbrev pub runOn : Call → Buffers → Transition.Result
-runOn x b = transitionOf (x .context) (b .kinds) (b .operands) (x .caller) (x .limit) (b .stack) (b .work) (b .storage) (x .state)
+runOn x b = transitionOn x (b .kinds) (b .operands)
 
 abbrev pub ranIn : Call → Buffers → Buffers
 ranIn x b =
@@ -96,6 +53,7 @@ compileOf x = thenRead x (assemblyOf x .answer)
 -- a call's answer r and the buffers b at its exit are those of a result
 pub record Composes (c : Result) (r : Compiled) (b : Buffers) : Type 0 where
   pub answer : answerOf r ≡ c .answer
+  pub number : compiledNumbered r ≡ numbered (c .answer)
   pub out : b .out ≡ c .left .out
   pub kinds : b .kinds ≡ c .left .kinds
   pub operands : b .operands ≡ c .left .operands

@@ -1,3 +1,4 @@
-pub mod Compile
+pub mod Answer
 pub mod Numbers
+pub mod Compile
 pub mod Delivery

@@ -2,9 +2,13 @@
 use Rattle.numbered.specs.declared.Numbered.{Numbered}
 use Rattle.ops.specs.Numbers.{opsErrorNumbered}
 use Rattle.vm.specs.Numbers.{answerNumbered}
-use Rattle.compile.specs.Compile.{Answer, notAssembled, notRead, ran}
+use Rattle.compile.specs.declared.Compiled.{Compiled}
+use Rattle.compile.specs.Answer.{Answer, notAssembled, notRead, ran, answerOf}
 
 abbrev pub numbered : Answer → Numbered
 numbered (notAssembled r) = r
 numbered (notRead e) = opsErrorNumbered e
 numbered (ran written k p value operations a) = answerNumbered a
+
+abbrev pub compiledNumbered : Compiled → Numbered
+compiledNumbered r = numbered (answerOf r)

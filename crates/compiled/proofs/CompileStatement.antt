@@ -2,22 +2,21 @@
 use Prim.Native.Nat.{ℕ, _*_, min}
 use native.Mathlib.Omega.{arith}
 use mathlib.Core.Path.{_≡_, sym, ap, _∙_}
-use mathlib.Core.List.{List}
+use mathlib.Core.List.{List, [], _∷_}
 use mathlib.Core.Bool.{true}
 use lib.Dec.{leb}
 use lib.ListN.{length}
 use Rattle.byte.proofs.Tests.{by-bool}
-use Rattle.context.specs.declared.Gate.{Gate}
-use Rattle.ops.specs.Ops.{Reading, ops, readText, answerOf, kindsOf, operandsOf}
-use Rattle.ops.specs.declared.ParsedOps.the-variants.{Read}
-use Rattle.vm.specs.declared.State.{State}
+use Rattle.ops.specs.Ops.{Reading, ops, readText, answerOf, opsOf, kindsOf, operandsOf, onto}
+use Rattle.ops.specs.Numbers.{parsedOpsNumbered}
 use Rattle.vm.specs.Verify.{buffersFit}
 use Rattle.expression.specs.Tree.{Tree, kOf, pOf}
 use Rattle.numbered.specs.declared.Numbered.{Numbered}
-use Rattle.numbered.specs.Numbered.{plain}
+use Rattle.numbered.specs.Numbered.{plain, carrying}
 use Rattle.assembler.specs.Assembled.{Assembled, accepted, rejected, assembledTree}
 use Rattle.assembler.specs.Output.{stemFits, operationsOf, output, success, refusal, named, assembled}
-use Rattle.compiled.specs.Statement.{read, kindsLeft, operandsLeft, Hypotheses, Statement}
+use Rattle.compiled.specs.Call.{Call, readingOf}
+use Rattle.compiled.specs.Statement.{Hypotheses, Statement, foundBy}
 use Rattle.compiled.proofs.Accepted.{accepted-is}
 use Rattle.compiled.proofs.Operations.{operations-length}
 use Rattle.compiled.proofs.Reading.{reads-output, onto-full}
@@ -48,38 +47,39 @@ module _ (stem : List ℕ) (room n k p v : ℕ) where
       (λ b. not-success (plain 26) (simp (a, b) at e)))
       (λ a. not-success (plain 25) (simp a at e))
 
-pub compile-statement : (contract vector stem : List ℕ) (room n k p v : ℕ) (kinds operands : List ℕ) (context : Gate) (caller g : ℕ) (s w m : List ℕ) (state : State)
-    → Hypotheses contract vector stem room n k p v kinds operands context s w m state → Statement contract vector stem room k p v kinds operands context caller g s w m state
+pub compile-statement : (x : Call) (n k p v : ℕ) → Hypotheses x n k p v → Statement x k p v (foundBy x)
 unfolding assembled
-compile-statement contract vector stem room n k p v kinds operands context caller g s w m state a =
-    let d = named-is stem room n k p v (assembledTree contract vector) (a .accepts) in
+compile-statement x n k p v a =
+    let d = named-is (x .stem) (length (x .lent .out)) n k p v (assembledTree (x .contract) (x .vector)) (a .accepts) in
     let t = d .tree in
-    let x = accepted-is vector v t contract (d .assembles) in
+    let is = accepted-is (x .vector) v t (x .contract) (d .assembles) in
+    let kinds = x .lent .kinds in
+    let operands = x .lent .operands in
     let k-is = d .k-counts in
     let ks-room = a .kindsRoom in
     let vs-room = a .operandsRoom in
     let ks-length = kinds-length t in
     let vs-length = operands-length t in
-    let reading : read contract vector stem room kinds operands ≡ ops (operationsOf t) =
-    ap (λ (text : List ℕ). readText text (min (length kinds) (length operands))) (d .text-is) ∙ reads-output stem v t (d .stem-fits) (x .fits .0) (min (length kinds) (length operands)) (omega arith) in
-    let ks-full : kindsLeft (read contract vector stem room kinds operands) kinds ≡ kindsOf (operationsOf t) =
-    ap (λ (r : Reading). kindsLeft r kinds) reading ∙ onto-full (kindsOf (operationsOf t)) kinds (omega arith) in
-    let vs-full : operandsLeft (read contract vector stem room kinds operands) operands ≡ operandsOf (operationsOf t) =
-    ap (λ (r : Reading). operandsLeft r operands) reading ∙ onto-full (operandsOf (operationsOf t)) operands (omega arith) in
+    let reading : readingOf x ≡ ops (operationsOf t) =
+    ap (λ (text : List ℕ). readText text (min (length kinds) (length operands))) (d .text-is) ∙ reads-output (x .stem) v t (d .stem-fits) (is .fits .0) (min (length kinds) (length operands)) (omega arith) in
+    let ks-full : onto (kindsOf (opsOf (readingOf x))) kinds ≡ kindsOf (operationsOf t) =
+    ap (λ (r : Reading). onto (kindsOf (opsOf r)) kinds) reading ∙ onto-full (kindsOf (operationsOf t)) kinds (omega arith) in
+    let vs-full : onto (operandsOf (opsOf (readingOf x))) operands ≡ operandsOf (operationsOf t) =
+    ap (λ (r : Reading). onto (operandsOf (opsOf r)) operands) reading ∙ onto-full (operandsOf (operationsOf t)) operands (omega arith) in
     let count : length (operationsOf t) ≡ 2 * k = operations-length t ∙ ap (λ (i : ℕ). 2 * i) (sym k-is) in
     let ks-is : length kinds ≡ 2 * kOf t = omega arith in
     let vs-is : length operands ≡ 2 * kOf t = omega arith in
-    let fit : buffersFit (2 * kOf t) (2 * kOf t) (length s) (length w) (length m) (state .used) ≡ true = rw (ks-is, vs-is) at (a .lent) in
+    let fit : buffersFit (2 * kOf t) (2 * kOf t) (length (x .lent .stack)) (length (x .lent .work)) (length (x .lent .storage)) (x .state .used) ≡ true = rw (ks-is, vs-is) at (a .lent) in
     record {
       tree = t;
       assembles = d .assembles;
       k-counts = k-is;
       p-counts = d .p-counts;
-      value = x .value;
-      expected = x .expected;
-      reads = ap answerOf reading ∙ ap Read count;
+      value = is .value;
+      expected = is .expected;
+      reads = ap (λ (r : Reading). parsedOpsNumbered (answerOf r)) reading ∙ ap (λ (i : ℕ). carrying 0 (i ∷ [])) count;
       kindsFilled = ks-full;
       operandsFilled = vs-full;
       operations = count;
-      transition = rw (ks-full, vs-full, a .passes) (transition t v (x .value) (x .fits .0) (x .fits .1) caller g s w m state fit (a .used));
+      transition = rw (ks-full, vs-full, a .passes) (transition t v (is .value) (is .fits .0) (is .fits .1) (x .caller) (x .limit) (x .lent .stack) (x .lent .work) (x .lent .storage) (x .state) fit (a .used));
     }

@@ -6,14 +6,19 @@ use mathlib.Core.Path.{_≡_}
 use mathlib.Core.List.{List}
 use mathlib.Core.Option.{some}
 use lib.ListN.{take}
-use Rattle.machine.specs.declared.Refusal.the-variants.{StackLimitExceeded}
+use Rattle.machine.specs.declared.Refusal.{Refusal}
+use Rattle.machine.specs.declared.Refusal.the-variants.{OutOfGas, StackLimitExceeded}
 use Rattle.machine.specs.Operation.{Op, kindPrice}
 use Rattle.machine.specs.Machine.{done, stop, whole}
 use Rattle.expression.specs.Tree.{Tree, valueOf, pOf}
-use Rattle.compiled.specs.Counting.{program, cost, opAt, Short, Meets, Fills}
-use Rattle.compiled.specs.Statement.{gasOf, outOfGasAt}
+use Rattle.compiled.specs.Counting.{program, cost, opAt, costBefore, Short, Meets, Fills}
+use Rattle.compiled.specs.Statement.{gasOf}
 use Rattle.compiled.proofs.Trees.{last, decided, program-cost, program-sound, program-peak}
 use Rattle.compiled.proofs.Trace.{MeetsFrom, trace-fine, trace-short, trace-full, none-meets, first-full, first-short, short-paid, all-paid}
+
+-- out of gas at operation i
+abbrev pub refusedAt : Tree → ℕ → ℕ → Refusal
+refusedAt t g i = OutOfGas (kindPrice (opAt (program t) i)) (g - costBefore (program t) i)
 
 -- the two ways to say that a push meets 4,096 items
 to-from : (l : List Op) (j : ℕ) → Meets l j → MeetsFrom 0 l j
@@ -44,7 +49,7 @@ module _ (t : Tree) (v : ℕ) (e : valueOf t ≡ some v) (c room g : ℕ) (m : L
       rw (decided t v e c room g m, trace-fine (program t) g 0 (omega arith) (omega (arith, program-cost t)) (omega (arith, program-peak t)), d)
 
   -- by index
-  short-at : (i : ℕ) → Short (program t) g i → ((j : ℕ) → Fills (program t) j → i ≤ j) → whole (program t) c room g m ≡ stop (outOfGasAt t g i)
+  short-at : (i : ℕ) → Short (program t) g i → ((j : ℕ) → Fills (program t) j → i ≤ j) → whole (program t) c room g m ≡ stop (refusedAt t g i)
   short-at i s h =
       rw (decided t v e c room g m, trace-short (program t) g 0 i (program-sound t) (omega arith) (s .within) (short-paid (program t) g i s) (s .short) (λ j a m. clash j a m (decLt 4096 (pOf t))))
     where
@@ -66,7 +71,7 @@ module _ (t : Tree) (v : ℕ) (e : valueOf t ≡ some v) (c room g : ℕ) (m : L
 
   -- by k and p
   abbrev AtGas : ℕ → Type 0
-  AtGas i = whole (program t) c room g m ≡ stop (outOfGasAt t g i)
+  AtGas i = whole (program t) c room g m ≡ stop (refusedAt t g i)
 
   abbrev AtRoom : Type 0
   AtRoom = whole (program t) c room g m ≡ stop StackLimitExceeded

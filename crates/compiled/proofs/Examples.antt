@@ -6,27 +6,29 @@ use mathlib.Core.List.{List, [], _∷_}
 use mathlib.Core.Option.{some}
 use lib.ListN.{replicate}
 use Rattle.word.specs.Apply.{add}
+use Rattle.numbered.specs.declared.Numbered.{Numbered}
+use Rattle.numbered.specs.Numbered.{carrying, plain}
 use Rattle.number.specs.Decimal.{decimal}
 use Rattle.token.specs.Token.{scan}
 use Rattle.ops.specs.Ascii.{ascii}
-use Rattle.ops.specs.Ops.{Reading}
+use Rattle.ops.specs.Ops.{Reading, opsOf, kindsOf, operandsOf, onto}
 use Rattle.context.specs.declared.Gate.the-variants as gate
 use Rattle.machine.specs.declared.Refusal.the-variants.{OutOfGas, StackLimitExceeded}
 use Rattle.machine.specs.Machine.{whole}
 use Rattle.vm.specs.declared.State.{State}
 use Rattle.vm.specs.declared.Answer.the-variants.{Success}
-use Rattle.vm.specs.Transition.{Result, ofRun, transitionOf}
-use Rattle.numbered.specs.declared.Numbered.{Numbered}
-use Rattle.numbered.specs.Numbered.{plain, carrying}
 use Rattle.vm.specs.Numbers.{answerNumbered}
+use Rattle.vm.specs.Transition.{ofRun}
 use Rattle.expression.specs.Tree.{Tree, num, bin, valueOf, kOf, pOf}
 use Rattle.expression.specs.Parse.{parseF, meaning}
 use Rattle.assembler.specs.State.{each}
 use Rattle.assembler.specs.Assembled.{assembledTree}
 use Rattle.assembler.specs.Output.{output, assembled}
 use Rattle.compiled.specs.Counting.{program}
-use Rattle.compiled.specs.Statement.{gasOf, read, kindsLeft, operandsLeft, Hypotheses, Statement}
+use Rattle.compiled.specs.Call.{Buffers, Call, readingOf, transitionOn}
+use Rattle.compiled.specs.Statement.{gasOf, SucceedsWith, Hypotheses, Statement, foundBy}
 use Rattle.compiled.proofs.CompileStatement.{compile-statement}
+use Rattle.compiled.proofs.Told.{told}
 use Rattle.compiled.proofs.Trees.{decided, meter, metered}
 use Rattle.compiled.proofs.Trace.{left, broke}
 
@@ -36,34 +38,41 @@ tally = ascii "fn total (a, b) {\n  let s = a + b\n  return s * 2\n}\n"
 vector : List ℕ
 vector = ascii "{\"a\": 5, \"b\": 7, \"expected\": 24}"
 
--- 67 bytes are written; the program buffers hold what they may, and no storage is lent
-abbrev lent : List ℕ
-lent = replicate 6 9
+-- buffers that hold what they may; no storage is lent
+abbrev lent : Buffers
+lent = record { out = replicate 4096 9; kinds = replicate 6 9; operands = replicate 6 9; stack = replicate 4096 9; work = []; storage = [] }
 
 abbrev unused : State
 unused = record { used = 0 }
 
-tally-accepted : Hypotheses tally vector (ascii "tally") 4096 67 3 2 24 lent lent gate.Passed (replicate 4096 9) [] [] unused
+abbrev call : ℕ → ℕ → Call
+call caller g = record { contract = tally; vector = vector; stem = ascii "tally"; context = gate.Passed; caller = caller; limit = g; state = unused; lent = lent }
+
+-- 67 bytes are written
+tally-accepted : (caller g : ℕ) → Hypotheses (call caller g) 67 3 2 24
 unfolding assembled output decimal assembledTree each meaning parseF scan tally vector
-tally-accepted = record { accepts = refl; kindsRoom = refl; operandsRoom = refl; passes = refl; lent = refl; used = omega arith }
+tally-accepted caller g = record { accepts = refl; kindsRoom = refl; operandsRoom = refl; passes = refl; lent = refl; used = omega arith }
 
-tally-stated : (caller g : ℕ) → Statement tally vector (ascii "tally") 4096 3 2 24 lent lent gate.Passed caller g (replicate 4096 9) [] [] unused
-tally-stated caller g = compile-statement tally vector (ascii "tally") 4096 67 3 2 24 lent lent gate.Passed caller g (replicate 4096 9) [] [] unused tally-accepted
+tally-stated : (caller g : ℕ) → Statement (call caller g) 3 2 24 (foundBy (call caller g))
+tally-stated caller g = compile-statement (call caller g) 67 3 2 24 (tally-accepted caller g)
 
--- the three calls in a row, with a limit of 7 or more: 24, for 7 gas and 6 operations
-abbrev reading : Reading
-reading = read tally vector (ascii "tally") 4096 lent lent
+-- with a limit of 7 or more: 24, for 7 gas and 6 operations
+module _ (caller g : ℕ) (h : 7 ≤ g) where
+  tally-succeeds : SucceedsWith (tally-stated caller g .tree) 24 0 (lent .stack) (foundBy (call caller g) .ending)
+  tally-succeeds =
+      let stated = tally-stated caller g in
+      let k = stated .k-counts in
+      let p = stated .p-counts in
+      stated .transition .success (omega arith) (omega arith)
 
-abbrev result : ℕ → ℕ → Result
-result caller g = transitionOf gate.Passed (kindsLeft reading lent) (operandsLeft reading lent) caller g (replicate 4096 9) [] [] unused
+  tally-runs : (foundBy (call caller g) .ending .numbered ≡ carrying 0 (7 ∷ 6 ∷ 1 ∷ 0 ∷ [])) × (foundBy (call caller g) .ending .stack ≡ 24 ∷ replicate 4095 0)
+  tally-runs = let k = tally-stated caller g .k-counts in (rw (← k) at (tally-succeeds .numbered), tally-succeeds .stack)
 
-tally-runs : (caller g : ℕ) → 7 ≤ g → (result caller g .answer ≡ Success 7 6 1 unused) × (result caller g .stack ≡ 24 ∷ replicate 4095 0)
-tally-runs caller g h =
-    let stated = tally-stated caller g in
-    let k = stated .k-counts in
-    let p = stated .p-counts in
-    let x = stated .transition .success (omega arith) (omega arith) in
-    (rw (← k) at (x .answer), x .stack)
+  abbrev reading : Reading
+  reading = readingOf (call caller g)
+
+  tally-answers : transitionOn (call caller g) (onto (kindsOf (opsOf reading)) (lent .kinds)) (onto (operandsOf (opsOf reading)) (lent .operands)) .answer ≡ Success 7 6 1 unused
+  tally-answers = told (tally-runs .0)
 
 -- n sums
 nest : ℕ → Tree

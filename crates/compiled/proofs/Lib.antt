@@ -9,4 +9,5 @@ pub mod Operations
 pub mod Reading
 pub mod Transition
 pub mod CompileStatement
+pub mod Told
 pub mod Examples

@@ -16,7 +16,7 @@ use Rattle.vm.specs.Transition.{checksOf, transitionOf}
 use Rattle.vm.proofs.Laws.{lent}
 use Rattle.expression.specs.Tree.{Tree, valueOf, kOf}
 use Rattle.assembler.specs.Output.{operationsOf}
-use Rattle.compiled.specs.Statement.{Compiled}
+use Rattle.compiled.specs.Statement.{Compiled, endingOf}
 use Rattle.compiled.proofs.Words.{Words}
 use Rattle.compiled.proofs.Operations.{operations-fine, k-positive, operations-length, all-pass, decoded-program}
 use Rattle.compiled.proofs.Run.{compiled}
@@ -34,7 +34,7 @@ module _ (t : Tree) where
 
   module _ (v : ℕ) (e : valueOf t ≡ some v) (h : Words t) (k : kOf t ≤ 32768) (caller g : ℕ) (s w m : List ℕ) (state : State) where
     pub transition : buffersFit (2 * kOf t) (2 * kOf t) (length s) (length w) (length m) (state .used) ≡ true → state .used ≤ 65536
-        → Compiled t v g state s m (transitionOf gate.Passed (kindsOf (operationsOf t)) (operandsOf (operationsOf t)) caller g s w m state)
+        → Compiled t v g (state .used) s m (endingOf (transitionOf gate.Passed (kindsOf (operationsOf t)) (operandsOf (operationsOf t)) caller g s w m state))
     transition b u =
         let ks = kindsOf (operationsOf t) in
         let vs = operandsOf (operationsOf t) in

@@ -1,0 +1,19 @@
+-- The answers of the three calls in a row.
+use Prim.Native.Nat.{ℕ}
+use Rattle.numbered.specs.declared.Numbered.{Numbered}
+use Rattle.ops.specs.declared.OpsError.{OpsError}
+use Rattle.vm.specs.declared.Answer as vm
+use Rattle.assembler.specs.Numbers.{refusalNumbered}
+use Rattle.compile.specs.declared.Compiled.{Compiled}
+use Rattle.compile.specs.declared.Compiled.the-variants.{NotAssembled, NotRead, Ran}
+
+-- a refusal of assembly or reading ends it; else what the two gave, and the transition's answer
+pub data Answer : Type 0 where
+  notAssembled : Numbered → Answer
+  notRead : OpsError → Answer
+  ran : (written k p value operations : ℕ) → vm.Answer → Answer
+
+abbrev pub answerOf : Compiled → Answer
+answerOf (NotAssembled why) = notAssembled (refusalNumbered why)
+answerOf (NotRead e) = notRead e
+answerOf (Ran written k p value operations a) = ran written k p value operations a
