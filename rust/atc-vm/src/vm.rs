@@ -244,8 +244,8 @@ pub struct Receipt {
 /// Every run starts with an empty stack at the first operation. A run that fails leaves the storage as it was.
 ///
 /// A run is lent a stack of 4,096 items, and as many slots as the storage has or the program may store to, whichever is
-/// more. Each thread keeps what it lends for its next run. A machine keeps memory for at most twice the slots that are
-/// used, whatever slots its program names, or what the storage had room for when it was given.
+/// more. Each thread keeps what it lends for its next run, 1,056 KiB at most. A machine keeps memory for at most twice
+/// the slots that are used, whatever slots its program names, or what the storage had room for when it was given.
 ///
 /// ```
 /// use atc_vm::{Op, Vm, VmError};
@@ -449,10 +449,10 @@ impl Vm {
     }
 }
 
-// The first n words of a buffer, which grows where it has fewer.
+// The first n words of a buffer, or of a new one where it has fewer: no run looks at what they hold.
 fn first(buffer: &mut Vec<u64>, n: usize) -> &mut [u64] {
     if buffer.len() < n {
-        buffer.resize(n, 0);
+        *buffer = vec![0; n];
     }
     &mut buffer[..n]
 }

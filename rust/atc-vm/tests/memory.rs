@@ -1,4 +1,4 @@
-//! What a machine keeps: memory for the slots that are used, not for those that its program names.
+//! What a machine keeps: memory for the slots that are used, not for those that its program names. What a thread keeps.
 
 use atc_vm::{Op, Vm};
 use std::alloc::{GlobalAlloc, Layout, System};
@@ -88,4 +88,22 @@ fn a_thousand_machines_keep_nothing_for_a_slot_that_is_only_named() {
         0
     );
     assert!(vms.iter().all(|vm| vm.state() == [1]));
+}
+
+#[test]
+fn a_thread_keeps_1056_kib_at_most() {
+    std::thread::spawn(|| {
+        let before = HELD.get();
+        for last in [1, 40_000, LAST - 1, LAST, 7] {
+            let mut vm = Vm::new(vec![Op::Halt, Op::Store(last)]);
+            assert_eq!(vm.run_with_gas(0), Ok(vec![]));
+        }
+        let mut vm = Vm::with_context(vec![Op::Halt], 0, vec![0; LAST + 2]);
+        assert_eq!(vm.run_with_gas(0).unwrap_err().number(), 43);
+        drop(vm);
+        assert_eq!(Vm::new(vec![Op::Halt]).run_with_gas(0), Ok(vec![]));
+        assert!(HELD.get() - before <= 1_056 * 1_024 + 100);
+    })
+    .join()
+    .unwrap();
 }
