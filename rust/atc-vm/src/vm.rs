@@ -449,7 +449,7 @@ impl Vm {
     }
 }
 
-// The first n words of a buffer, or of a new one where it has fewer: no run looks at what they hold.
+// The first n words of a buffer, or of a new one where it has fewer. What they hold to begin with does not matter.
 fn first(buffer: &mut Vec<u64>, n: usize) -> &mut [u64] {
     if buffer.len() < n {
         *buffer = vec![0; n];
