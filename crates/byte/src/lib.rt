@@ -1,6 +1,6 @@
-// Tests of a byte, joined with no branch between them.
+// Tests of a byte, joined with no branch between them, and a choice by a test.
 ghost use mathlib.Core.Path.{_≡_};
-ghost use mathlib.Core.Bool.{_&&_, _||_};
+ghost use mathlib.Core.Bool.{cond, _&&_, _||_};
 ghost use Rattle.byte.specs.Range.{within};
 
 pub fn both(a: bool, b: bool) -> bool
@@ -25,4 +25,10 @@ pub fn widen(a: u8) -> u64
     ensures { λ r. ⌜ r ≡ a ⌝ }
 {
     a as u64
+}
+
+pub fn pick(test: bool, yes: u8, no: u8) -> u8
+    ensures { λ r. ⌜ r ≡ cond test yes no ⌝ }
+{
+    if test { yes } else { no }
 }

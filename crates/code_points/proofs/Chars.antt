@@ -1,16 +1,16 @@
 -- The encoding of a character by RFC 3629: a first byte, which is no tail byte and tells how many tail bytes follow.
 use Prim.Native.Nat.{ℕ, _+_, _-_, _*_, _/_, _%_, _<_, _≤_}
-use mathlib.Core.Path.{_≡_, refl, sym, ap, _∙_}
+use mathlib.Core.Path.{_≡_, refl, sym, ap, ap₂, _∙_}
 use mathlib.Core.List.{List, [], _∷_, _++_}
 use mathlib.Core.Bool.{Bool, true, false, cond, _&&_}
 use borrow.Author.Tests.{le-leb, lt-leb}
 use native.Mathlib.Omega.{arith}
 use lib.Dec.{leb}
-use lib.ListN.{length, take}
-use lib.Seq.{take-at}
+use lib.ListN.{length, take, drop}
+use lib.Seq.{take-at, drop-append-seam}
 use Rattle.byte.proofs.Tests.{by-leb, inside, below, above}
 use Rattle.utf8.specs.Utf8.{tail}
-use Rattle.utf8.specs.Encode.{encode}
+use Rattle.utf8.specs.Encode.{encode, encodes, Valid}
 
 abbrev pub tails : List ℕ → Bool
 tails [] = true
@@ -108,3 +108,20 @@ unique c d s t e =
     let n : length (y .rest) ≡ length (x .rest) = y .many ∙ ap following (sym a) ∙ sym (x .many) in
     let r : x .rest ≡ y .rest = sym (take-at (x .rest) s (length (x .rest)) refl) ∙ ap (take (length (x .rest))) b ∙ take-at (y .rest) t (length (x .rest)) n in
     sym (x .code) ∙ rw (a, r) refl ∙ y .code
+
+-- a text is the encoding of one text of characters alone
+some : (d : ℕ) (s : List ℕ) → [] ≡ encode d ++ s → ⊥
+some d s e = let x = char d in omega (arith, ap length (e ∙ ap (λ (l : List ℕ). l ++ s) (x .is)))
+
+pub same-characters : (cs ds : List ℕ) → encodes cs ≡ encodes ds → cs ≡ ds
+same-characters [] [] e = refl
+same-characters [] (d ∷ ds) e = absurd (some d (encodes ds) e)
+same-characters (c ∷ cs) [] e = absurd (some c (encodes cs) (sym e))
+same-characters (c ∷ cs) (d ∷ ds) e =
+    let h = unique c d (encodes cs) (encodes ds) e in
+    let f : encode c ++ encodes cs ≡ encode c ++ encodes ds = e ∙ ap (λ (x : ℕ). encode x ++ encodes ds) (sym h) in
+    let g : encodes cs ≡ encodes ds = sym (drop-append-seam (encode c) (encodes cs)) ∙ ap (drop (length (encode c))) f ∙ drop-append-seam (encode c) (encodes ds) in
+    ap₂ _∷_ h (same-characters cs ds g)
+
+pub same-valid : (s : List ℕ) (v w : Valid s) → v .0 ≡ w .0
+same-valid s v w = same-characters (v .0) (w .0) (sym (v .2) ∙ w .2)

@@ -4,3 +4,4 @@ pub mod White
 pub mod Trim
 pub mod Lines
 pub mod Search
+pub mod Number

@@ -40,7 +40,7 @@ tails-lines (a ∷ l) s e =
     let b = between 0x80 0xBF a (and-left (tail a) (tails l) e) in
     high a (l ++ s) (omega arith) ∙ ap (front a) (tails-lines l s (and-right (tail a) (tails l) e))
 
-ascii : (c : ℕ) → c ≤ 0x7F → encode c ≡ c ∷ []
+pub ascii : (c : ℕ) → c ≤ 0x7F → encode c ≡ c ∷ []
 ascii c h = simp (le-leb c 0x7F h)
 
 -- one character more in front, in code points and in bytes
@@ -52,7 +52,7 @@ front-encodes c [] =
 front-encodes c (l ∷ ls) = sym (fronts-some (encode c) (encodes l) (map encodes ls))
 
 -- a character past ASCII has no byte of ASCII
-lead-high : (c : ℕ) (x : Char c) → 0x7F < c → 0x7F < x .lead
+pub lead-high : (c : ℕ) (x : Char c) → 0x7F < c → 0x7F < x .lead
 lead-high c x h = by-leb (x .lead) 0x7F (λ g. absurd (alone g)) (λ g. g)
   where
     empty : (s : List ℕ) → length s ≡ 0 → s ≡ []

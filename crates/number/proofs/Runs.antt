@@ -1,14 +1,15 @@
 -- The digits from a place on: one after the other, where they end, and the number that they write.
 use Prim.Native.Nat.{ℕ, _+_, _-_, _*_, _^_, _<_, _≤_}
-use mathlib.Core.Path.{_≡_, refl, sym, ap, _∙_}
+use mathlib.Core.Path.{_≡_, refl, sym, ap, ap₂, _∙_}
 use mathlib.Core.List.{List, [], _∷_, _++_, append-nil}
 use mathlib.Core.Bool.{true, false}
 use borrow.Author.Tests.{lt-ltb, le-ltb}
 use native.Mathlib.Omega.{arith}
-use lib.ListN.{length, getD, drop, drop-of-length-le, List·getD-eq-default}
+use lib.ListN.{length, getD, drop, length-drop, drop-of-length-le, List·getD-eq-default}
 use Rattle.byte.proofs.Tests.{never, by-bool, by-leb, and-left, and-right, between}
 use Rattle.byte.proofs.Parts.{next}
 use Rattle.number.specs.Decimal.{digit, allDigits, digits, valueFrom, value, capped, digitsAt}
+use Rattle.number.specs.Zeros.{ZerosTo}
 use Rattle.number.specs.declared.Value.{Value}
 use Rattle.number.specs.declared.Value.the-variants.{Is, TooLarge}
 use Rattle.number.specs.declared.Digits.{Digits}
@@ -55,6 +56,39 @@ module _ (s : List ℕ) (i : ℕ) (e : digit (getD s i 0) ≡ false) where
   pub value-none : (acc : ℕ) → valueFrom acc (digits (drop i s)) ≡ acc
   value-none acc = ap (valueFrom acc) digits-none
 
+pub digits-short : (s : List ℕ) → length (digits s) ≤ length s
+digits-short [] = omega arith
+digits-short (a ∷ s) =
+    let h = digits-short s in
+    by-bool (digit a) (λ e. simp e (omega arith)) (λ e. simp e (omega arith))
+
+-- zeros are passed
+pub no-zeros : (s : List ℕ) (at end : ℕ) → end ≡ at → ZerosTo s at end
+no-zeros s at end e = rw e (record { on = omega arith; stop = refl; same = refl })
+
+pub more-zeros : (s : List ℕ) (at i end : ℕ) → ZerosTo s at i → ZerosTo s i end → ZerosTo s at end
+more-zeros s at i end x y = let h = x .on in let k = y .on in record { on = omega arith; stop = x .stop ∙ y .stop; same = x .same ∙ y .same }
+
+pub one-zero : (s : List ℕ) (i j : ℕ) → i < length s → getD s i 0 ≡ 48 → j ≡ i + 1 → ZerosTo s i j
+one-zero s i j h e n =
+    let d = digit-at s i (ap digit e) in
+    rw n
+    (record {
+      on = omega arith;
+      stop = end-more d;
+      same = value-more d 0 ∙ ap (λ (a : ℕ). valueFrom (0 * 10 + (a - 48)) (digits (drop (i + 1) s))) e;
+    })
+
+module _ (s : List ℕ) (at first : ℕ) (r : Digits) (z : ZerosTo s at first) (e : r ≡ digitsAt s first) where
+  behind-length : first - at + r .len ≡ length (digits (drop at s))
+  behind-length = let h = z .on in omega (arith, ap (λ (d : Digits). d .len) e, z .stop)
+
+  pub behind-fits : first - at + r .len ≤ length s
+  behind-fits = omega (arith, behind-length, digits-short (drop at s), length-drop at s)
+
+  pub behind-zeros : _≡_ {A = Digits} (record { len = first - at + r .len; value = r .value }) (digitsAt s at)
+  behind-zeros = ap₂ (λ n v. record { len = n; value = v }) behind-length (ap (λ (d : Digits). d .value) e ∙ ap capped (sym (z .same)))
+
 -- a value only grows
 grows : (n : ℕ) (s : List ℕ) → n ≤ valueFrom n s
 grows n [] = omega arith
@@ -77,12 +111,6 @@ digits-append (a ∷ s) t e =
 
 pub digits-own : (s : List ℕ) → allDigits s ≡ true → digits s ≡ s
 digits-own s e = ap digits (sym (append-nil s)) ∙ digits-append s [] e ∙ append-nil s
-
-pub digits-short : (s : List ℕ) → length (digits s) ≤ length s
-digits-short [] = omega arith
-digits-short (a ∷ s) =
-    let h = digits-short s in
-    by-bool (digit a) (λ e. simp e (omega arith)) (λ e. simp e (omega arith))
 
 -- the digits are the whole text where they are as long
 pub digits-whole : (s : List ℕ) → length s ≤ length (digits s) → allDigits s ≡ true

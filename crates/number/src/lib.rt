@@ -5,6 +5,8 @@ ghost use lib.Dec.{ltb};
 ghost use lib.ListN.{length, getD, drop};
 ghost use Rattle.number.specs.Decimal.{digit, digits, digitsAt, withoutPlus, numberOf};
 ghost use Rattle.number.specs.Decimal.{decimal, put, writtenAt, bufferAfter};
+ghost use Rattle.number.specs.Zeros.{ZerosTo, ZerosAt};
+use byte::both;
 use byte::in_range;
 use byte::widen;
 
@@ -28,11 +30,25 @@ pub enum Written {
     NoRoom,
 }
 
+// How many zeros a block has.
+const BLOCK: usize = 16;
+
 // 2^64 - 1 is ten times this and 5.
 const TENTH: u64 = 1844674407370955161;
 
 // The digits from a place on: how many, and the number they write or that it is too large.
 pub fn digits_at(s: &[u8], at: usize) -> Digits
+    ensures { λ r. ⌜ r ≡ digitsAt (now (s .entry)) at ⌝ }
+{
+    let first = pass_zeros(s, at);
+    let run = few_digits_at(s, first);
+    let len = first - at + run.len;
+    let value = run.value;
+    Digits { len, value }
+}
+
+// The same, quicker where the digits are few.
+pub fn few_digits_at(s: &[u8], at: usize) -> Digits
     ensures { λ r. ⌜ r ≡ digitsAt (now (s .entry)) at ⌝ }
 {
     let mut acc: u64 = 0;
@@ -125,6 +141,53 @@ fn digits_end(s: &[u8], at: usize) -> usize
         i += 1;
     }
     i
+}
+
+// Passes blocks of zeros. Most numbers don't start with one.
+fn pass_zeros(s: &[u8], at: usize) -> usize
+    ensures { λ r. ⌜ ZerosTo (now (s .entry)) at r ⌝ }
+{
+    if !is_zero_at(s, at) {
+        return at;
+    }
+    let mut i = at;
+    while zeros_at(s, i) {
+        i += BLOCK;
+    }
+    i
+}
+
+fn is_zero_at(s: &[u8], at: usize) -> bool {
+    if at < s.len() {
+        return s[at] == b'0';
+    }
+    false
+}
+
+// Whether a block of zeros stands at a place.
+fn zeros_at(s: &[u8], at: usize) -> bool
+    ensures { λ r. ⌜ ZerosAt (now (s .entry)) at 16 r ⌝ }
+{
+    if s.len() < BLOCK {
+        return false;
+    }
+    if s.len() - BLOCK < at {
+        return false;
+    }
+    all_zeros(s, at, BLOCK)
+}
+
+fn all_zeros(s: &[u8], at: usize, n: usize) -> bool
+    requires { ⌜ at + n ≤ length (now s) ⌝ }
+    ensures { λ r. ⌜ ZerosAt (now (s .entry)) at n r ⌝ }
+{
+    let mut zeros = true;
+    let mut k: usize = 0;
+    while k < n {
+        zeros = both(zeros, s[at + k] == b'0');
+        k += 1;
+    }
+    zeros
 }
 
 // Whether a number with one digit more is below 2^64.

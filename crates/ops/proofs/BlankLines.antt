@@ -16,7 +16,7 @@ use Rattle.lines.specs.Cursor.{feedFrom, span, headOf, firstLine}
 use Rattle.lines.proofs.Written.{free-cons, free-append, line-then}
 use Rattle.lines.proofs.Cursor.{fed}
 use Rattle.trim.specs.Trim.{white1, startTrimmed, endTrimmed, trimmed}
-use Rattle.trim.specs.Blank.{blanksLen, blanksEnd}
+use Rattle.trim.specs.Blank.{blanksLen}
 use Rattle.trim.proofs.Laws.{start-stays}
 use Rattle.trim.proofs.Suffix.{end-start}
 use Rattle.trim.proofs.Blanks.{Blank, none, one, three, Blanks, blanks, no-blank, wide, start-blank, end-blank}

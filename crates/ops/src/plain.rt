@@ -138,7 +138,7 @@ fn operand(text: &[u8], at: usize, fits: bool, kind: u8, digits: usize) -> Plain
     if !fits {
         return Plain::Other;
     }
-    let run = number::digits_at(text, digits);
+    let run = number::few_digits_at(text, digits);
     let len = run.len;
     if len == 0 {
         return Plain::Other;

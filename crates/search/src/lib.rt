@@ -2,6 +2,7 @@
 // Whole blocks of places are passed by tests that have no branch and compile to vector code.
 use byte::both;
 use byte::either;
+use byte::pick;
 ghost use mathlib.Core.Path.{_≡_};
 ghost use mathlib.Core.List.{[], _∷_};
 ghost use mathlib.Core.Bool.{true, cond};
@@ -69,12 +70,6 @@ fn smaller(a: u8, b: u8) -> u8
     if a < b { a } else { b }
 }
 
-fn pick(test: bool, yes: u8, no: u8) -> u8
-    ensures { λ r. ⌜ r ≡ cond test yes no ⌝ }
-{
-    if test { yes } else { no }
-}
-
 pub fn starts_with(s: &[u8], p: &[u8], at: usize) -> bool
     ensures { λ r. ⌜ r ≡ prefixOf (now (p .entry)) (drop at (now (s .entry))) ⌝ }
 {
@@ -123,7 +118,7 @@ fn pass_blocks(s: &[u8], b: u8, at: usize) -> usize
     block
 }
 
-// Whether b is among the n bytes from a place on.
+// No only where b is not among the n bytes from a place on.
 fn has_byte(s: &[u8], b: u8, at: usize, n: usize) -> bool
     requires { ⌜ at + n ≤ length (now s) ⌝ }
     ensures { λ r. ⌜ Clear (b ∷ []) (now (s .entry)) at (at + n) r ⌝ }
@@ -180,7 +175,7 @@ fn may_stand(s: &[u8], p: &[u8], at: usize, end: usize) -> bool
     any_agrees(s, p, at, BLOCK)
 }
 
-// Whether p agrees at one of the n places from a place on.
+// No only where p agrees at none of the n places from a place on.
 fn any_agrees(s: &[u8], p: &[u8], at: usize, n: usize) -> bool
     requires { ⌜ Places (now p) (now s) at (at + n) ⌝ }
     ensures { λ r. ⌜ Clear (now (p .entry)) (now (s .entry)) at (at + n) r ⌝ }

@@ -9,7 +9,7 @@ use native.Mathlib.Nat.{le-trans}
 use Rattle.byte.proofs.Parts.{next}
 use Rattle.byte.proofs.Tests.{by-leb}
 use Rattle.utf8.specs.Utf8.{utf8, two, three, four}
-use Rattle.utf8.specs.Passed.{Step, Largest}
+use Rattle.utf8.specs.Passed.{Step, Bound}
 use Rattle.utf8.proofs.Lead.{one-is, two-is, three-is, four-is, two-short, three-short, four-short}
 
 module _ (s : List ℕ) (at : ℕ) (h : at < length s) where
@@ -67,11 +67,11 @@ module _ (s : List ℕ) (at : ℕ) (h : at < length s) where
   short-four g a = missing (ap utf8 first ∙ four-short (getD s at 0) (drop (at + 1) s) a (left 3 g))
 
 -- bytes that are ASCII are passed
-pub ascii : (n : ℕ) (s : List ℕ) (at m : ℕ) → at + n ≤ length s → Largest s at n m → m ≤ 0x7F → utf8 (drop at s) ≡ utf8 (drop (at + n) s)
+pub ascii : (n : ℕ) (s : List ℕ) (at m : ℕ) → at + n ≤ length s → Bound s at n m → m ≤ 0x7F → utf8 (drop at s) ≡ utf8 (drop (at + n) s)
 ascii zero s at m h l e = let z : at ≡ at + 0 = omega arith in ap (λ (k : ℕ). utf8 (drop k s)) z
 ascii (suc n) s at m h l e =
     let b : getD s at 0 ≤ m = let y = l .most 0 (omega arith) in let z : at + 0 ≡ at = omega arith in rw z at y in
-    let up : Largest s (at + 1) n m =
+    let up : Bound s (at + 1) n m =
     record { most = λ k g. let y = l .most (suc k) (omega arith) in let z : at + suc k ≡ at + 1 + k = omega arith in rw z at y } in
     let w : at + 1 + n ≡ at + suc n = omega arith in
     ap utf8 (next s at (at + 1) (omega arith) refl)
@@ -79,9 +79,9 @@ ascii (suc n) s at m h l e =
     ∙ ascii n s (at + 1) m (omega arith) up e
     ∙ ap (λ (k : ℕ). utf8 (drop k s)) w
 
-pub none-larger : (s : List ℕ) (at : ℕ) → Largest s at 0 0
+pub none-larger : (s : List ℕ) (at : ℕ) → Bound s at 0 0
 none-larger s at = record { most = λ k g. absurd (omega arith) }
 
 -- one byte more
-pub one-larger : (s : List ℕ) (at n m r : ℕ) → Largest s at n m → m ≤ r → getD s (at + n) 0 ≤ r → Largest s at (n + 1) r
+pub one-larger : (s : List ℕ) (at n m r : ℕ) → Bound s at n m → m ≤ r → getD s (at + n) 0 ≤ r → Bound s at (n + 1) r
 one-larger s at n m r l p q = record { most = λ k g. by-leb (suc k) n (λ h. le-trans (l .most k h) p) (λ h. let z : k ≡ n = omega arith in rw z q) }

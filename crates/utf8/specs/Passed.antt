@@ -20,7 +20,7 @@ pub record Passed (s : List ℕ) (at end next : ℕ) : Type 0 where
   pub stopped : next < end → utf8 (drop next s) ≡ false
 
 -- m is at least each of the n bytes from at on
-pub record Largest (s : List ℕ) (at n m : ℕ) : Type 0 where
+pub record Bound (s : List ℕ) (at n m : ℕ) : Type 0 where
   pub most : (k : ℕ) → k < n → getD s (at + k) 0 ≤ m
 
 -- where it is said, n bytes are passed

@@ -2,12 +2,13 @@
 use byte::both;
 use byte::either;
 use byte::in_range;
+use byte::pick;
 ghost use mathlib.Core.Path.{_≡_};
 ghost use mathlib.Core.Bool.{true, cond};
 ghost use Prim.Native.Nat.{ℕ, _+_, _≤_, _<_};
 ghost use lib.ListN.{length, getD};
 ghost use Rattle.utf8.specs.Utf8.{utf8, tail, two, three, four};
-ghost use Rattle.utf8.specs.Passed.{Step, Passed, Largest, Ascii};
+ghost use Rattle.utf8.specs.Passed.{Step, Passed, Bound, Ascii};
 ghost use Rattle.utf8.specs.Windows.{opened, follows, Follow};
 
 pub fn is_utf8(s: &[u8]) -> bool
@@ -152,10 +153,10 @@ fn is_ascii(s: &[u8], at: usize, n: usize) -> bool
     largest(s, at, n) <= 0x7F
 }
 
-// The largest of the n bytes from a position on.
+// A bound of the n bytes from a position on: the largest of them.
 fn largest(s: &[u8], at: usize, n: usize) -> u8
     requires { ⌜ at + n ≤ length (now s) ⌝ }
-    ensures { λ r. ⌜ Largest (now (s .entry)) at n r ⌝ }
+    ensures { λ r. ⌜ Bound (now (s .entry)) at n r ⌝ }
 {
     let mut most: u8 = 0;
     let mut k: usize = 0;
@@ -280,10 +281,4 @@ fn is_four(a: u8, b: u8, c: u8, d: u8) -> bool
     let hi = pick(a == 0xF4, 0x8F, 0xBF);
     let tails = both(is_tail(c), is_tail(d));
     both(a <= 0xF4, both(in_range(lo, hi, b), tails))
-}
-
-fn pick(test: bool, yes: u8, no: u8) -> u8
-    ensures { λ r. ⌜ r ≡ cond test yes no ⌝ }
-{
-    if test { yes } else { no }
 }

@@ -1,10 +1,9 @@
 -- `trim::blanks_end` meets its contract: what is left ends where the whole does.
 -- Assumes nothing.
-use Prim.Native.Nat.{ℕ, _+_, _-_, _≤_}
-use mathlib.Core.Path.{_≡_, refl, ap, _∙_}
-use mathlib.Core.List.{List}
+use Prim.Native.Nat.{_-_}
+use mathlib.Core.Path.{_≡_, refl, ap}
 use native.Mathlib.Omega.{arith}
-use lib.ListN.{length, drop, drop-of-length-le}
+use lib.ListN.{length, drop-of-length-le}
 use denote.Ref.{now}
 use Rattle.trim.specs.Blank.{blanksLen, blanksEnd}
 use borrow.Author.Needs.{needs}

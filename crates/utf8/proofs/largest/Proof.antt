@@ -4,14 +4,14 @@ use Prim.Native.Nat.{_-_, _≤_}
 use mathlib.Core.Path.{_≡_}
 use native.Mathlib.Omega.{arith}
 use denote.Ref.{now}
-use Rattle.utf8.specs.Passed.{Largest}
+use Rattle.utf8.specs.Passed.{Bound}
 use Rattle.utf8.proofs.Laws.{none-larger, one-larger}
 use borrow.Author.Needs.{needs}
 use Rattle.utf8.proofs.largest.Statement.{statement}
 use Rattle.utf8.proofs.largest.Tie as tie
 
 abbrev Inv-loop : tie.InvT-loop
-Inv-loop s at n most₀ k₀ most k = (k ≤ n) × (Largest s at k most)
+Inv-loop s at n most₀ k₀ most k = (k ≤ n) × (Bound s at k most)
 
 abbrev μ-loop : tie.MeasureT-loop
 μ-loop s at n most₀ k₀ most k = n - k

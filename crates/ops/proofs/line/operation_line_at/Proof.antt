@@ -1,6 +1,6 @@
 -- `line::operation_line_at` meets its contract: an operation between White_Space, up to the line feed, is what the line says.
 -- Assumes nothing.
-use mathlib.Core.Path.{refl, sym, subst, _∙_}
+use mathlib.Core.Path.{sym, subst, _∙_}
 use borrow.Author.Tests.{not-false}
 use native.Mathlib.Omega.{arith}
 use denote.Ref.{now}

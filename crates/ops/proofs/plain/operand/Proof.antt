@@ -14,8 +14,8 @@ use Rattle.ops.proofs.plain.operand.Tie as tie
 returns : tie.Need-returns
 returns c = tt
 
-digits-at-requires : tie.Need-digits-at-requires
-digits-at-requires c κs = search needs
+few-digits-at-requires : tie.Need-few-digits-at-requires
+few-digits-at-requires c κs = search needs
 
 returns-2 : tie.Need-returns-2
 returns-2 c = tt
@@ -33,7 +33,7 @@ add-t11 : tie.Need-add-t11
 add-t11 c =
     let a = c .before .before .before .before .before .before .before .args in
     let text = now (a .text) in
-    let n = ap (λ (r : Digits). r .len) (c .before .before .before .before .digits-at .ensures) in
+    let n = ap (λ (r : Digits). r .len) (c .before .before .before .before .few-digits-at .ensures) in
     let w = run-within text (a .digits) (omega (arith, c .before .before .before .if2 .left)) in
     let g = c .before .before .before .before .before .before .before .good .0 .1 in record { fits = omega arith }
 
@@ -41,10 +41,10 @@ returns-4 : tie.Need-returns-4
 returns-4 c =
     let a = c .before .before .before .before .before .before .before .args in
     let text = now (a .text) in
-    let n = ap (λ (r : Digits). r .len) (c .before .before .before .before .digits-at .ensures) in
+    let n = ap (λ (r : Digits). r .len) (c .before .before .before .before .few-digits-at .ensures) in
     operand-read text (a .at) (a .kind) (a .digits) (c .before .before .before .before .before .before .before .pre (not-false _ (c .before .before .before .before .before .if1 .left))) _ _
     (omega (arith, c .before .before .before .if2 .left))
-    (sym (ap (λ (r : Digits). r .value) (c .before .before .before .before .digits-at .ensures)) ∙ c .before .value .given .1)
+    (sym (ap (λ (r : Digits). r .value) (c .before .before .before .before .few-digits-at .ensures)) ∙ c .before .value .given .1)
     (ap (λ (i : ℕ). a .digits + i) n)
 
 pub operand-spec : {M : Type 1} → statement M
@@ -52,7 +52,7 @@ operand-spec =
     tie.close
     (tie.spec
     returns
-    digits-at-requires
+    few-digits-at-requires
     returns-2
     enum-known-value
     enum-told
