@@ -1,7 +1,6 @@
 pub mod Laws
 pub mod Blocks
-pub mod Copies
-pub mod Reach
+pub mod Needed
 pub mod Ends
 pub mod Refusals
 pub mod Transitions

@@ -1,6 +1,6 @@
 pub mod Verify
 pub mod Blocks
 pub mod Numbers
-pub mod Reach
+pub mod Needed
 pub mod Transition
 pub mod Refusals

@@ -1,11 +1,13 @@
-// The run behind the tests of lengths and gate: it works in the work buffer on those of the used slots that the program
-// can reach, and the storage is written once, when the run has succeeded.
+// The run behind the tests of lengths and gate: it works in the work buffer on those of the used slots that it needs, and
+// the storage is written once, when the run has succeeded.
 ghost use mathlib.Core.Path.{_≡_};
-ghost use Prim.Native.Nat.{_+_, _≤_};
-ghost use lib.ListN.{length, take, drop};
+ghost use Prim.Native.Nat.{_≤_};
+ghost use lib.ListN.{length};
+ghost use Rattle.machine.specs.Machine.{Outcome};
+ghost use Rattle.machine.specs.Alike.{AlikeBut};
 ghost use Rattle.machine.specs.Registers.{outcomeOf, Held};
 ghost use Rattle.vm.specs.Verify.{verifyOf};
-ghost use Rattle.vm.specs.Reach.{widenedOutcome};
+ghost use Rattle.vm.specs.Needed.{Serves};
 ghost use Rattle.vm.specs.Transition.{Meets, Lent, performed, afterCheck, untouched, ofRun};
 use super::Answer;
 use super::Check;
@@ -58,33 +60,33 @@ fn run(
     ensures { λ a. ⌜ Meets (performed (now (kinds .entry)) (now (operands .entry)) caller «gas_limit» (now (stack .entry)) (now (storage .entry)) state) state a (now (stack .exit)) (now (work .exit)) (now (storage .exit)) ⌝ }
 {
     let used = state.used;
-    let reach = slots::reach(kinds, operands, used);
-    buffers::copy_front(work, storage, reach);
+    slots::copy_needed(work, storage, kinds, operands, used);
     let from = Regs {
         pos: 0,
         gas: gas_limit,
         items: 0,
-        used: reach,
+        used,
         ops: 0,
         code: 0,
         note: 0,
     };
     let r = metered::run(kinds, operands, caller, stack, work, from);
-    finish(gas_limit, r, used - reach, stack, work, storage, state)
+    finish(kinds, operands, gas_limit, r, stack, work, storage, state)
 }
 
-// The answer of a run that has ended, and what it leaves in the buffers. Behind the slots that it used, `more` are in use.
+// The answer of a run that has ended, and what it leaves in the buffers.
 fn finish(
+    kinds: &[u8],
+    operands: &[u64],
     gas_limit: u64,
     r: Regs,
-    more: usize,
     stack: &mut [u64],
     work: &mut [u64],
     storage: &mut [u64],
     state: State,
 ) -> Answer
-    requires { ⌜ (length (now work) ≡ length (now storage)) × (4096 ≤ length (now stack)) × Held (length (now work)) r × (1 ≤ r .code) × (r .gas ≤ «gas_limit») × (r .code ≡ 1 → r .used + more ≤ length (now storage)) ⌝ }
-    ensures { λ a. ⌜ Meets (ofRun «gas_limit» state (length (now (stack .entry))) (now (storage .entry)) (widenedOutcome (take more (drop (r .used) (now (storage .entry)))) (outcomeOf (now (stack .entry)) (now (work .entry)) r))) state a (now (stack .exit)) (now (work .exit)) (now (storage .exit)) ⌝ }
+    requires { ⌜ Lent (now kinds) (now operands) (now stack) (now work) (now storage) (state .used) × Held (length (now work)) r × (1 ≤ r .code) × (r .gas ≤ «gas_limit») ⌝ }
+    ensures { λ a. ⌜ ((o : Outcome) → AlikeBut (Serves (now (kinds .entry)) (now (operands .entry)) (state .used) (now (storage .entry))) (outcomeOf (now (stack .entry)) (now (work .entry)) r) o → Meets (ofRun «gas_limit» state (length (now (stack .entry))) (now (storage .entry)) o) state a (now (stack .exit)) (now (work .exit)) (now (storage .exit))) ⌝ }
 {
     if r.code != 1 {
         buffers::clear_from(stack, 0);
@@ -94,12 +96,14 @@ fn finish(
     let items = r.items;
     let used = r.used;
     buffers::clear_from(stack, items);
-    buffers::copy_front(storage, work, used);
+    let before = state.used;
+    slots::copy_needed(storage, work, kinds, operands, before);
+    buffers::copy_part(storage, work, before, used);
     buffers::clear_from(work, 0);
     Answer::Success {
         gas_spent: gas_limit - r.gas,
         operations: r.ops,
         items,
-        state: State { used: used + more },
+        state: State { used },
     }
 }

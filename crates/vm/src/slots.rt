@@ -1,36 +1,47 @@
-// How many of the used slots a program can reach.
+// Copies, between storage and work buffer, of the used slots that a run needs. `run` and `finish` call them behind the
+// test of lengths (34).
 ghost use mathlib.Core.Path.{_≡_};
-ghost use Prim.Native.Nat.{_<_, _≤_};
+ghost use mathlib.Core.Bool.{_&&_};
+ghost use Prim.Native.Nat.{_≤_};
+ghost use lib.Dec.{ltb};
 ghost use lib.ListN.{length};
-ghost use Rattle.vm.specs.Reach.{Enough, Reaches};
+ghost use Rattle.machine.specs.Operation.{opOf};
+ghost use Rattle.vm.specs.Needed.{Copied, names, named, needed};
+use super::buffers;
 
-// Of the used slots those below the result are all that the program names. Where it has more operations than an eighth
-// of the used slots, to look at it is no gain over copying them, and all of them are taken. `run` calls it behind the test of lengths (34).
-pub fn reach(kinds: &[u8], operands: &[u64], used: usize) -> usize
-    requires { ⌜ length (now kinds) ≡ length (now operands) ⌝ }
-    ensures { λ r. ⌜ Reaches (now (kinds .entry)) (now (operands .entry)) (length (now (kinds .entry))) used r ⌝ }
+// Where the program has more operations than an eighth of the used slots, to look at it is no gain over copying them all.
+pub fn copy_needed(d: &mut [u64], s: &[u64], kinds: &[u8], operands: &[u64], used: usize)
+    requires { ⌜ (length (now kinds) ≡ length (now operands)) × (used ≤ length (now d)) × (used ≤ length (now s)) ⌝ }
+    ensures { λ _. ⌜ Copied (λ j. needed (now (kinds .entry)) (now (operands .entry)) used j && ltb j used) (now (s .entry)) (now (d .entry)) (now (d .exit)) ⌝ }
 {
     if kinds.len() > used / 8 {
-        return used;
+        buffers::copy_part(d, s, 0, used);
+        return;
     }
-    let mut n: usize = 0;
-    let mut i: usize = 0;
-    while i < kinds.len() {
-        n = reach_with(kinds[i], operands[i], used, n);
-        i += 1;
-    }
-    n
+    copy_named(d, s, kinds, operands, used);
 }
 
-// The reach n with one operation more.
-fn reach_with(kind: u8, operand: u64, used: usize, n: usize) -> usize
-    requires { ⌜ n ≤ used ⌝ }
-    ensures { λ r. ⌜ (n ≤ r) × Enough kind operand used r ⌝ }
+// Only the slots that the program names.
+fn copy_named(d: &mut [u64], s: &[u64], kinds: &[u8], operands: &[u64], used: usize)
+    requires { ⌜ (length (now kinds) ≡ length (now operands)) × (used ≤ length (now d)) × (used ≤ length (now s)) ⌝ }
+    ensures { λ _. ⌜ Copied (λ j. named (now (kinds .entry)) (now (operands .entry)) (length (now (kinds .entry))) j && ltb j used) (now (s .entry)) (now (d .entry)) (now (d .exit)) ⌝ }
+{
+    let mut i: usize = 0;
+    while i < kinds.len() {
+        copy_slot(d, s, kinds[i], operands[i], used);
+        i += 1;
+    }
+}
+
+// The slot that one operation names, if it names one and that is used.
+fn copy_slot(d: &mut [u64], s: &[u64], kind: u8, operand: u64, used: usize)
+    requires { ⌜ (used ≤ length (now d)) × (used ≤ length (now s)) ⌝ }
+    ensures { λ _. ⌜ Copied (λ j. names (opOf kind operand) j && ltb j used) (now (s .entry)) (now (d .entry)) (now (d .exit)) ⌝ }
 {
     let slot = operand as usize;
-    let names = byte::either(kind == 11, kind == 12);
-    if !byte::both(names, slot >= n) {
-        return n;
+    if byte::either(kind == 11, kind == 12) {
+        if slot < used {
+            d[slot] = s[slot];
+        }
     }
-    if slot < used { slot + 1 } else { used }
 }

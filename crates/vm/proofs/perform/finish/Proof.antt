@@ -27,24 +27,25 @@ same-length-2 c = search needs
 
 returns : tie.Need-returns
 returns c =
-    let a = c .before .before .before .before .before .before .before .before .before .before .before .before .before .before .args in
-    let p = c .before .before .before .before .before .before .before .before .before .before .before .before .before .before .pre in
-    undone-by (a .gas-limit) (a .state) (a .r) (a .stack .now) (a .work .now) (a .storage .now) _ _ (p .0) (c .before .before .before .clear-from2 .ensures) _ (c .refusal-of .result) (above (a .r .code) (p .3) (c .before .before .before .before .before .before .before .before .before .if1 .taken)) (c .refusal-of .ensures) (c .before .before .before .before .before .before .before .clear-from .ensures)
+    let a = c .before .before .before .before .before .before .before .before .before .before .before .before .before .before .before .before .args in
+    let p = c .before .before .before .before .before .before .before .before .before .before .before .before .before .before .before .before .pre in
+    λ o like.
+    undone-by (a .gas-limit) (a .state) (a .r) (a .stack .now) (a .work .now) (a .storage .now) _ _ (p .0 .same) (c .before .before .before .clear-from2 .ensures) (a .kinds .now) (a .operands .now) o like (c .refusal-of .result) (above (a .r .code) (p .2) (c .before .before .before .before .before .before .before .before .before .if1 .taken)) (c .refusal-of .ensures) (c .before .before .before .before .before .before .before .clear-from .ensures)
 
 clear-from-requires-3 : tie.Need-clear-from-requires-3
-clear-from-requires-3 c κs = omega (arith, c .before .before .before .before .before .before .pre)
+clear-from-requires-3 c κs = search needs
 
-copy-front-requires : tie.Need-copy-front-requires
-copy-front-requires c κs = omega (arith, c .before .before .before .before .before .before .before .before .before .before .before .pre)
+copy-needed-requires : tie.Need-copy-needed-requires
+copy-needed-requires c κs = search needs
+
+copy-part-requires : tie.Need-copy-part-requires
+copy-part-requires c κs = search needs
 
 clear-from-requires-4 : tie.Need-clear-from-requires-4
 clear-from-requires-4 c κs = search needs
 
-sub-t26 : tie.Need-sub-t26
-sub-t26 c = c .before .before .before .before .before .before .before .before .before .before .before .before .before .before .before .before .before .before .before .pre .4
-
-add-t27 : tie.Need-add-t27
-add-t27 c = let p = c .before .before .before .before .before .before .before .before .before .before .before .before .before .before .before .before .before .before .before .pre in omega (arith, p .5 (c .before .before .before .before .before .before .before .before .before .before .before .before .before .before .if1 .left))
+sub-t32 : tie.Need-sub-t32
+sub-t32 c = c .before .before .before .before .before .before .before .before .before .before .before .before .before .before .before .before .before .before .before .before .before .before .before .before .before .before .pre .3
 
 same-length-3 : tie.Need-same-length-3
 same-length-3 c = search needs
@@ -57,9 +58,10 @@ same-length-5 c = search needs
 
 returns-2 : tie.Need-returns-2
 returns-2 c =
-    let a = c .before .before .before .before .before .before .before .before .before .before .before .before .before .before .before .before .before .before .before .args in
-    let p = c .before .before .before .before .before .before .before .before .before .before .before .before .before .before .before .before .before .before .before .pre in
-    succeeded (a .gas-limit) (a .state) (a .r) (a .stack .now) (a .work .now) (a .storage .now) _ _ (p .0) (c .before .before .before .clear-from4 .ensures) (a .more) _ (c .before .before .before .before .before .before .before .before .before .before .before .before .before .before .if1 .left) (omega (arith, p)) (p .2 .used) (p .5 (c .before .before .before .before .before .before .before .before .before .before .before .before .before .before .if1 .left)) (c .before .before .before .before .before .before .before .before .before .before .before .before .clear-from3 .ensures) (c .before .before .before .before .before .before .before .copy-front .ensures)
+    let a = c .before .before .before .before .before .before .before .before .before .before .before .before .before .before .before .before .before .before .before .before .before .before .before .before .before .before .args in
+    let p = c .before .before .before .before .before .before .before .before .before .before .before .before .before .before .before .before .before .before .before .before .before .before .before .before .before .before .pre in
+    λ o like.
+    succeeded (a .gas-limit) (a .state) (a .r) (a .stack .now) (a .work .now) (a .storage .now) _ _ (p .0 .same) (c .before .before .before .clear-from4 .ensures) (a .kinds .now) (a .operands .now) o like _ _ (c .before .before .before .before .before .before .before .before .before .before .before .before .before .before .before .before .before .before .before .if1 .left) (omega (arith, p)) (p .1 .used) (c .before .before .before .before .before .before .before .before .before .before .before .before .before .before .before .before .before .clear-from3 .ensures) (c .before .before .before .before .before .before .before .before .before .before .before .before .copy-needed .ensures) (c .before .before .before .before .before .before .before .copy-part .ensures)
 
 pub finish-spec : {M : Type 1} → statement M
 finish-spec =
@@ -72,10 +74,10 @@ finish-spec =
     same-length-2
     returns
     clear-from-requires-3
-    copy-front-requires
+    copy-needed-requires
+    copy-part-requires
     clear-from-requires-4
-    sub-t26
-    add-t27
+    sub-t32
     same-length-3
     same-length-4
     same-length-5

@@ -1,37 +1,30 @@
--- `perform::run` meets its contract: the run on the copy in the work buffer is the run on the storage.
+-- `perform::run` meets its contract: the run on the slots copied into the work buffer is the run on the storage.
 use Prim.Native.Nat.{_+_}
 use mathlib.Core.Path.{_∙_}
 use native.Mathlib.Omega.{arith}
+use lib.ListN.{length, take}
 use Rattle.machine.specs.Operation.{decode}
-use Rattle.vm.proofs.Ends.{on-copy, carried}
-use Rattle.vm.proofs.Reach.{reached, reached-within}
+use Rattle.machine.specs.Machine.{whole}
+use Rattle.vm.proofs.Needed.{served}
+use Rattle.vm.proofs.Ends.{on-work, carried}
 use borrow.Author.Needs.{needs}
 use Rattle.vm.proofs.perform.run.Statement.{statement}
 use Rattle.vm.proofs.perform.run.Tie as tie
 
-reach-requires : tie.Need-reach-requires
-reach-requires c κs = search needs
-
-copy-front-requires : tie.Need-copy-front-requires
-copy-front-requires c κs = search needs
+copy-needed-requires : tie.Need-copy-needed-requires
+copy-needed-requires c κs = search needs
 
 run-requires : tie.Need-run-requires
-run-requires c κs = let p = c .before .before .before .before .before .before .before .before .before .before .before .before .before .pre in (p .program, omega (arith, p, c .before .before .before .before .before .before .before .reach .ensures))
-
-sub-finish : tie.Need-sub-finish
-sub-finish c = search needs
+run-requires c κs = let p = c .before .before .before .before .before .before .before .before .before .before .before .before .pre in (p .program, omega (arith, p, c .before .before .before .before .copy-needed .kept .0))
 
 finish-requires : tie.Need-finish-requires
 finish-requires c κs =
-    let a = c .before .before .before .before .before .before .before .before .before .before .before .before .before .before .before .before .before .before .before .before .before .args in
-    let p = c .before .before .before .before .before .before .before .before .before .before .before .before .before .before .before .before .before .before .before .before .before .pre in
+    let p = c .before .before .before .before .before .before .before .before .before .before .before .before .before .before .before .before .before .before .before .before .pre in
     let r = c .before .before .before .before .before .before .before .run in
-    let f = c .before .before .before .before .before .before .before .before .before .before .before .before .copy-front in
-    let n = c .before .before .before .before .before .before .before .before .before .before .before .before .before .before .before .reach in
-    let same = r .kept .1 .1 .1 .1 .0 ∙ f .kept .0 ∙ p .same in
-    let e = on-copy (decode (a .kinds .now) (a .operands .now)) (a .caller) (a .gas-limit) (n .result) (a .stack .now) (a .storage .now) (a .work .now) (f .last .0) _ (f .ensures) (p .same) (omega (arith, p, n .ensures)) (r .ensures .outcome (a .gas-limit + 1) (omega arith)) in
-    let within = reached-within (a .kinds .now) (a .operands .now) (a .caller) (a .gas-limit) (a .state .used) (n .result) (r .last .1 .1 .1 .0) (r .last .1 .1 .1 .1 .0) (a .storage .now) (r .result) (n .ensures) (p .program) (p .within) (omega (arith, r .ensures .held .used, r .kept .1 .1 .1 .1 .0)) e same in
-    (same, omega (arith, p .stack, r .kept .1 .1 .1 .0), rw (r .kept .1 .1 .1 .1 .0) (r .ensures .held), r .ensures .over, r .ensures .gas, within)
+    let f = c .before .before .before .before .before .before .before .before .before .before .before .before .copy-needed in
+    let work = r .kept .1 .1 .1 .1 .0 in
+    let stack = r .kept .1 .1 .1 .0 in
+    (record { program = p .program; stack = omega (arith, p .stack, stack); same = work ∙ f .kept .0 ∙ p .same; within = p .within }, rw work (r .ensures .held), r .ensures .over, r .ensures .gas)
 
 same-length : tie.Need-same-length
 same-length c = search needs
@@ -44,23 +37,23 @@ same-length-3 c = search needs
 
 returns : tie.Need-returns
 returns c =
-    let a = c .before .before .before .before .before .before .before .before .before .before .before .before .before .before .before .before .before .before .before .before .before .before .before .before .before .before .before .before .args in
-    let p = c .before .before .before .before .before .before .before .before .before .before .before .before .before .before .before .before .before .before .before .before .before .before .before .before .before .before .before .before .pre in
+    let a = c .before .before .before .before .before .before .before .before .before .before .before .before .before .before .before .before .before .before .before .before .before .before .before .before .before .before .before .args in
+    let p = c .before .before .before .before .before .before .before .before .before .before .before .before .before .before .before .before .before .before .before .before .before .before .before .before .before .before .before .pre in
     let r = c .before .before .before .before .before .before .before .before .before .before .before .before .before .before .run in
-    let f = c .before .before .before .before .before .before .before .before .before .before .before .before .before .before .before .before .before .before .before .copy-front in
-    let n = c .before .before .before .before .before .before .before .before .before .before .before .before .before .before .before .before .before .before .before .before .before .before .reach in
-    let e = on-copy (decode (a .kinds .now) (a .operands .now)) (a .caller) (a .gas-limit) (n .result) (a .stack .now) (a .storage .now) (a .work .now) (f .last .0) _ (f .ensures) (p .same) (omega (arith, p, n .ensures)) (r .ensures .outcome (a .gas-limit + 1) (omega arith)) in
-    let q = reached (a .kinds .now) (a .operands .now) (a .caller) (a .gas-limit) (a .state .used) (n .result) (r .last .1 .1 .1 .0) (r .last .1 .1 .1 .1 .0) (a .storage .now) (r .result) (n .ensures) (p .program) (p .within) (omega (arith, r .ensures .held .used, r .kept .1 .1 .1 .1 .0)) e in
-    carried (a .gas-limit) (a .state) (a .storage .now) (r .kept .1 .1 .1 .0) q (c .before .before .before .before .before .before .finish .ensures)
+    let f = c .before .before .before .before .before .before .before .before .before .before .before .before .before .before .before .before .before .before .before .copy-needed in
+    let used = a .state .used in
+    let program = decode (a .kinds .now) (a .operands .now) in
+    let o = whole program (a .caller) (length (a .storage .now)) (a .gas-limit) (take used (a .storage .now)) in
+    let e = on-work program (a .caller) (a .gas-limit) used (length (a .storage .now)) (a .stack .now) (f .last .0) _ (f .kept .0 ∙ p .same) (r .ensures .outcome (a .gas-limit + 1) (omega arith)) in
+    let like = served (a .kinds .now) (a .operands .now) used (a .caller) (a .gas-limit) (a .storage .now) (a .work .now) (f .last .0) (p .program) (f .ensures) (p .within) (p .same) in
+    carried (a .gas-limit) (a .state) (a .storage .now) o (r .kept .1 .1 .1 .0) (c .before .before .before .before .before .before .finish .ensures o (rw e like))
 
 pub run-spec : {M : Type 1} → statement M
 run-spec =
     tie.close
     (tie.spec
-    reach-requires
-    copy-front-requires
+    copy-needed-requires
     run-requires
-    sub-finish
     finish-requires
     same-length
     same-length-2

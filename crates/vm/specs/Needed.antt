@@ -1,0 +1,44 @@
+-- The used slots that a run needs in the work buffer, and copies of some slots. The contracts of helpers use it, and no entry's.
+use Prim.Native.Nat.{ℕ, zero, suc, _≤_, _<_, _/_}
+use mathlib.Core.Path.{_≡_}
+use mathlib.Core.List.{List}
+use mathlib.Core.Bool.{Bool, true, false, cond, _&&_, _||_}
+use lib.ListN.{length, getD}
+use lib.Dec.{eqb, leb, ltb}
+use Rattle.machine.specs.Operation.{Op, push, binary, dup, swap, jump, jumpIfNotZero, load, store, caller, jumpIfZero, halt, opOf}
+
+-- an operation names the slot j
+abbrev pub names : Op → ℕ → Bool
+names (push v) j = false
+names (binary o) j = false
+names dup j = false
+names swap j = false
+names (jump t) j = false
+names (jumpIfNotZero t) j = false
+names (load i) j = eqb i j
+names (store i) j = eqb i j
+names caller j = false
+names (jumpIfZero t) j = false
+names halt j = false
+
+-- one of the first n operations of a program names the slot j
+unfoldable pub named : List ℕ → List ℕ → ℕ → ℕ → Bool
+named ks vs zero j = false
+named ks vs (suc n) j = named ks vs n j || names (opOf (getD ks n 0) (getD vs n 0)) j
+
+-- a run on `used` slots needs the slot j: any of them, or, where the program is short against them, one that it names
+abbrev pub needed : List ℕ → List ℕ → ℕ → ℕ → Bool
+needed ks vs used j = cond (leb (length ks) (used / 8)) (named ks vs (length ks) j) true
+
+-- d′ is d with the slots of s where `chosen` says so
+pub record Copied (chosen : ℕ → Bool) (s d d′ : List ℕ) : Type 0 where
+  pub long : length d′ ≡ length d
+  pub each : (j : ℕ) → j < length d → getD d′ j 0 ≡ cond (chosen j) (getD s j 0) (getD d j 0)
+
+-- the slots m that a run has in the work buffer, where it began with the `used` slots of m₀, are as good as the storage m′
+pub record Serves (ks vs : List ℕ) (used : ℕ) (m₀ m m′ : List ℕ) : Type 0 where
+  pub long : length m ≡ length m′
+  pub more : used ≤ length m
+  pub same : (j : ℕ) → needed ks vs used j ≡ true → getD m j 0 ≡ getD m′ j 0
+  pub past : (j : ℕ) → used ≤ j → getD m j 0 ≡ getD m′ j 0
+  pub kept : (j : ℕ) → needed ks vs used j ≡ false → j < used → getD m₀ j 0 ≡ getD m′ j 0
