@@ -11,3 +11,6 @@ pub mod Coming
 pub mod BodyLines
 pub mod Naming
 pub mod Concluding
+pub mod Words
+pub mod Wrong
+pub mod Accepted

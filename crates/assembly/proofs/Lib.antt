@@ -1,2 +1,3 @@
 pub mod Stems
 pub mod Outputs
+pub mod Bounds

@@ -32,10 +32,11 @@ use Rattle.assembler.specs.Part.{part}
 use Rattle.assembler.specs.Assembled.{Assembled, assembledTree}
 use Rattle.assembler.specs.Held.{LastIs, ReturnIs}
 use Rattle.assembler.specs.Concluded.{Accepts, ConcludesBy, Concludes}
-use Rattle.assembler.specs.Output.{stemFits, header, output, named, assembled}
+use Rattle.assembler.specs.Output as Output
+use Rattle.assembler.specs.Output.{assemblyNumbered, stemFits, header, output, named, assembled}
 use Rattle.assembly.specs.declared.Answer.{Answer}
 use Rattle.assembly.specs.declared.Answer.the-variants.{Success, Refused}
-use Rattle.assembly.specs.Answers.{Assembles}
+use Rattle.assembly.specs.Answers.{answerOf, Assembles}
 
 pub header-length : (stem : List ℕ) (e : ℕ) → length (header stem e) ≡ 26 + length stem + length (decimal e)
 header-length stem e =
@@ -64,7 +65,7 @@ output-text stem e t =
     ap (λ (x : List ℕ). header stem e ++ x) (written-append (opsOf t) (record { kind = 15; operand = 0 } ∷ []))
     ∙ sym (append-assoc (header stem e) (textOf t) haltLine)
 
-output-length : (stem : List ℕ) (e : ℕ) (t : Tree) → length (output stem e t) ≡ length (header stem e) + lenOf t + 5
+pub output-length : (stem : List ℕ) (e : ℕ) (t : Tree) → length (output stem e t) ≡ length (header stem e) + lenOf t + 5
 output-length stem e t = omega (arith, ap length (output-text stem e t), length-append (header stem e ++ textOf t) haltLine, length-append (header stem e) (textOf t), text-length t)
 
 put-onto : {out text after : List ℕ} {r : ℕ} → Put out 0 text after r → after ≡ onto text out
@@ -74,10 +75,13 @@ put-onto {out} {text} p = let z : 0 + length text ≡ length text = omega arith 
 pub is-going : {s vector : List ℕ} {o : Assembled} {a : Code.Assembly} → Concludes s vector o a → a .state .status ≡ Going → Accepts s vector o a
 is-going {s} {vector} {o} {a} c e = subst (λ (x : Status). ConcludesBy x s vector o a) e (c .by)
 
+assembles : {a : Output.Assembly} {out after : List ℕ} {r : Answer} → answerOf r ≡ a .answer → after ≡ onto (a .text) out → Assembles a out after r
+assembles e b = record { answer = e; number = ap assemblyNumbered e; buffer = b }
+
 pub is-refused : {s vector : List ℕ} {o : Assembled} {a : Code.Assembly} {why : Refusal} → Concludes s vector o a → a .state .status ≡ Status.Refused why → (stem out : List ℕ) → Assembles (named o stem (length out)) out out (Refused why)
 is-refused {s} {vector} {o} {a} c e stem out =
     let q = subst (λ (x : Status). ConcludesBy x s vector o a) e (c .by) .0 in
-    rw q (record { answer = refl; buffer = refl })
+    rw q (assembles refl refl)
 
 pub as-assembled : (contract vector stem : List ℕ) {out after : List ℕ} {r : Answer} → Assembles (named (assembledTree contract vector) stem (length out)) out after r → Assembles (assembled contract vector stem (length out)) out after r
 unfolding assembled
@@ -85,7 +89,7 @@ as-assembled contract vector stem x = x
 
 -- the stem does not fit
 pub stem-refused : {s vector : List ℕ} {o : Assembled} {a : Code.Assembly} (stem out : List ℕ) → Accepts s vector o a → stemFits stem ≡ false → Assembles (named o stem (length out)) out out (Refused BadStem)
-stem-refused stem out acc f = rw (acc .accepts) (simp f (record { answer = refl; buffer = refl }))
+stem-refused stem out acc f = rw (acc .accepts) (simp f (assembles refl refl))
 
 module _ {s vector : List ℕ} {o : Assembled} {a : Code.Assembly} (acc : Accepts s vector o a) {last : Last} (q : a .state .last ≡ last) where
   returned-as : LastIs s (a .state .table) (a .state .values) last (some (acc .t))
@@ -125,7 +129,7 @@ module _ {s vector : List ℕ} {o : Assembled} {a : Code.Assembly} (acc : Accept
     pub no-room : length out < length (header stem (a .expected)) + l .read .len + 5 → Assembles (named o stem (length out)) out out (Refused OutputTooLong)
     no-room h =
         let b = lt-leb (length (output stem (a .expected) (acc .t))) (length out) (omega (arith, size)) in
-        rw (acc .accepts) (simp (f, b) (record { answer = refl; buffer = refl }))
+        rw (acc .accepts) (simp (f, b) (assembles refl refl))
 
     pub written-whole : length (header stem (a .expected)) + l .read .len + 5 ≤ length out
         → {mid after : List ℕ} {n w : ℕ}
@@ -139,4 +143,4 @@ module _ {s vector : List ℕ} {o : Assembled} {a : Code.Assembly} (acc : Accept
         let e : (header stem (a .expected) ++ textOf (treeBetween s (sources (a .state .table) (a .state .values)) (l .count) (l .start) (l .end))) ++ haltLine ≡ output stem (a .expected) (acc .t) = ap (λ (t : Tree). (header stem (a .expected) ++ textOf t) ++ haltLine) same-tree ∙ sym (output-text stem (a .expected) (acc .t)) in
         let z : Put out 0 (output stem (a .expected) (acc .t)) after w = rw e at x in
         let m : w ≡ length (output stem (a .expected) (acc .t)) = omega (arith, z .next) in
-        rw (acc .accepts) (simp (f, b) (record { answer = cc (m, returned .figures .k, returned .figures .p); buffer = put-onto z }))
+        rw (acc .accepts) (simp (f, b) (assembles (cc (m, returned .figures .k, returned .figures .p)) (put-onto z)))

@@ -10,7 +10,7 @@ use Rattle.assembler.specs.Numbers.{refusalNumbered}
 use Rattle.assembler.specs.Assembled.{Assembled}
 use Rattle.assembler.specs.Concluded.{Accepts}
 use Rattle.assembler.specs.Output as Output
-use Rattle.assembler.specs.Output.{success, refusal, stemFits, named}
+use Rattle.assembler.specs.Output.{success, refusal, assemblyNumbered, stemFits, named}
 use Rattle.assembly.specs.declared.Answer.{Answer}
 use Rattle.assembly.specs.declared.Answer.the-variants.{Success, Refused}
 
@@ -22,6 +22,7 @@ answerOf (Refused why) = refusal (refusalNumbered why)
 -- the answer and the buffer are those of an assembly: its text stands at the start of the buffer, all else is as before
 pub record Assembles (a : Output.Assembly) (out after : List ℕ) (r : Answer) : Type 0 where
   pub answer : answerOf r ≡ a .answer
+  pub number : assemblyNumbered (answerOf r) ≡ assemblyNumbered (a .answer)
   pub buffer : after ≡ onto (a .text) out
 
 -- the contract s is accepted, and the stem is short

@@ -17,7 +17,7 @@ use Rattle.assembler.specs.Assembled.{Assembled, accepted, rejected, assembledT
 use Rattle.assembler.specs.Output.{stemFits, operationsOf, output, success, refusal, named, assembled}
 use Rattle.compiled.specs.Call.{Call, readingOf}
 use Rattle.compiled.specs.Statement.{Hypotheses, Statement, foundBy}
-use Rattle.compiled.proofs.Accepted.{accepted-is}
+use Rattle.assembler.proofs.Accepted.{accepted-is}
 use Rattle.compiled.proofs.Operations.{operations-length}
 use Rattle.compiled.proofs.Reading.{reads-output, onto-full}
 use Rattle.compiled.proofs.Transition.{kinds-length, operands-length, transition}

@@ -1,5 +1,3 @@
-pub mod Words
-pub mod Accepted
 pub mod Straight
 pub mod Trace
 pub mod Trees

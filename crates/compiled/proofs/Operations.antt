@@ -15,7 +15,7 @@ use Rattle.expression.specs.Written.{operatorOf, opsOf}
 use Rattle.expression.proofs.Written.{ops-length}
 use Rattle.assembler.specs.Output.{operationsOf}
 use Rattle.compiled.specs.Counting.{program}
-use Rattle.compiled.proofs.Words.{Words}
+use Rattle.assembler.proofs.Words.{Words}
 
 pub record Fine (o : Operation) : Type 0 where
   pub writable : IsOperation o

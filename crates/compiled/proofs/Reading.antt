@@ -20,7 +20,7 @@ use Rattle.ops.specs.Written.{writtenAll, remarks, IsRemark, Each, none, one}
 use Rattle.ops.proofs.Written.{reads-written}
 use Rattle.expression.specs.Tree.{Tree, kOf}
 use Rattle.assembler.specs.Output.{stemFits, header, operationsOf, output}
-use Rattle.compiled.proofs.Words.{Words}
+use Rattle.assembler.proofs.Words.{Words}
 use Rattle.compiled.proofs.Operations.{operations-fine, k-positive, operations-length, all-writable, all-same}
 
 -- digits are UTF-8 on one line

@@ -17,7 +17,7 @@ use Rattle.vm.proofs.Laws.{lent}
 use Rattle.expression.specs.Tree.{Tree, valueOf, kOf}
 use Rattle.assembler.specs.Output.{operationsOf}
 use Rattle.compiled.specs.Statement.{Compiled, endingOf}
-use Rattle.compiled.proofs.Words.{Words}
+use Rattle.assembler.proofs.Words.{Words}
 use Rattle.compiled.proofs.Operations.{operations-fine, k-positive, operations-length, all-pass, decoded-program}
 use Rattle.compiled.proofs.Run.{compiled}
 

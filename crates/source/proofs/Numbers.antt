@@ -1,11 +1,12 @@
 -- Laws of the number that a text starts with, by its digits.
 use Prim.Native.Nat.{ℕ, _^_}
-use mathlib.Core.Path.{_≡_, refl}
+use mathlib.Core.Path.{_≡_, refl, ap}
 use mathlib.Core.List.{List, [], _∷_}
 use mathlib.Core.Bool.{Bool, true, false, cond}
 use native.Mathlib.Omega.{arith}
 use lib.Dec.{ltb}
 use lib.ListN.{length}
+use Rattle.numbered.specs.declared.Numbered.{Numbered}
 use Rattle.number.specs.Decimal.{value, capped}
 use Rattle.number.specs.declared.Value.{Value}
 use Rattle.number.specs.declared.Value.the-variants as Value
@@ -29,3 +30,7 @@ some-digits (d ∷ ds) h = either (value (d ∷ ds)) (ltb (value (d ∷ ds)) (2 
     either : (n : ℕ) (b : Bool) → cond b (Is n) TooLarge ≡ asKeyValue (cond b (Value.Is n) Value.TooLarge)
     either n true = refl
     either n false = refl
+
+-- an answer with its number
+pub with-number : {A : Type 0} (numbered : A → Numbered) {r x : A} → r ≡ x → (r ≡ x) × (numbered r ≡ numbered x)
+with-number numbered e = (e, ap numbered e)

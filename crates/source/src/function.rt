@@ -1,6 +1,6 @@
 // The contract's function: where its parameters and its body stand.
 ghost use mathlib.Core.Path.{_≡_};
-ghost use Rattle.source.specs.Function.{functionOf, functionErrorNumbered};
+ghost use Rattle.source.specs.Function.{functionOf, functionErrorNumbered, functionNumbered};
 use numbered::Numbered;
 use numbered::plain;
 use search::Found;
@@ -41,7 +41,7 @@ pub enum Function {
 }
 
 pub fn find_function(contract: &[u8]) -> Function
-    ensures { λ r. ⌜ r ≡ functionOf (now (contract .entry)) ⌝ }
+    ensures { λ r. ⌜ (r ≡ functionOf (now (contract .entry))) × (functionNumbered r ≡ functionNumbered (functionOf (now (contract .entry)))) ⌝ }
 {
     let name = search::find(contract, b"fn ", 0);
     let Found::At(name_at) = name else {

@@ -41,13 +41,13 @@ enum-known-function-2 : tie.Need-enum-known-function-2
 enum-known-function-2 c = search needs
 
 read-function-requires : tie.Need-read-function-requires
-read-function-requires c κs = let a = c .before .before .before .before .before .before .before .before .before .before .args in let s = now (a .contract) in let v = now (a .vector) in record { short = readable-short s (sym (c .before .before .before .before .before .before .before .is-readable .ensures) ∙ not-false _ (c .before .before .before .before .before .before .if1 .left)); found = sym (c .before .before .before .find-function .ensures) ∙ c .before .function2 .given .1 }
+read-function-requires c κs = let a = c .before .before .before .before .before .before .before .before .before .before .args in let s = now (a .contract) in let v = now (a .vector) in record { short = readable-short s (sym (c .before .before .before .before .before .before .before .is-readable .ensures) ∙ not-false _ (c .before .before .before .before .before .before .if1 .left)); found = sym (c .before .before .before .find-function .ensures .0) ∙ c .before .function2 .given .1 }
 
 returns-3 : tie.Need-returns-3
-returns-3 c = let a = c .before .before .before .before .before .before .before .before .before .before .before .args in let s = now (a .contract) in let v = now (a .vector) in concludes-off (c .rejected3 .ensures) (both-readable s v (sym (c .before .before .before .before .before .before .before .before .is-readable .ensures) ∙ not-false _ (c .before .before .before .before .before .before .before .if1 .left)) (sym (c .before .before .before .before .before .before .is-readable2 .ensures) ∙ not-false _ (c .before .before .before .before .before .if2 .left)) ∙ ap (functionRead s v) (sym (c .before .before .before .before .find-function .ensures) ∙ c .before .before .function .given .1))
+returns-3 c = let a = c .before .before .before .before .before .before .before .before .before .before .before .args in let s = now (a .contract) in let v = now (a .vector) in concludes-off (c .rejected3 .ensures) (both-readable s v (sym (c .before .before .before .before .before .before .before .before .is-readable .ensures) ∙ not-false _ (c .before .before .before .before .before .before .before .if1 .left)) (sym (c .before .before .before .before .before .before .is-readable2 .ensures) ∙ not-false _ (c .before .before .before .before .before .if2 .left)) ∙ ap (functionRead s v) (sym (c .before .before .before .before .find-function .ensures .0) ∙ c .before .before .function .given .1))
 
 returns-4 : tie.Need-returns-4
-returns-4 c = let a = c .before .before .before .before .before .before .before .before .before .before .before .args in let s = now (a .contract) in let v = now (a .vector) in subst (λ (o : Assembled). Concludes s v o (c .read-function .result)) (sym (both-readable s v (sym (c .before .before .before .before .before .before .before .before .is-readable .ensures) ∙ not-false _ (c .before .before .before .before .before .before .before .if1 .left)) (sym (c .before .before .before .before .before .before .is-readable2 .ensures) ∙ not-false _ (c .before .before .before .before .before .if2 .left)) ∙ ap (functionRead s v) (sym (c .before .before .before .before .find-function .ensures) ∙ c .before .before .function2 .given .1))) (c .read-function .ensures)
+returns-4 c = let a = c .before .before .before .before .before .before .before .before .before .before .before .args in let s = now (a .contract) in let v = now (a .vector) in subst (λ (o : Assembled). Concludes s v o (c .read-function .result)) (sym (both-readable s v (sym (c .before .before .before .before .before .before .before .before .is-readable .ensures) ∙ not-false _ (c .before .before .before .before .before .before .before .if1 .left)) (sym (c .before .before .before .before .before .before .is-readable2 .ensures) ∙ not-false _ (c .before .before .before .before .before .if2 .left)) ∙ ap (functionRead s v) (sym (c .before .before .before .before .find-function .ensures .0) ∙ c .before .before .function2 .given .1))) (c .read-function .ensures)
 
 pub checked-spec : {M : Type 1} → statement M
 checked-spec =

@@ -26,19 +26,19 @@ enum-told-4 : tie.Need-enum-told-4
 enum-told-4 c = search needs
 
 returns : tie.Need-returns
-returns c = ap (λ (x : KeyValue). keyed x (c .before .before .before .before .before .before .args .place)) (sym (c .before .value .given .1) ∙ c .before .before .before .json-u64-for-key .ensures)
+returns c = ap (λ (x : KeyValue). keyed x (c .before .before .before .before .before .before .args .place)) (sym (c .before .value .given .1) ∙ c .before .before .before .json-u64-for-key .ensures .0)
 
 returns-2 : tie.Need-returns-2
-returns-2 c = ap (λ (x : KeyValue). keyed x (c .before .before .before .before .before .args .place)) (sym (c .enum-told .given .1) ∙ c .before .before .json-u64-for-key .ensures)
+returns-2 c = ap (λ (x : KeyValue). keyed x (c .before .before .before .before .before .args .place)) (sym (c .enum-told .given .1) ∙ c .before .before .json-u64-for-key .ensures .0)
 
 returns-3 : tie.Need-returns-3
-returns-3 c = ap (λ (x : KeyValue). keyed x (c .before .before .before .before .before .args .place)) (sym (c .enum-told2 .given .1) ∙ c .before .before .json-u64-for-key .ensures)
+returns-3 c = ap (λ (x : KeyValue). keyed x (c .before .before .before .before .before .args .place)) (sym (c .enum-told2 .given .1) ∙ c .before .before .json-u64-for-key .ensures .0)
 
 returns-4 : tie.Need-returns-4
-returns-4 c = ap (λ (x : KeyValue). keyed x (c .before .before .before .before .before .args .place)) (sym (c .enum-told3 .given .1) ∙ c .before .before .json-u64-for-key .ensures)
+returns-4 c = ap (λ (x : KeyValue). keyed x (c .before .before .before .before .before .args .place)) (sym (c .enum-told3 .given .1) ∙ c .before .before .json-u64-for-key .ensures .0)
 
 returns-5 : tie.Need-returns-5
-returns-5 c = ap (λ (x : KeyValue). keyed x (c .before .before .before .before .before .args .place)) (sym (c .enum-told4 .given .1) ∙ c .before .before .json-u64-for-key .ensures)
+returns-5 c = ap (λ (x : KeyValue). keyed x (c .before .before .before .before .before .args .place)) (sym (c .enum-told4 .given .1) ∙ c .before .before .json-u64-for-key .ensures .0)
 
 pub number-for-spec : {M : Type 1} → statement M
 number-for-spec =

@@ -29,7 +29,7 @@ write-all-requires-2 : tie.Need-write-all-requires-2
 write-all-requires-2 c κs = search needs
 
 order : (c : tie.After-answer) → Ordered (now (c .before .before .before .before .args .contract)) (c .answer .given .0 .0)
-order c = ordered (now (c .before .before .before .before .args .contract)) (c .answer .given .0 .0) (sym (c .before .before .find-function .ensures) ∙ c .answer .given .1)
+order c = ordered (now (c .before .before .before .before .args .contract)) (c .answer .given .0 .0) (sym (c .before .before .find-function .ensures .0) ∙ c .answer .given .1)
 
 sub-print : tie.Need-sub-print
 sub-print c = let o = order (c .before .before .before .before .before .before) in let b = o .body in let f = o .fits in omega arith

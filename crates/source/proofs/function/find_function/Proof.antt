@@ -6,7 +6,9 @@ use native.Mathlib.Omega.{arith}
 use denote.Ref.{now}
 use Rattle.search.specs.declared.Found.the-variants.{At}
 use Rattle.search.specs.First.{firstAt}
+use Rattle.source.specs.Function.{functionNumbered}
 use Rattle.source.proofs.Found.{in-text}
+use Rattle.source.proofs.Numbers.{with-number}
 use Rattle.source.proofs.Places.{fn, no-function, no-parameters, unclosed-parameters, no-body, unclosed-body, function-found}
 use borrow.Author.Needs.{needs}
 use Rattle.source.proofs.function.find_function.Statement.{statement}
@@ -50,7 +52,7 @@ brace-at : (c : tie.After-brace) → firstAt (0x7B ∷ []) (text-brace c) (c .be
 brace-at c = sym (c .before .before .find-byte3 .ensures) ∙ c .brace .given .1
 
 returns : tie.Need-returns
-returns c = sym (no-function (now (c .before .before .before .before .before .args .contract)) (sym (c .before .before .find .ensures) ∙ c .enum-told .given .1))
+returns c = with-number functionNumbered (sym (no-function (now (c .before .before .before .before .before .args .contract)) (sym (c .before .before .find .ensures) ∙ c .enum-told .given .1)))
 
 add-after-name : tie.Need-add-after-name
 add-after-name c = let i = in-text fn (text-name (c .before)) _ _ (name-at (c .before)) in omega arith
@@ -67,7 +69,7 @@ enum-told-2 c = search needs
 returns-2 : tie.Need-returns-2
 returns-2 c =
     let name = c .before .before .before .before in
-    sym (no-parameters (text-name name) _ (name-at name) (sym (c .before .before .find-byte .ensures) ∙ c .enum-told2 .given .1))
+    with-number functionNumbered (sym (no-parameters (text-name name) _ (name-at name) (sym (c .before .before .find-byte .ensures) ∙ c .enum-told2 .given .1)))
 
 add-params-start : tie.Need-add-params-start
 add-params-start c = let i = in-text (0x28 ∷ []) (text-left (c .before)) _ _ (left-at (c .before)) in omega arith
@@ -85,7 +87,7 @@ returns-3 : tie.Need-returns-3
 returns-3 c =
     let left = c .before .before .before .before in
     let name = left .before .before .before .before in
-    sym (unclosed-parameters (text-left left) _ (name-at name) _ (left-at left) (sym (c .before .before .find-byte2 .ensures) ∙ c .enum-told3 .given .1))
+    with-number functionNumbered (sym (unclosed-parameters (text-left left) _ (name-at name) _ (left-at left) (sym (c .before .before .find-byte2 .ensures) ∙ c .enum-told3 .given .1)))
 
 add-after-params : tie.Need-add-after-params
 add-after-params c = let i = in-text (0x29 ∷ []) (text-right (c .before)) _ _ (right-at (c .before)) in omega arith
@@ -104,7 +106,7 @@ returns-4 c =
     let right = c .before .before .before .before in
     let left = right .before .before .before .before in
     let name = left .before .before .before .before in
-    sym (no-body (text-right right) _ (name-at name) _ (left-at left) _ (right-at right) (sym (c .before .before .find-byte3 .ensures) ∙ c .enum-told4 .given .1))
+    with-number functionNumbered (sym (no-body (text-right right) _ (name-at name) _ (left-at left) _ (right-at right) (sym (c .before .before .find-byte3 .ensures) ∙ c .enum-told4 .given .1)))
 
 add-body-start : tie.Need-add-body-start
 add-body-start c = let i = in-text (0x7B ∷ []) (text-brace (c .before)) _ _ (brace-at (c .before)) in omega arith
@@ -124,9 +126,9 @@ returns-5 c =
     let right = brace .before .before .before .before in
     let left = right .before .before .before .before in
     let name = left .before .before .before .before in
-    sym
+    with-number functionNumbered (sym
     (unclosed-body (text-brace brace) _ (name-at name) _ (left-at left) _ (right-at right) _ (brace-at brace)
-    (sym (c .before .before .find-byte4 .ensures) ∙ c .enum-told5 .given .1))
+    (sym (c .before .before .find-byte4 .ensures) ∙ c .enum-told5 .given .1)))
 
 returns-6 : tie.Need-returns-6
 returns-6 c =
@@ -135,9 +137,9 @@ returns-6 c =
     let right = brace .before .before .before .before in
     let left = right .before .before .before .before in
     let name = left .before .before .before .before in
-    sym
+    with-number functionNumbered (sym
     (function-found (text-brace brace) _ (name-at name) _ (left-at left) _ (right-at right) _ (brace-at brace) _
-    (sym (end .before .before .find-byte4 .ensures) ∙ end .end .given .1))
+    (sym (end .before .before .find-byte4 .ensures) ∙ end .end .given .1)))
 
 pub find-function-spec : {M : Type 1} → statement M
 find-function-spec =

@@ -9,8 +9,9 @@ use Rattle.byte.proofs.Parts.{rest}
 use Rattle.search.specs.declared.Found.the-variants.{At}
 use Rattle.search.specs.First.{firstAt}
 use Rattle.trim.specs.Trim.{startTrimmed}
-use Rattle.source.specs.Vector.{quoted, leadingNumber}
+use Rattle.source.specs.Vector.{quoted, leadingNumber, keyValueNumbered}
 use Rattle.source.proofs.Found.{in-text}
+use Rattle.source.proofs.Numbers.{with-number}
 use Rattle.source.proofs.Keys.{quoted-length, no-key, no-colon, number-behind}
 use borrow.Author.Needs.{needs}
 use Rattle.source.proofs.vector.json_u64_for_key.Statement.{statement}
@@ -36,7 +37,7 @@ key-at : (c : tie.After-found) → firstAt (quoted (key c)) (vector c) 0 ≡ At 
 key-at c = sym (c .before .before .find-quoted .ensures) ∙ c .found .given .1
 
 returns : tie.Need-returns
-returns c = sym (no-key (now (c .before .before .before .before .before .args .vector)) (now (c .before .before .before .before .before .args .key)) (sym (c .before .before .find-quoted .ensures) ∙ c .enum-told .given .1))
+returns c = with-number keyValueNumbered (sym (no-key (now (c .before .before .before .before .before .args .vector)) (now (c .before .before .before .before .before .args .key)) (sym (c .before .before .find-quoted .ensures) ∙ c .enum-told .given .1)))
 
 add-after-key : tie.Need-add-after-key
 add-after-key c = search needs
@@ -64,7 +65,7 @@ enum-told-2 c = search needs
 returns-2 : tie.Need-returns-2
 returns-2 c =
     let found = c .before .before .before .before in
-    sym (no-colon (vector found) (key found) _ (key-at found) (sym (colon-sought (c .before .before)) ∙ c .enum-told2 .given .1))
+    with-number keyValueNumbered (sym (no-colon (vector found) (key found) _ (key-at found) (sym (colon-sought (c .before .before)) ∙ c .enum-told2 .given .1)))
 
 colon-at : (c : tie.After-colon) → let f = c .before .before .before .before in firstAt (0x3A ∷ []) (vector f) (f .found .given .0 .0 + length (quoted (key f))) ≡ At (c .colon .given .0 .0)
 colon-at c = sym (colon-sought (c .before .before)) ∙ c .colon .given .1
@@ -94,9 +95,10 @@ returns-3 : tie.Need-returns-3
 returns-3 c =
     let colon = c .before .before .before .before in
     let found = colon .before .before .before .before in
-    c .leading-number .ensures
+    with-number keyValueNumbered
+    (c .leading-number .ensures
     ∙ ap leadingNumber (c .before .trim-start .ensures .text ∙ ap startTrimmed (rest (vector found) (colon .colon .given .0 .0 + 1)))
-    ∙ sym (number-behind (vector found) (key found) _ (key-at found) _ (colon-at colon))
+    ∙ sym (number-behind (vector found) (key found) _ (key-at found) _ (colon-at colon)))
 
 pub json-u64-for-key-spec : {M : Type 1} → statement M
 json-u64-for-key-spec =

@@ -1,10 +1,14 @@
 -- The numbers of a tree that an expression means are below 2^64 where those of its bindings are.
-use Prim.Native.Nat.{ℕ, _^_, _<_}
+use Prim.Native.Nat.{ℕ, _+_, _*_, _^_, _<_, _≤_}
 use mathlib.Core.Path.{_≡_}
 use mathlib.Core.List.{List, [], _∷_}
 use mathlib.Core.Bool.{Bool, true, false, cond}
 use mathlib.Core.Option.{Option, some, none}
-use Rattle.expression.specs.Tree.{Tree, num, bin}
+use native.Mathlib.Omega.{arith}
+use Rattle.word.specs.Apply.{Binary}
+use Rattle.word.specs.Apply as Apply
+use Rattle.number.proofs.Decimal.{length-word}
+use Rattle.expression.specs.Tree.{Tree, num, bin, kOf, lineOf, lenOf}
 use Rattle.expression.specs.Parse.{Env, sameText, lookup, meaning, tree}
 use Rattle.expression.specs.Grammar.{Derives, number, name, parentheses, alone, join}
 use Rattle.expression.proofs.Grammar.{grammar}
@@ -38,3 +42,16 @@ derives-words h (join w p j q) = (derives-words h p, derives-words h q)
 
 pub meaning-words : (env : Env) (s : List ℕ) (t : Tree) → WordsIn env → meaning env s ≡ tree t → Words t
 meaning-words env s t h e = derives-words h (grammar env s t .0 e .1)
+
+-- the text of a tree is bounded by its k
+line-short : (op : Binary) → lineOf op ≤ 4
+line-short Apply.add = omega arith
+line-short Apply.sub = omega arith
+line-short Apply.mul = omega arith
+line-short Apply.div = omega arith
+line-short Apply.eq = omega arith
+line-short Apply.lt = omega arith
+
+pub words-short : (t : Tree) → Words t → lenOf t + 4 ≤ 30 * kOf t
+words-short (num n) w = omega (arith, length-word n w)
+words-short (bin op l r) w = omega (arith, line-short op, words-short l (w .0), words-short r (w .1))
