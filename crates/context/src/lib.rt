@@ -3,7 +3,7 @@ ghost use mathlib.Core.Path.{_≡_};
 ghost use mathlib.Core.Bool.{_&&_};
 ghost use Prim.Native.Nat.{_+_, _≤_};
 ghost use lib.ListN.{length, drop};
-ghost use Rattle.context.specs.Gate.{equal, isHexDigit, allHexDigits, isNetwork, isGenesisId, gateOf, contextErrorNumbered, gateNumbered};
+ghost use Rattle.context.specs.Gate.{equal, isHexDigit, allHexDigits, isNetwork, isGenesisId, gateOf, contextErrorNumbered, gateNumbered, Gated};
 use numbered::Numbered;
 use numbered::plain;
 
@@ -60,7 +60,7 @@ pub fn execution_gate(
     expected_protocol: &[u8],
     expected_vm: &[u8],
 ) -> Gate
-    ensures { λ r. ⌜ r ≡ gateOf (now («chain_id» .entry)) (now («network_id» .entry)) (now («genesis_id» .entry)) (now («protocol_version» .entry)) (now («vm_version» .entry)) (now («computed_genesis_id» .entry)) (now («expected_protocol» .entry)) (now («expected_vm» .entry)) ⌝ }
+    ensures { λ r. ⌜ Gated (gateOf (now («chain_id» .entry)) (now («network_id» .entry)) (now («genesis_id» .entry)) (now («protocol_version» .entry)) (now («vm_version» .entry)) (now («computed_genesis_id» .entry)) (now («expected_protocol» .entry)) (now («expected_vm» .entry))) r ⌝ }
 {
     if !same(chain_id, b"atc") {
         return Gate::Refused(ContextError::InvalidChainId);

@@ -6,7 +6,7 @@ use mathlib.Core.Option.{Option, some, none}
 use mathlib.Core.List.{List, [], _∷_}
 use lib.ListN.{length, getD}
 use lib.Dec.{ltb, eqb}
-use Rattle.word.specs.Apply.{Binary, apply}
+use Rattle.word.specs.Apply.{apply}
 use Rattle.machine.specs.declared.Refusal.the-variants.{OutOfGas, StackLimitExceeded, OutsideStorage}
 use Rattle.machine.specs.Operation.{Op, push, binary, dup, swap, jump, jumpIfNotZero, load, store, caller, jumpIfZero, halt, priceOf}
 use Rattle.machine.specs.Machine.{Frame, Effect, moves, jumps, ends, fails, Act, over, costs, Outcome, next, done, stop, storeAt, pushOf, valueOf, effectOf, settle, pay, actOf, machine, follow, runOf, start, whole}

@@ -10,6 +10,7 @@ use lib.Seq.{take-suc, length-take-le}
 use lib.Dec.{leb, ltb}
 use Rattle.machine.specs.declared.Regs.{Regs}
 use Rattle.machine.specs.declared.Refusal.{Refusal}
+use Rattle.machine.specs.Numbers.{refusalNumbered}
 use Rattle.machine.specs.Operation.{Op}
 use Rattle.machine.specs.Machine.{Outcome, done, stop, machine, runOf, whole}
 use Rattle.machine.specs.Alike.{AlikeBut}
@@ -53,6 +54,7 @@ module _ (g : ℕ) (state : State) (r : Regs) (s w m s′ w′ : List ℕ) (same
         let u : length (l .0) ≡ r .used = sym (l .2 .long) ∙ length-take-le (r .used) w hu in
         rw (l .1) (record {
           answer = rw (d, u);
+          says = rw (d, u);
           state = rw u;
           stack = rw (up-down (r .items) s hi, d) es;
           work = cleared;
@@ -62,7 +64,7 @@ module _ (g : ℕ) (state : State) (r : Regs) (s w m s′ w′ : List ℕ) (same
     pub undone-by : (f : Refusal) → 2 ≤ r .code → f ≡ refusalOf (r .code) (r .note) (r .gas) → s′ ≡ take 0 s ++ replicate (length s - 0) 0 → Meets (ofRun g state (length s) m o) state (Refused f) s′ w′ m
     undone-by f two e es =
         let l : AlikeBut (Serves ks vs (state .used) m) (stop (refusalOf (r .code) (r .note) (r .gas))) o = rw (refused (r .code) (r .note) (r .gas) (frameOf s w r) two) at like in
-        rw l (record { answer = ap Refused e; state = refl; stack = all-zero s s′ es; work = cleared; storage = refl })
+        rw l (record { answer = ap Refused e; says = ap refusalNumbered e; state = refl; stack = all-zero s s′ es; work = cleared; storage = refl })
 
 -- the same result, with the stack's length named otherwise
 pub carried : (g : ℕ) (state : State) (m : List ℕ) (o : Outcome) {n n′ : ℕ} {a : Answer} {s′ w′ m′ : List ℕ} → n ≡ n′

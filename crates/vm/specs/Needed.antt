@@ -2,9 +2,9 @@
 use Prim.Native.Nat.{ℕ, zero, suc, _≤_, _<_, _/_}
 use mathlib.Core.Path.{_≡_}
 use mathlib.Core.List.{List}
-use mathlib.Core.Bool.{Bool, true, false, cond, _&&_, _||_}
+use mathlib.Core.Bool.{Bool, true, false, cond, _||_}
 use lib.ListN.{length, getD}
-use lib.Dec.{eqb, leb, ltb}
+use lib.Dec.{eqb, leb}
 use Rattle.machine.specs.Operation.{Op, push, binary, dup, swap, jump, jumpIfNotZero, load, store, caller, jumpIfZero, halt, opOf}
 
 -- an operation names the slot j

@@ -13,6 +13,7 @@ use Rattle.vm.specs.declared.Check.{Check}
 use Rattle.vm.specs.declared.Check.the-variants as check
 use Rattle.vm.specs.declared.Answer.{Answer}
 use Rattle.vm.specs.declared.Answer.the-variants.{Success, Refused}
+use Rattle.vm.specs.Numbers.{answerNumbered}
 use Rattle.vm.specs.Verify.{need, andThen, buffersFit, gateCheck, verifyOf}
 
 pub record Result : Type 0 where
@@ -82,9 +83,10 @@ abbrev pub stateAfter : Answer → State → State
 stateAfter (Success spent operations items after) state = after
 stateAfter (Refused f) state = state
 
--- the answer, the state and the buffers of a call that was made in the state `from` are those of a result
+-- the answer with its number, the state and the buffers of a call that was made in the state `from` are those of a result
 pub record Meets (t : Result) (from : State) (a : Answer) (s w m : List ℕ) : Type 0 where
   pub answer : a ≡ t .answer
+  pub says : answerNumbered a ≡ answerNumbered (t .answer)
   pub state : stateAfter a from ≡ t .state
   pub stack : s ≡ t .stack
   pub work : w ≡ t .work

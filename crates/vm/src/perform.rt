@@ -1,6 +1,5 @@
 // The run behind the tests of lengths and gate: it works in the work buffer on those of the used slots that it needs, and
 // the storage is written once, when the run has succeeded.
-ghost use mathlib.Core.Path.{_≡_};
 ghost use Prim.Native.Nat.{_≤_};
 ghost use lib.ListN.{length};
 ghost use Rattle.machine.specs.Machine.{Outcome};

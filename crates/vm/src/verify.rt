@@ -5,6 +5,7 @@ ghost use Prim.Native.Nat.{ℕ, _+_, _<_, _≤_};
 ghost use lib.Dec.{ltb};
 ghost use Rattle.machine.specs.declared.Refusal.the-variants.{JumpOutOfRange};
 ghost use Rattle.vm.specs.declared.Check.the-variants as check;
+ghost use Rattle.vm.specs.Numbers.{Checked};
 ghost use Rattle.vm.specs.Verify.{need, buffersFit, operationCheck, operationsCheck, verifyOf};
 ghost use Rattle.vm.specs.Blocks.{Passes, Clear};
 ghost use lib.ListN.{length, getD, drop};
@@ -32,7 +33,7 @@ pub fn buffers_fit(
 }
 
 pub fn verify(kinds: &[u8], operands: &[u64], used: usize) -> Check
-    ensures { λ r. ⌜ r ≡ verifyOf (now (kinds .entry)) (now (operands .entry)) used ⌝ }
+    ensures { λ r. ⌜ Checked (verifyOf (now (kinds .entry)) (now (operands .entry)) used) r ⌝ }
 {
     let size = kinds.len();
     if size != operands.len() {

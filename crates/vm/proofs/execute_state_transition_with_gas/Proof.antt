@@ -10,7 +10,7 @@ buffers-fit-requires : tie.Need-buffers-fit-requires
 buffers-fit-requires c κs = search needs
 
 returns : tie.Need-returns
-returns c = rw (fails (c .before .buffers-fit .ensures) (c .if1 .taken)) (record { answer = refl; state = refl; stack = refl; work = refl; storage = refl })
+returns c = rw (fails (c .before .buffers-fit .ensures) (c .if1 .taken)) (record { answer = refl; says = refl; state = refl; stack = refl; work = refl; storage = refl })
 
 execution-gate-requires : tie.Need-execution-gate-requires
 execution-gate-requires c κs = search needs
@@ -25,7 +25,7 @@ verified-run-requires : tie.Need-verified-run-requires
 verified-run-requires c κs = let a = c .before .before .before .before .before .before .before .before .before .before .before .before .before .before .before .before .before .before .before .before .before .args in lent (a .kinds .now) (a .operands .now) (a .stack .now) (a .work .now) (a .storage .now) (a .state .used) (holds (c .before .before .before .before .before .before .before .buffers-fit .ensures) (c .before .before .before .before .before .before .if1 .left))
 
 returns-2 : tie.Need-returns-2
-returns-2 c = rw (holds (c .before .before .before .before .before .buffers-fit .ensures) (c .before .before .before .before .if1 .left), sym (c .before .before .before .execution-gate .ensures) ∙ c .before .gate .given .1) (record { answer = refl; state = refl; stack = refl; work = refl; storage = refl })
+returns-2 c = rw (holds (c .before .before .before .before .before .buffers-fit .ensures) (c .before .before .before .before .if1 .left), sym (c .before .before .before .execution-gate .ensures .answer) ∙ c .before .gate .given .1) (record { answer = refl; says = refl; state = refl; stack = refl; work = refl; storage = refl })
 
 same-length : tie.Need-same-length
 same-length c = search needs
@@ -37,7 +37,7 @@ same-length-3 : tie.Need-same-length-3
 same-length-3 c = search needs
 
 returns-3 : tie.Need-returns-3
-returns-3 c = rw (holds (c .before .before .before .before .before .before .before .before .before .before .before .before .before .before .buffers-fit .ensures) (c .before .before .before .before .before .before .before .before .before .before .before .before .before .if1 .left), sym (c .before .before .before .before .before .before .before .before .before .before .before .before .execution-gate .ensures) ∙ c .before .before .before .before .before .before .before .before .before .before .enum-told .given .1) (c .before .before .before .before .before .before .verified-run .ensures)
+returns-3 c = rw (holds (c .before .before .before .before .before .before .before .before .before .before .before .before .before .before .buffers-fit .ensures) (c .before .before .before .before .before .before .before .before .before .before .before .before .before .if1 .left), sym (c .before .before .before .before .before .before .before .before .before .before .before .before .execution-gate .ensures .answer) ∙ c .before .before .before .before .before .before .before .before .before .before .enum-told .given .1) (c .before .before .before .before .before .before .verified-run .ensures)
 
 pub execute-state-transition-with-gas-spec : {M : Type 1} → statement M
 execute-state-transition-with-gas-spec =

@@ -10,7 +10,7 @@ buffers-fit-requires : tie.Need-buffers-fit-requires
 buffers-fit-requires c κs = search needs
 
 returns : tie.Need-returns
-returns c = rw (fails (c .before .buffers-fit .ensures) (c .if1 .taken)) (record { answer = refl; state = refl; stack = refl; work = refl; storage = refl })
+returns c = rw (fails (c .before .buffers-fit .ensures) (c .if1 .taken)) (record { answer = refl; says = refl; state = refl; stack = refl; work = refl; storage = refl })
 
 verified-run-requires : tie.Need-verified-run-requires
 verified-run-requires c κs = let a = c .before .before .before .before .before .before .before .before .before .before .args in lent (a .kinds .now) (a .operands .now) (a .stack .now) (a .work .now) (a .storage .now) (a .state .used) (holds (c .before .before .before .before .buffers-fit .ensures) (c .before .before .before .if1 .left))

@@ -17,7 +17,7 @@ run-requires : tie.Need-run-requires
 run-requires c κs = search needs
 
 returns : tie.Need-returns
-returns c = rw (sym (c .before .before .before .verify .ensures) ∙ c .before .f .given .1) (record { answer = refl; state = refl; stack = refl; work = refl; storage = refl })
+returns c = rw (sym (c .before .before .before .verify .ensures .answer) ∙ c .before .f .given .1) (record { answer = refl; says = refl; state = refl; stack = refl; work = refl; storage = refl })
 
 same-length : tie.Need-same-length
 same-length c = search needs
@@ -29,7 +29,7 @@ same-length-3 : tie.Need-same-length-3
 same-length-3 c = search needs
 
 returns-2 : tie.Need-returns-2
-returns-2 c = rw (sym (c .before .before .before .before .before .before .before .before .before .before .before .before .verify .ensures) ∙ c .before .before .before .before .before .before .before .before .before .before .enum-told .given .1) (c .before .before .before .before .before .before .run .ensures)
+returns-2 c = rw (sym (c .before .before .before .before .before .before .before .before .before .before .before .before .verify .ensures .answer) ∙ c .before .before .before .before .before .before .before .before .before .before .enum-told .given .1) (c .before .before .before .before .before .before .run .ensures)
 
 pub verified-run-spec : {M : Type 1} → statement M
 verified-run-spec =

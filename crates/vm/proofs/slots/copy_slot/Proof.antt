@@ -1,5 +1,4 @@
 -- `slots::copy_slot` meets its contract: the operation's slot is copied, or it is not used, or there is none.
-use Prim.Native.Nat.{ℕ}
 use native.Mathlib.Omega.{arith}
 use mathlib.Core.Path.{sym, _∙_}
 use Rattle.vm.proofs.Needed.{copied-none, copied-as, copied-set, slot-copied, slot-past, slot-none}
