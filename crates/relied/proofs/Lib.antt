@@ -1,0 +1,4 @@
+pub mod Among
+pub mod Lines
+pub mod Reading
+pub mod Running

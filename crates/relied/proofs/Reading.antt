@@ -1,0 +1,173 @@
+-- What a caller of atc_parse_ops relies on.
+use Prim.Native.Nat.{ℕ, zero, suc, _+_, _*_, _≤_}
+use mathlib.Core.Path.{_≡_, refl}
+use mathlib.Core.List.{List, [], _∷_, _++_}
+use mathlib.Core.Bool.{Bool, true, false, cond, _&&_, _||_}
+use borrow.Author.Tests.{leb-true}
+use native.Mathlib.Omega.{arith}
+use lib.Dec.{eqb, leb}
+use lib.ListN.{length, drop, length-append}
+use Rattle.byte.proofs.Tests.{and-left, and-right}
+use Rattle.utf8.specs.Utf8.{utf8}
+use Rattle.search.specs.First.{prefixOf}
+use Rattle.search.proofs.Prefix.{fits}
+use Rattle.lines.specs.Lines.{lines}
+use Rattle.trim.specs.Trim.{startTrimmed, trimmed, passed}
+use Rattle.trim.proofs.Laws.{startTrimmed-length, endTrimmed-length}
+use Rattle.number.specs.Decimal.{numberOf}
+use Rattle.number.specs.declared.Number.{Number}
+use Rattle.number.specs.declared.Number.the-variants.{Is, Invalid}
+use Rattle.ops.specs.Kinds.{Kind, kinds, partOf, partedFrom, parted}
+use Rattle.ops.specs.Kinds as Kinds
+use Rattle.ops.specs.Line.{ofNumber, operandOf, partRead, skipped, lineOf}
+use Rattle.ops.specs.Numbers.{opsErrorNumbered, parsedOpsNumbered}
+use Rattle.ops.specs.Ops.{Operation, Reading, ops, refused, startOf, followedBy, thenRead, readLines, someRead, readText, answerOf, opsOf}
+use Rattle.ops.specs.Written.{Each, none, one}
+use Rattle.ops.specs.declared.kind.Parted.{Parted}
+use Rattle.ops.specs.declared.kind.Parted.the-variants.{Alone, Before, Unknown}
+use Rattle.ops.specs.declared.OpsError.the-variants.{NotUtf8, BadPush, BadSlot, BadTarget}
+use Rattle.ops.specs.declared.line.LineRead.{LineRead}
+use Rattle.ops.specs.declared.line.LineRead.the-variants.{Skip, Op, Bad}
+use Rattle.relied.specs.Numbers.{Among}
+use Rattle.relied.specs.Reading.{ReadRelied}
+use Rattle.relied.proofs.Among.{widen}
+use Rattle.relied.proofs.Lines.{size, lines-size, lines-count}
+
+-- a line that starts with a kind's word has two bytes or more
+abbrev Worded : List ℕ → Parted → Type 0
+Worded t (Alone k) = (k ≤ 15) × (2 ≤ length t)
+Worded t (Before k n) = (k ≤ 15) × (2 ≤ length t)
+Worded t Unknown = Unit {0}
+
+abbrev long : List Kind → Bool
+long [] = true
+long (w ∷ ws) = leb 2 (length (w .word)) && long ws
+
+part-worded : (k : ℕ) (w : List ℕ) (operand : Bool) (t : List ℕ) → k ≤ 15 → 2 ≤ length w → Kinds.fits (record { word = w; operand = operand }) t ≡ true
+    → Worded t (partOf k (record { word = w; operand = operand }))
+part-worded k w true t h l e = let m = fits (w ++ 32 ∷ []) t e in (h, omega (arith, length-append w (32 ∷ [])))
+part-worded k w false t h l e = let m = fits w t (and-left (prefixOf w t) (eqb (length t) (length w)) e) in (h, omega arith)
+
+table-worded : (ws : List Kind) (k : ℕ) (t : List ℕ) → k + length ws ≤ 16 → long ws ≡ true → Worded t (partedFrom k ws t)
+table-worded [] k t h e = tt
+table-worded (w ∷ ws) k t h e = go (Kinds.fits w t) refl (table-worded ws (suc k) t (omega arith) (and-right (leb 2 (length (w .word))) (long ws) e))
+  where
+    go : (b : Bool) → Kinds.fits w t ≡ b → Worded t (partedFrom (suc k) ws t) → Worded t (cond b (partOf k w) (partedFrom (suc k) ws t))
+    go true f ih = part-worded k (w .word) (w .operand) t (omega arith) (leb-true 2 (length (w .word)) (and-left (leb 2 (length (w .word))) (long ws) e)) f
+    go false f ih = ih
+
+parted-worded : (t : List ℕ) → Worded t (parted t)
+parted-worded t = table-worded kinds 0 t (omega arith) refl
+
+-- what a line of n bytes says
+abbrev Says : ℕ → LineRead → Type 0
+Says n Skip = Unit {0}
+Says n (Op k v) = (k ≤ 15) × (2 ≤ n)
+Says n (Bad e) = Among (28 ∷ 29 ∷ 30 ∷ 31 ∷ []) (opsErrorNumbered e .number)
+
+longer : (n m : ℕ) (x : LineRead) → n ≤ m → Says n x → Says m x
+longer n m Skip h s = tt
+longer n m (Op k v) h s = (s .0, omega (arith, s .1))
+longer n m (Bad e) h s = s
+
+number-says : (n k line place len : ℕ) (x : Number) → k ≤ 15 → 2 ≤ n → Says n (ofNumber k line place len x)
+number-says n k line place len (Is v) h l = (h, l)
+number-says n k line place len Invalid h l = go (eqb k 0) (eqb k 11 || eqb k 12)
+  where
+    go : (p q : Bool) → Says n (Bad (cond p (BadPush line place len) (cond q (BadSlot line place len) (BadTarget line place len))))
+    go true q = refl
+    go false true = refl
+    go false false = refl
+
+operand-says : (n k line place : ℕ) (rest : List ℕ) → k ≤ 15 → 2 ≤ n → Says n (operandOf k line place rest)
+operand-says n k line place rest h l = number-says n k line (place + passed rest) (length (trimmed rest)) (numberOf (trimmed rest)) h l
+
+part-says : (line place : ℕ) (t : List ℕ) (x : Parted) → Worded t x → Says (length t) (partRead line place t x)
+part-says line place t (Alone k) h = h
+part-says line place t (Before k n) h = operand-says (length t) k line (place + n) (drop n t) (h .0) (h .1)
+part-says line place t Unknown h = refl
+
+trimmed-length : (l : List ℕ) → length (trimmed l) ≤ length l
+trimmed-length l = omega (arith, endTrimmed-length (startTrimmed l), startTrimmed-length l)
+
+line-says : (line start : ℕ) (l : List ℕ) → Says (length l) (lineOf line start l)
+line-says line start l = go (skipped (trimmed l))
+  where
+    go : (b : Bool) → Says (length l) (cond b Skip (partRead line (start + passed l) (trimmed l) (parted (trimmed l))))
+    go true = tt
+    go false =
+        longer (length (trimmed l)) (length l) (partRead line (start + passed l) (trimmed l) (parted (trimmed l))) (trimmed-length l)
+        (part-says line (start + passed l) (trimmed l) (parted (trimmed l)) (parted-worded (trimmed l)))
+
+-- what lines give, by their count, the bytes that they take and the room
+record Got (bytes room : ℕ) (os : List Operation) : Type 0 where
+  kinds : Each (λ o. o .kind ≤ 15) os
+  within : length os ≤ room
+  third : 3 * length os ≤ bytes
+
+record Refused (count room number : ℕ) : Type 0 where
+  gives : Among (28 ∷ 29 ∷ 30 ∷ 31 ∷ 32 ∷ []) number
+  roomy : count ≤ room → Among (28 ∷ 29 ∷ 30 ∷ 31 ∷ []) number
+
+abbrev Gives : (count bytes room : ℕ) → Reading → Type 0
+Gives count bytes room (ops os) = Got bytes room os
+Gives count bytes room (refused e) = Refused count room (opsErrorNumbered e .number)
+
+skip-gives : (count bytes n room : ℕ) (r : Reading) → Gives count bytes room r → Gives (suc count) (n + 1 + bytes) room r
+skip-gives count bytes n room (ops os) g = record { kinds = g .kinds; within = g .within; third = omega (arith, g .third) }
+skip-gives count bytes n room (refused e) g = record { gives = g .gives; roomy = λ h. g .roomy (omega arith) }
+
+op-gives : (count bytes n room : ℕ) (o : Operation) (r : Reading) → o .kind ≤ 15 → 2 ≤ n → Gives count bytes room r → Gives (suc count) (n + 1 + bytes) (suc room) (followedBy o r)
+op-gives count bytes n room o (ops os) k l g = record { kinds = one k (g .kinds); within = omega (arith, g .within); third = omega (arith, g .third) }
+op-gives count bytes n room o (refused e) k l g = record { gives = g .gives; roomy = λ h. g .roomy (omega arith) }
+
+line-gives : (count bytes n line room : ℕ) (more : ℕ → Reading) (x : LineRead) → Says n x → ((r : ℕ) → Gives count bytes r (more r)) → Gives (suc count) (n + 1 + bytes) room (thenRead line room more x)
+line-gives count bytes n line room more Skip s ih = skip-gives count bytes n room (more room) (ih room)
+line-gives count bytes n line zero more (Op k v) s ih = record { gives = refl; roomy = λ h. absurd (omega arith) }
+line-gives count bytes n line (suc room) more (Op k v) s ih = op-gives count bytes n room (record { kind = k; operand = v }) (more room) (s .0) (s .1) (ih room)
+line-gives count bytes n line room more (Bad e) s ih =
+    record { gives = widen (28 ∷ 29 ∷ 30 ∷ 31 ∷ []) (28 ∷ 29 ∷ 30 ∷ 31 ∷ 32 ∷ []) (opsErrorNumbered e .number) refl s; roomy = λ h. s }
+
+lines-give : (text : List ℕ) (n : ℕ) (ls : List (List ℕ)) (room : ℕ) → Gives (length ls) (size ls) room (readLines text n ls room)
+lines-give text n [] room = record { kinds = none; within = omega arith; third = omega arith }
+lines-give text n (l ∷ ls) room =
+    line-gives (length ls) (size ls) (length l) (n + 1) room (readLines text (n + 1) ls) (lineOf (n + 1) (startOf n text) l) (line-says (n + 1) (startOf n text) l)
+    (λ r. lines-give text (n + 1) ls r)
+
+-- the same of a text's reading, with 0, 27 and 33
+record Told (count bytes room : ℕ) (r : Reading) : Type 0 where
+  kinds : Each (λ o. o .kind ≤ 15) (opsOf r)
+  within : length (opsOf r) ≤ room
+  third : 3 * length (opsOf r) ≤ bytes
+  gives : Among (0 ∷ 27 ∷ 28 ∷ 29 ∷ 30 ∷ 31 ∷ 32 ∷ 33 ∷ []) (parsedOpsNumbered (answerOf r) .number)
+  roomy : count ≤ room → Among (0 ∷ 27 ∷ 28 ∷ 29 ∷ 30 ∷ 31 ∷ 33 ∷ []) (parsedOpsNumbered (answerOf r) .number)
+
+some-told : (count bytes room : ℕ) (r : Reading) → Gives count bytes room r → Told count bytes room (someRead r)
+some-told count bytes room (ops []) g = record { kinds = none; within = omega arith; third = omega arith; gives = refl; roomy = λ h. refl }
+some-told count bytes room (ops (o ∷ os)) g = record { kinds = g .kinds; within = g .within; third = g .third; gives = refl; roomy = λ h. refl }
+some-told count bytes room (refused e) g = record {
+  kinds = none;
+  within = omega arith;
+  third = omega arith;
+  gives = widen (28 ∷ 29 ∷ 30 ∷ 31 ∷ 32 ∷ []) (0 ∷ 27 ∷ 28 ∷ 29 ∷ 30 ∷ 31 ∷ 32 ∷ 33 ∷ []) (opsErrorNumbered e .number) refl (g .gives);
+  roomy = λ h. widen (28 ∷ 29 ∷ 30 ∷ 31 ∷ []) (0 ∷ 27 ∷ 28 ∷ 29 ∷ 30 ∷ 31 ∷ 33 ∷ []) (opsErrorNumbered e .number) refl (g .roomy h);
+}
+
+text-told : (text : List ℕ) (room : ℕ) → Told (length (lines text)) (size (lines text)) room (readText text room)
+text-told text room = go (utf8 text)
+  where
+    go : (b : Bool) → Told (length (lines text)) (size (lines text)) room (cond b (someRead (readLines text 0 (lines text) room)) (refused NotUtf8))
+    go true = some-told (length (lines text)) (size (lines text)) room (readLines text 0 (lines text) room) (lines-give text 0 (lines text) room)
+    go false = record { kinds = none; within = omega arith; third = omega arith; gives = refl; roomy = λ h. refl }
+
+pub read-relied : (text : List ℕ) (room : ℕ) → ReadRelied text room
+read-relied text room =
+    let t = text-told text room in
+    record {
+      kinds = t .kinds;
+      within = t .within;
+      third = omega (arith, t .third, lines-size text);
+      gives = t .gives;
+      roomy = t .roomy;
+      lent = λ h. t .roomy (omega (arith, lines-count text));
+    }

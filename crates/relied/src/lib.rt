@@ -1,0 +1,1 @@
+// Theorems that callers of the C ABI rely on; there is no code.
