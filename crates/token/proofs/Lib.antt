@@ -1,3 +1,4 @@
 pub mod Runs
 pub mod Tokens
+pub mod LongestMatch
 pub mod Examples

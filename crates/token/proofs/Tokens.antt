@@ -14,24 +14,24 @@ use Rattle.token.specs.declared.Token.{Token}
 use Rattle.token.specs.Token.{space, nameStart, goesOn, scan, tokens, first, run, startAt, tokenAt}
 use Rattle.token.proofs.Runs.{run-short, take-run, run-stops}
 
-tokens-space : (a : ℕ) (s : List ℕ) → space a ≡ true → tokens (a ∷ s) ≡ tokens s
+pub tokens-space : (a : ℕ) (s : List ℕ) → space a ≡ true → tokens (a ∷ s) ≡ tokens s
 unfolding scan
 tokens-space a s e = rw (e, scan)
 
-tokens-start : (a : ℕ) (s : List ℕ) → space a ≡ false → tokens (a ∷ s) ≡ scan (a ∷ []) s
+pub tokens-start : (a : ℕ) (s : List ℕ) → space a ≡ false → tokens (a ∷ s) ≡ scan (a ∷ []) s
 unfolding scan
 tokens-start a s e = rw (e, scan)
 
-scan-more : (a b : ℕ) (v s : List ℕ) → goesOn a b ≡ true → scan (a ∷ v) (b ∷ s) ≡ scan (a ∷ v ++ b ∷ []) s
+pub scan-more : (a b : ℕ) (v s : List ℕ) → goesOn a b ≡ true → scan (a ∷ v) (b ∷ s) ≡ scan (a ∷ v ++ b ∷ []) s
 unfolding scan
 scan-more a b v s e = rw (e, scan)
 
-scan-ended : (a b : ℕ) (v s : List ℕ) → goesOn a b ≡ false → scan (a ∷ v) (b ∷ s) ≡ (a ∷ v) ∷ tokens (b ∷ s)
+pub scan-ended : (a b : ℕ) (v s : List ℕ) → goesOn a b ≡ false → scan (a ∷ v) (b ∷ s) ≡ (a ∷ v) ∷ tokens (b ∷ s)
 unfolding scan
 scan-ended a b v s e = rw (e, scan)
 
 -- a token that is read up to v goes on as long as its start lets it
-scan-token : (a : ℕ) (v s : List ℕ) → scan (a ∷ v) s ≡ (a ∷ v ++ run (goesOn a) s) ∷ tokens (drop (length (run (goesOn a) s)) s)
+pub scan-token : (a : ℕ) (v s : List ℕ) → scan (a ∷ v) s ≡ (a ∷ v ++ run (goesOn a) s) ∷ tokens (drop (length (run (goesOn a) s)) s)
 unfolding scan
 scan-token a v [] = ap (λ (w : List ℕ). (a ∷ w) ∷ []) (sym (append-nil v))
 scan-token a v (b ∷ s) =
@@ -130,7 +130,7 @@ module _ (a : ℕ) (e : digit a ≡ true) where
   no-name : nameStart a ≡ false
   no-name = let b = between 48 57 a e in simp (below 65 90 a (omega arith), below 97 122 a (omega arith), ne-eqb a 95 (λ q. omega arith))
 
-  goes-on-digits : (b : ℕ) → goesOn a b ≡ digit b
+  pub goes-on-digits : (b : ℕ) → goesOn a b ≡ digit b
   goes-on-digits b = simp (e, no-name, or-false)
 
   run-digits : (s : List ℕ) → run (goesOn a) s ≡ digits s
