@@ -5,38 +5,14 @@ use mathlib.Core.List.{List, [], _∷_, _++_, append-assoc}
 use mathlib.Core.Bool.{Bool, true, false, _&&_, _||_}
 use mathlib.Core.Logic.{_↔_}
 use native.Mathlib.Omega.{arith}
-use borrow.Author.Tests.{eqb-true}
-use lib.Dec.{eqb}
 use lib.ListN.{length, drop}
 use lib.Seq.{drop-at}
-use Rattle.byte.specs.Range.{within}
 use Rattle.byte.proofs.Tests.{never, by-bool, by-or, and-left, and-right, and-both, between}
 use Rattle.number.specs.Decimal.{digit}
 use Rattle.token.specs.Token.{space, nameStart, namePart, sign, allowed, goesOn, scan, tokens, run}
 use Rattle.token.specs.Tokens.{every, IsToken, digits, name, single, Longest, Tokens, none, parted, token}
+use Rattle.token.proofs.Classes.{space-bound, sign-bounds, start-bound, not-so}
 use Rattle.token.proofs.Tokens.{tokens-space, tokens-start, scan-more, scan-ended, scan-token, goes-on-digits}
-
--- bytes that part tokens come first, then signs, digits, letters
-space-bound : (a : ℕ) → space a ≡ true → a ≤ 32
-space-bound a e =
-    by-or (within 9 10 a || within 12 13 a) (eqb a 32) e
-    (λ p. by-or (within 9 10 a) (within 12 13 a) p (λ q. let b = between 9 10 a q in omega arith) (λ q. let b = between 12 13 a q in omega arith))
-    (λ p. let q = eqb-true a 32 p in omega arith)
-
-sign-bounds : (a : ℕ) → sign a ≡ true → (40 ≤ a) × (a ≤ 47)
-sign-bounds a e =
-    by-or (within 40 43 a || eqb a 45) (eqb a 47) e
-    (λ p. by-or (within 40 43 a) (eqb a 45) p (λ q. let b = between 40 43 a q in (omega arith, omega arith)) (λ q. let b = eqb-true a 45 q in (omega arith, omega arith)))
-    (λ p. let q = eqb-true a 47 p in (omega arith, omega arith))
-
-start-bound : (a : ℕ) → nameStart a ≡ true → 65 ≤ a
-start-bound a e =
-    by-or (within 65 90 a || within 97 122 a) (eqb a 95) e
-    (λ p. by-or (within 65 90 a) (within 97 122 a) p (λ q. let b = between 65 90 a q in omega arith) (λ q. let b = between 97 122 a q in omega arith))
-    (λ p. let q = eqb-true a 95 p in omega arith)
-
-not-so : (p : Bool) → (p ≡ true → ⊥) → p ≡ false
-not-so p h = by-bool p (λ e. absurd (h e)) (λ e. e)
 
 -- what goes on with a name, and with a sign
 name-goes : (a b : ℕ) → nameStart a ≡ true → goesOn a b ≡ namePart b
