@@ -15,6 +15,7 @@ use Rattle.expression.specs.Parse.{Env, Meaning, tree, wrong, meaning}
 use Rattle.expression.specs.Figures.{Figures}
 use Rattle.expression.specs.Table.{Columns, Holds}
 use Rattle.expression.specs.Answer.{said, due, Short, Answers}
+use Rattle.expression.proofs.Meaning.{held-told}
 use Rattle.assembler.specs.declared.body.Checked.{Checked}
 use Rattle.assembler.specs.declared.body.Checked.the-variants.{Is, Refused}
 use Rattle.assembler.specs.declared.refusal.Refusal.the-variants.{Expression, TooLong}
@@ -51,14 +52,14 @@ module _ (s : List ℕ) (start end : ℕ) (w : Within s start end) (c : Columns)
 
   module _ {p : Parsed} (a : Answers (take end s) start c p) where
     pub check-refused : (e : ExprError) → p ≡ Parsed.Refused e → ChecksAll (take end s) c line (part s start end) (Refused (Expression e line))
-    check-refused e q = checks-all (λ env h. refused-checks line e (meaning env (drop start (take end s))) (sym (ap said q) ∙ a .is env h))
+    check-refused e q = checks-all (λ env h. refused-checks line e (meaning env (drop start (take end s))) (sym (ap said q) ∙ a .is env (held-told h)))
 
     module _ (v : Read) (q : p ≡ Parsed.Done v) where
       pub check-long : 32768 < v .k → ChecksAll (take end s) c line (part s start end) (Refused (TooLong line))
-      check-long l = checks-all (λ env h. long-checks line v (meaning env (drop start (take end s))) (sym (ap said q) ∙ a .is env h) l)
+      check-long l = checks-all (λ env h. long-checks line v (meaning env (drop start (take end s))) (sym (ap said q) ∙ a .is env (held-told h)) l)
 
       pub check-done : v .k ≤ 32768 → ChecksAll (take end s) c line (part s start end) (Is v)
-      check-done l = checks-all (λ env h. done-checks line v (meaning env (drop start (take end s))) (sym (ap said q) ∙ a .is env h) (a .short env h) l)
+      check-done l = checks-all (λ env h. done-checks line v (meaning env (drop start (take end s))) (sym (ap said q) ∙ a .is env (held-told h)) (a .short env (held-told h)) l)
 
 -- the figures of a tree with a small k fit the table
 pub figures-small : {t : Tree} {v : Read} → kOf t ≤ 32768 → Figures t v → Small v

@@ -34,14 +34,14 @@ lookup-words w (b ∷ env) h = go (sameText w (b .name)) (lookup-words w env (h 
     go false x = x
 
 derives-words : {env : Env} {l d : ℕ} {ts : List (List ℕ)} {t : Tree} → WordsIn env → Derives env l d ts t → Words t
-derives-words h (number a lt) = lt
+derives-words h (number b a lt) = lt
 derives-words {env} h (name {w = w} o a e) = rw e at (lookup-words w env h)
 derives-words h (parentheses p) = derives-words h p
 derives-words h (alone p) = derives-words h p
-derives-words h (join w p j q) = (derives-words h p, derives-words h q)
+derives-words h (join p o q) = (derives-words h p, derives-words h q)
 
 pub meaning-words : (env : Env) (s : List ℕ) (t : Tree) → WordsIn env → meaning env s ≡ tree t → Words t
-meaning-words env s t h e = derives-words h (grammar env s t .0 e .1)
+meaning-words env s t h e = derives-words h (grammar env s t .0 e .1 .1)
 
 -- the text of a tree is bounded by its k
 line-short : (op : Binary) → lineOf op ≤ 4

@@ -5,13 +5,14 @@ use mathlib.Core.List.{List, [], _∷_, _++_, append-nil, append-assoc}
 use mathlib.Core.Bool.{true, false}
 use native.Mathlib.Omega.{arith}
 use lib.ListN.{length}
+use Rattle.word.specs.Apply.{Binary}
 use Rattle.token.specs.Token.{tokens}
 use Rattle.expression.specs.Tree.{Tree, bin}
 use Rattle.expression.specs.Parse.{Env, lone, operator, tree, meaning}
 use Rattle.expression.specs.Grammar.{Derives, number, name, parentheses, alone, join}
 use Rattle.expression.specs.Written.{textOf}
 use Rattle.expression.proofs.Steps.{lone-is}
-use Rattle.expression.proofs.Grammar.{digits-no-parenthesis, grammar}
+use Rattle.expression.proofs.Grammar.{operator-is, digits-no-parenthesis, meaning-derives}
 use Rattle.expression.proofs.Written.{text-bin}
 use Rattle.writer.specs.Pieces.{operatorText, operatorsText}
 use Rattle.emission.specs.Waiting.{levelOf, popped, left}
@@ -114,17 +115,19 @@ module _ {env : Env} {l : ℕ} {st : List ℕ} {ts us : List (List ℕ)} {t u : 
 
 -- tokens of a level, walked from a stack that leaves room for what waits in the parentheses that may still open
 ends : {env : Env} {l d : ℕ} {ts : List (List ℕ)} {t : Tree} → Derives env l d ts t → l ≤ 2 → (st : List ℕ) → length st + l + 3 * d ≤ 194 → Starts l st → Ends env l st ts t
-ends {env} (number {d} {w} a h) low st small s = factor-ends env st (w ∷ []) _ (λ rest o g. Walk.number (digits-no-parenthesis w a) a h o refl g)
+ends {env} (number {d} {w} b a h) low st small s = factor-ends env st (w ∷ []) _ (λ rest o g. Walk.number (digits-no-parenthesis w a) a h o refl g)
 ends {env} (name {d} {w} {t} n a h) low st small s = factor-ends env st (w ∷ []) t (λ rest o g. Walk.name (λ e. n (lone-is w 40 (omega arith) e)) a t h o refl g)
 ends {env} (parentheses {d} {ts} {t} h) low st small s = parentheses-end (omega arith) (ends h (omega arith) (40 ∷ st) (omega arith) (starts-top 2 40 st (omega arith)))
 ends {env} (alone {l} {d} {ts} {t} h) low st small s = alone-ends (ends h (omega arith) st (omega arith) (starts-below s))
-ends {env} (join {l} {d} {ts} {us} w {t} {u} h j g) low st small s =
-    let level = joins-level l (lone w) j in
-    join-ends w (omega arith) (omega arith) s (ends h low st small s) level (ends g (omega arith) (lone w ∷ st) (omega arith) (starts-top l (lone w) st (omega arith)))
+ends {env} (join {l} {d} {ts} {us} {w} {op} {t} {u} h o g) low st small s =
+    let j = operator-is o in
+    let level = joins-level l (lone w) (j .0) in
+    subst (λ (x : Binary). Ends env (suc l) st (ts ++ w ∷ us) (bin x t u)) (j .1)
+    (join-ends w (omega arith) (omega arith) s (ends h low st small s) level (ends g (omega arith) (lone w ∷ st) (omega arith) (starts-top l (lone w) st (omega arith))))
 
 pub postfix : (env : Env) (s : List ℕ) (t : Tree) → meaning env s ≡ tree t → Walks env true [] (tokens s) (textOf t)
 postfix env s t e =
-    let v = ends (grammar env s t .0 e .1) (omega arith) [] (omega arith) (starts-empty 2) in
+    let v = ends (meaning-derives env s t e .1) (omega arith) [] (omega arith) (starts-empty 2) in
     let p : popped 2 (v .top ++ []) ≡ v .top = v .popped 2 (omega arith) ∙ ap (λ (x : List ℕ). v .top ++ x) (starts-empty 2 .popped 2 (omega arith)) ∙ append-nil (v .top) in
     let q : left 2 (v .top ++ []) ≡ [] = v .left 2 (omega arith) ∙ starts-empty 2 .left 2 (omega arith) in
     let w = v .walks [] (operatorsText (v .top)) (record { text = ap operatorsText (sym p); empty = q }) in

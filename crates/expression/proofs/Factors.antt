@@ -76,6 +76,7 @@ module _ {s : List ℕ} {at : ℕ} (c : Columns) {start end : ℕ} (n : Next s a
             fine = record {
               past = omega (arith, n .after, n .some, f .past, a .after, a .some);
               within = a .inside;
+              last = a .last;
               k = omega (arith, n .after, n .some, f .past, f .k, a .after, a .some);
               p = omega (arith, n .after, n .some, f .past, f .p, a .after, a .some);
               len = omega (arith, n .after, n .some, f .past, f .len, a .after, a .some);
@@ -130,6 +131,7 @@ module _ {s : List ℕ} {at : ℕ} (c : Columns) {start end : ℕ} (n : Next s a
           fine = record {
             past = omega (arith, len-token, n .after, n .some);
             within = omega (arith, len-token, n .inside);
+            last = rw len-token (n .last);
             k = omega (arith, len-token, n .after, n .some);
             p = omega (arith, len-token, n .after, n .some);
             len = omega (arith, len-token, n .after, n .some);
@@ -166,6 +168,7 @@ module _ {s : List ℕ} {at : ℕ} (c : Columns) {start end : ℕ} (n : Next s a
       fine = record {
         past = omega (arith, n .after, n .some);
         within = n .inside;
+        last = n .last;
         k = omega (arith, n .after, n .some, a .k);
         p = omega (arith, n .after, n .some, a .p);
         len = omega (arith, n .after, n .some, a .len);

@@ -1,14 +1,13 @@
 -- What the cycle reads of a whole expression is what the text means.
-use Prim.Native.Nat.{ℕ, _≤_}
+use Prim.Native.Nat.{ℕ, zero, suc, _-_}
 use mathlib.Core.Path.{_≡_, refl, sym, ap, subst, _∙_}
 use mathlib.Core.List.{List, [], _∷_}
 use mathlib.Core.Bool.{true, false}
 use native.Mathlib.Omega.{arith}
 use lib.ListN.{drop}
-use Rattle.token.specs.Token.{allowed, scan, tokens, tokenAt}
+use Rattle.token.specs.Token.{allowed, scan, tokens, tokenAt, lastEnd}
 use Rattle.token.specs.declared.Token.{Token}
-use Rattle.expression.specs.declared.Bindings.{Bindings}
-use Rattle.expression.specs.declared.Values.{Values}
+use Rattle.token.proofs.LastEnd.{last-end}
 use Rattle.expression.specs.declared.figures.Read.{Read}
 use Rattle.expression.specs.declared.ExprError.{ExprError}
 use Rattle.expression.specs.declared.ExprError.the-variants.{InvalidCharacter, UnconsumedTokens}
@@ -17,19 +16,19 @@ use Rattle.expression.specs.declared.Parsed.the-variants.{Done, Refused}
 use Rattle.expression.specs.Tree.{Tree}
 use Rattle.expression.specs.Parse.{Env, done, enough, parseF, moreF, Meaning, tree, wrong, whole, meaning, expression}
 use Rattle.expression.specs.Figures.{Figures}
-use Rattle.expression.specs.Table.{Columns, columnsOf, columns, Holds}
-use Rattle.expression.specs.Answer.{exprErrorNumbered, said, due, Short, Over, Answers}
+use Rattle.expression.specs.Table.{Columns, columnsOf, Told, few, Holds}
+use Rattle.expression.specs.Answer.{exprErrorNumbered, said, due, Short, EndsLast, Answers}
 use Rattle.expression.specs.Parts.{wholeRead}
-use Rattle.expression.specs.Cycle.{Meets}
+use Rattle.expression.specs.Cycle.{Placed, Meets}
 use Rattle.expression.proofs.Signs.{none-of, next-of}
 use Rattle.expression.proofs.Grammar.{meaning-whole, meaning-not-allowed}
 
 -- from what a text means to what is promised of it
-means : (s : List ℕ) (at : ℕ) (c : Columns) (r : Parsed) → Over s r → ((env : Env) → Holds s c env → (m : Meaning) × ((meaning env (drop at s) ≡ m) × ((said r ≡ due m) × Short m))) → Answers s at c r
+means : (s : List ℕ) (at : ℕ) (c : Columns) (r : Parsed) → EndsLast s r → ((env : Env) → Told s c (few (c .count)) env → (m : Meaning) × ((meaning env (drop at s) ≡ m) × ((said r ≡ due m) × Short m))) → Answers s at c r
 means s at c r o f = record {
   is = λ env h. let x = f env h in x .1 .1 .0 ∙ sym (ap due (x .1 .0));
   short = λ env h. let x = f env h in subst Short (sym (x .1 .0)) (x .1 .1 .1);
-  over = o;
+  ends = o;
 }
 
 pub not-allowed : (s : List ℕ) (at : ℕ) (c : Columns) → allowed (drop at s) ≡ false → Answers s at c (Refused InvalidCharacter)
@@ -38,18 +37,41 @@ not-allowed s at c e = means s at c _ tt (λ env h. (wrong 13, (meaning-not-allo
 figures-said : {t : Tree} {v : Read} → Figures t v → said (Done v) ≡ due (tree t)
 figures-said f = cc (f .k, f .p, f .value, f .len)
 
-module _ (s : List ℕ) (at : ℕ) (c c′ : Columns) (a : allowed (drop at s) ≡ true) (same : c .count ≤ 256 → c′ ≡ c) where
-  held : (env : Env) → Holds s c env → Holds s c′ env
-  held env h = subst (λ (x : Columns). Holds s x env) (sym (same (h .room))) h
+-- the same columns with another count
+abbrev recount : ℕ → Columns → Columns
+recount n c = columnsOf n (c .names) (c .lens) (c .ks) (c .ps) (c .values) (c .nones) (c .sizes)
 
-  pub refused-answers : {e : ExprError} → Meets s at c′ expression 64 (Refused e) → Answers s at c (Refused e)
+told-recount : (s : List ℕ) (c : Columns) (n m : ℕ) (env : Env) → Told s c m env → Told s (recount n c) m env
+told-recount s c n zero [] h = tt
+told-recount s c n zero (b ∷ env) h = absurd h
+told-recount s c n (suc m) [] h = absurd h
+told-recount s c n (suc m) (b ∷ env) (t, h) = (t, told-recount s c n m env h)
+
+-- what is held is told
+pub held-told : {s : List ℕ} {c : Columns} {env : Env} → Holds s c env → Told s c (few (c .count)) env
+held-told {s} {c} {env} h = let r = h .room in let e : c .count ≡ few (c .count) = omega arith in subst (λ (n : ℕ). Told s c n env) e (h .told)
+
+-- behind what is read no token is left
+read-ends : {s : List ℕ} {at : ℕ} {v : Read} → Placed s at v → tokens (drop (v .next) s) ≡ [] → v .next ≡ lastEnd s
+read-ends {s} {at} {v} p q =
+    let a = p .past in
+    let w = p .within in
+    let e : v .next ≡ suc (v .next - 1) = omega arith in
+    e ∙ sym (last-end s (v .next - 1) (omega arith) (p .last) (ap (λ (i : ℕ). tokens (drop i s)) (sym e) ∙ q))
+
+-- the count as the code bounds it
+module _ (s : List ℕ) (at : ℕ) (c : Columns) (n : ℕ) (few-is : n ≡ few (c .count)) (a : allowed (drop at s) ≡ true) where
+  holds : (env : Env) → Told s c (few (c .count)) env → Holds s (recount n c) env
+  holds env h = record { room = omega arith; told = told-recount s c n n env (rw few-is h) }
+
+  pub refused-answers : {e : ExprError} → Meets s at (recount n c) expression 64 (Refused e) → Answers s at c (Refused e)
   refused-answers {e} m = means s at c _ tt (λ env h.
-      let x = m .means env (held env h) in
+      let x = m .means env (holds env h) in
       (wrong (exprErrorNumbered e .number), (meaning-whole env (drop at s) a ∙ ap whole (x .same (enough expression (tokens (drop at s))) (omega arith)), (refl, tt))))
 
-  pub done-answers : {v : Read} (ts : List (List ℕ)) → tokens (drop (v .next) s) ≡ ts → Meets s at c′ expression 64 (Done v) → Answers s at c (wholeRead ts v)
-  done-answers {v} [] q m = means s at c _ q (λ env h.
-      let x = m .means env (held env h) in
+  pub done-answers : {v : Read} (ts : List (List ℕ)) → tokens (drop (v .next) s) ≡ ts → Meets s at (recount n c) expression 64 (Done v) → Answers s at c (wholeRead ts v)
+  done-answers {v} [] q m = means s at c _ (read-ends (m .fine) q) (λ env h.
+      let x = m .means env (holds env h) in
       let f = x .1 .1 in (
         tree (x .0),
         (
@@ -58,12 +80,8 @@ module _ (s : List ℕ) (at : ℕ) (c c′ : Columns) (a : allowed (drop at s) �
         ),
       ))
   done-answers {v} (w ∷ ts) q m = means s at c _ tt (λ env h.
-      let x = m .means env (held env h) in
+      let x = m .means env (holds env h) in
       (wrong 19, (meaning-whole env (drop at s) a ∙ ap whole (x .1 .0 .same (enough expression (tokens (drop at s))) (omega arith) ∙ ap (done (x .0)) q), (refl, tt))))
-
--- the columns with the count as the code bounds it
-pub counted : (b : Bindings) (v : Values) {n : ℕ} → (b .count ≤ 256 → n ≡ b .count) → b .count ≤ 256 → columnsOf n (b .«name_start») (b .«name_len») (b .k) (b .p) (v .value) (v .none) (v .len) ≡ columns b v
-counted b v e h = ap (λ (i : ℕ). columnsOf i (b .«name_start») (b .«name_len») (b .k) (b .p) (v .value) (v .none) (v .len)) (e h)
 
 -- the token that follows what was read
 module _ (s : List ℕ) (v : Read) (t : Token) (e : t ≡ tokenAt s (v .next)) where

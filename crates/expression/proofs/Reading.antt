@@ -4,10 +4,10 @@ use mathlib.Core.Path.{_≡_, refl, sym, ap, subst, _∙_}
 use mathlib.Core.List.{List, _∷_}
 use mathlib.Core.Bool.{true, false}
 use native.Mathlib.Omega.{arith}
-use lib.Dec.{eqb}
 use lib.ListN.{length, drop}
-use Rattle.byte.proofs.Tests.{never, by-bool, by-leb}
+use Rattle.byte.proofs.Tests.{never, by-leb}
 use Rattle.byte.proofs.Parts.{next}
+use Rattle.word.specs.Apply.{Binary, add, sub, mul, div, eq, lt}
 use Rattle.token.specs.Token.{tokens, first, tokenAt}
 use Rattle.token.proofs.Tokens.{tokenFrom, token-none, token-next}
 use Rattle.expression.specs.declared.figures.Read.{Read}
@@ -30,15 +30,18 @@ carry {s} {at} {c} {l} {d} e m = subst (λ (x : Parsed). Meets s at c l d x) e m
 pub small : {s : List ℕ} {at : ℕ} {v : Read} → length s ≤ 65536 → Placed s at v → Small v
 small {s} {at} {v} h p = record { k = omega (arith, p .k, p .within); p = omega (arith, p .p, p .within); len = omega (arith, p .len, p .within) }
 
-line-four : (a : ℕ) → lineOf (operator a) ≡ 4
-line-four a =
-    by-bool (eqb a 43) (λ e. simp e)
-    (λ e. by-bool (eqb a 45) (λ f. simp (e, f))
-    (λ f. by-bool (eqb a 42) (λ g. simp (e, f, g)) (λ g. simp (e, f, g))))
+-- an operator's line has at most 4 bytes
+line-most : (op : Binary) → lineOf op ≤ 4
+line-most add = omega arith
+line-most sub = omega arith
+line-most mul = omega arith
+line-most div = omega arith
+line-most eq = omega arith
+line-most lt = omega arith
 
 figures-join : (a : ℕ) {t u : Tree} {v w r : Read} → Figures t v → Figures u w → Joined a v w r → Figures (bin (operator a) t u) r
 figures-join a {t} {u} {v} {w} {r} f g j =
-    let l = line-four a in
+    let l = line-most (operator a) in
     record {
       k = omega (arith, j .k, f .k, g .k);
       p = cc (j .p, f .p, g .p);
@@ -105,9 +108,10 @@ module _ {s : List ℕ} {at : ℕ} {c : Columns} {l d : ℕ} where
           placed = record {
             past = omega (arith, q .next, p .past, o .past, n .past);
             within = omega (arith, q .next, n .within);
+            last = rw (q .next) (n .last);
             k = omega (arith, q .next, q .k, p .past, o .past, n .past, p .k, n .k);
             p = omega (arith, q .next, q .p, p .past, o .past, n .past, p .p, n .p);
-            len = omega (arith, q .next, q .len, p .past, o .past, n .past, p .len, n .len);
+            len = omega (arith, q .next, q .len, line-most (operator (sign .byte)), p .past, o .past, n .past, p .len, n .len);
           };
           means = λ env h. joining env (g .means env h) (m .means env h) o;
         }

@@ -1,12 +1,12 @@
 -- What an answer of the parser says: document 01's number of a refusal, or the figures of the tree that is read.
 use Prim.Native.Nat.{ℕ, _+_, _*_, _≤_}
 use mathlib.Core.Path.{_≡_}
-use mathlib.Core.List.{List, []}
+use mathlib.Core.List.{List}
 use lib.ListN.{drop}
 use mathlib.Core.Option.{Option}
 use Rattle.numbered.specs.declared.Numbered.{Numbered}
 use Rattle.numbered.specs.Numbered.{plain}
-use Rattle.token.specs.Token.{tokens}
+use Rattle.token.specs.Token.{lastEnd}
 use Rattle.expression.specs.declared.ExprError.{ExprError}
 use Rattle.expression.specs.declared.ExprError.the-variants.{InvalidCharacter, UnexpectedEnd, UnbalancedParenthesis, InvalidLiteral, UnknownIdentifier, TooDeep, UnconsumedTokens}
 use Rattle.expression.specs.declared.Parsed.{Parsed}
@@ -14,7 +14,7 @@ use Rattle.expression.specs.declared.Parsed.the-variants as Parsed
 use Rattle.expression.specs.Tree.{valueOf, kOf, pOf, lenOf}
 use Rattle.expression.specs.Figures.{optionOf}
 use Rattle.expression.specs.Parse.{Env, Meaning, tree, wrong, meaning}
-use Rattle.expression.specs.Table.{Columns, Holds}
+use Rattle.expression.specs.Table.{Columns, Told, few}
 
 -- document 01's number of each refusal; the line is the caller's to add
 abbrev pub exprErrorNumbered : ExprError → Numbered
@@ -39,18 +39,19 @@ abbrev pub due : Meaning → Answer
 due (tree t) = figures (kOf t) (pOf t) (valueOf t) (lenOf t)
 due (wrong n) = refusal n
 
--- a tree's text is short: a line has at most 26 bytes, and an operator's 4
+-- a tree's text is short: a line has at most 26 bytes, and an operator's at most 4
 abbrev pub Short : Meaning → Type 0
 Short (tree t) = lenOf t + 4 ≤ 30 * kOf t
 Short (wrong n) = Unit {0}
 
--- behind a tree no token is left
-abbrev pub Over : List ℕ → Parsed → Type 0
-Over s (Parsed.Done v) = tokens (drop (v .next) s) ≡ []
-Over s (Parsed.Refused e) = Unit {0}
+-- a tree is read up to the end of the text's last token
+abbrev pub EndsLast : List ℕ → Parsed → Type 0
+EndsLast s (Parsed.Done v) = v .next ≡ lastEnd s
+EndsLast s (Parsed.Refused e) = Unit {0}
 
--- the answer to the expression from a place of a text on is what it means, in every environment that the table holds
+-- The answer to the expression from a place of a text on is what it means, in every environment that the first bindings of the table tell.
+-- Of a table whose bindings tell no environment, since a name isn't inside the text or figures are those of no tree, only `ends` is promised.
 pub record Answers (s : List ℕ) (at : ℕ) (c : Columns) (r : Parsed) : Type 0 where
-  pub is : (env : Env) → Holds s c env → said r ≡ due (meaning env (drop at s))
-  pub short : (env : Env) → Holds s c env → Short (meaning env (drop at s))
-  pub over : Over s r
+  pub is : (env : Env) → Told s c (few (c .count)) env → said r ≡ due (meaning env (drop at s))
+  pub short : (env : Env) → Told s c (few (c .count)) env → Short (meaning env (drop at s))
+  pub ends : EndsLast s r

@@ -2,8 +2,9 @@
 use Prim.Native.Nat.{ℕ, _-_, _*_, _^_, _<_, _≤_}
 use mathlib.Core.Path.{_≡_}
 use mathlib.Core.List.{List}
-use lib.ListN.{length, drop}
-use Rattle.token.specs.Token.{tokens}
+use mathlib.Core.Bool.{false}
+use lib.ListN.{length, getD, drop}
+use Rattle.token.specs.Token.{space, tokens}
 use Rattle.expression.specs.declared.figures.Read.{Read}
 use Rattle.expression.specs.declared.Parsed.{Parsed}
 use Rattle.expression.specs.declared.Parsed.the-variants.{Done, Refused}
@@ -22,10 +23,11 @@ module _ (env : Env) (l d : ℕ) (ts : List (List ℕ)) where
   pub record Refuses (n : ℕ) : Type 0 where
     pub same : (f : ℕ) → enough l ts ≤ f → parseF f l env d ts ≡ refused n
 
--- what is read ends within the text; the bounds exclude that a sum overflows
+-- what is read ends within the text, with a byte of a token; the bounds exclude that a sum overflows
 pub record Placed (s : List ℕ) (at : ℕ) (v : Read) : Type 0 where
   pub past : at < v .next
   pub within : v .next ≤ length s
+  pub last : space (getD s (v .next - 1) 0) ≡ false
   pub k : v .k ≤ 65535 * (v .next - at)
   pub p : v .p ≤ 65535 * (v .next - at)
   pub len : v .len ≤ 2 ^ 32 * (v .next - at)

@@ -5,14 +5,14 @@ use mathlib.Core.Option.{Option, some, none}
 use Rattle.expression.specs.declared.figures.Value.{Value}
 use Rattle.expression.specs.declared.figures.Value.the-variants as Value
 use Rattle.expression.specs.declared.figures.Read.{Read}
-use Rattle.expression.specs.Tree.{Tree, applied, valueOf, kOf, pOf, lenOf}
+use Rattle.expression.specs.Tree.{Tree, applied, valueOf, kOf, pOf, lineOf, lenOf}
 use Rattle.expression.specs.Parse.{operator}
 
 abbrev pub optionOf : Value → Option ℕ
 optionOf (Value.Is n) = some n
 optionOf Value.None = none
 
--- they are those of the tree t; a line of text has at most 26 bytes, and an operator's 4
+-- they are those of the tree t; a line of text has at most 26 bytes, and an operator's at most 4
 pub record Figures (t : Tree) (v : Read) : Type 0 where
   pub k : v .k ≡ kOf t
   pub p : v .p ≡ pOf t
@@ -32,4 +32,4 @@ pub record Joined (a : ℕ) (v w r : Read) : Type 0 where
   pub k : r .k ≡ v .k + w .k
   pub p : r .p ≡ max (v .p) (w .p + 1)
   pub value : optionOf (r .value) ≡ applied (operator a) (optionOf (v .value)) (optionOf (w .value))
-  pub len : r .len ≡ v .len + w .len + 4
+  pub len : r .len ≡ v .len + w .len + lineOf (operator a)

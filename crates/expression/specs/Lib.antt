@@ -1,6 +1,7 @@
 pub mod Tree
-pub mod Parse
+pub mod Environment
 pub mod Grammar
+pub mod Parse
 pub mod Answer
 pub mod Table
 pub mod Source

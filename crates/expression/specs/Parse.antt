@@ -1,7 +1,7 @@
 -- The parser, by recursive descent over the list of tokens, with document 01's refusals 13 to 19.
 use Prim.Native.Nat.{ℕ, zero, suc, _+_, _*_, _^_}
 use mathlib.Core.List.{List, [], _∷_}
-use mathlib.Core.Bool.{Bool, true, false, cond, _&&_, _||_}
+use mathlib.Core.Bool.{Bool, true, false, cond, _||_}
 use mathlib.Core.Option.{Option, some, none}
 use lib.Dec.{eqb, ltb}
 use lib.ListN.{length}
@@ -9,25 +9,8 @@ use Rattle.word.specs.Apply.{Binary, add, sub, mul, div}
 use Rattle.number.specs.Decimal.{allDigits, value}
 use Rattle.token.specs.Token.{allowed, tokens}
 use Rattle.expression.specs.Tree.{Tree, num, bin}
-
-pub record Binding : Type 0 where
-  pub name : List ℕ
-  pub tree : Tree
-
--- newest first
-abbrev pub Env : Type 0
-Env = List Binding
-
-abbrev pub sameText : List ℕ → List ℕ → Bool
-sameText [] [] = true
-sameText [] (b ∷ t) = false
-sameText (a ∷ s) [] = false
-sameText (a ∷ s) (b ∷ t) = eqb a b && sameText s t
-
--- the tree of the newest binding of a name
-abbrev pub lookup : List ℕ → Env → Option Tree
-lookup w [] = none
-lookup w (b ∷ env) = let older = lookup w env in cond (sameText w (b .name)) (some (b .tree)) older
+pub use Rattle.expression.specs.Environment.{Binding, Env, sameText, lookup}
+pub use Rattle.expression.specs.Grammar.{factor, term, expression}
 
 -- the tree that is read and the tokens that follow, or the number of a refusal
 pub data Parse : Type 0 where
@@ -39,16 +22,6 @@ abbrev pub lone : List ℕ → ℕ
 lone [] = 0
 lone (a ∷ []) = a
 lone (a ∷ b ∷ w) = 0
-
--- the grammar's levels
-abbrev pub factor : ℕ
-factor = 0
-
-abbrev pub term : ℕ
-term = 1
-
-abbrev pub expression : ℕ
-expression = 2
 
 -- whether a sign is an operator of a level, which joins what is one level below:
 -- `*` and `/` join factors to a term, `+` and `-` terms to an expression

@@ -3,7 +3,7 @@ use Prim.Native.Nat.{ℕ, _+_, _^_, _<_, _≤_}
 use mathlib.Core.List.{List, [], _∷_}
 use mathlib.Core.Bool.{Bool, true, false, cond}
 use lib.Dec.{eqb, ltb}
-use lib.ListN.{length, getD, drop}
+use lib.ListN.{length, drop}
 use Rattle.number.specs.Decimal.{value, decimal}
 use Rattle.token.specs.Token.{tokens, first, tokenAt}
 use Rattle.expression.specs.declared.figures.Read.{Read}

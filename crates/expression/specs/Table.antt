@@ -1,5 +1,5 @@
 -- How a table of bindings holds an environment.
-use Prim.Native.Nat.{ℕ, zero, suc, _+_, _*_, _≤_}
+use Prim.Native.Nat.{ℕ, zero, suc, _+_, _*_, _≤_, min}
 use mathlib.Core.Path.{_≡_}
 use mathlib.Core.List.{List, [], _∷_}
 use mathlib.Core.Bool.{Bool, true, false, _&&_}
@@ -63,6 +63,10 @@ Told s c zero [] = Unit {0}
 Told s c zero (b ∷ env) = ⊥
 Told s c (suc n) [] = ⊥
 Told s c (suc n) (b ∷ env) = Tells s (entryAt c n) b × Told s c n env
+
+-- a count above 256 is taken as 256
+abbrev pub few : ℕ → ℕ
+few n = min n 256
 
 pub record Holds (s : List ℕ) (c : Columns) (env : Env) : Type 0 where
   pub room : c .count ≤ 256

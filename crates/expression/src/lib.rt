@@ -4,25 +4,27 @@ ghost use Prim.Native.Nat.{_≤_};
 ghost use lib.ListN.{length};
 ghost use Rattle.expression.specs.Parse.{factor, term, expression};
 ghost use Rattle.expression.specs.Answer.{exprErrorNumbered, Answers};
-ghost use Rattle.expression.specs.Table.{columnsOf, columns};
+ghost use Rattle.expression.specs.Table.{columnsOf, columns, few};
 ghost use Rattle.expression.specs.Cycle.{Ready, Meets};
 
 pub mod figures;
+mod joining;
 pub mod names;
+mod operands;
 pub mod parts;
 
 use figures::Read;
-use figures::join;
+use joining::join;
 use numbered::Numbered;
 use numbered::plain;
-use parts::close;
+use operands::close;
+use operands::literal;
+use operands::name;
+use operands::whole;
 use parts::is_product;
 use parts::is_sum;
-use parts::literal;
 use parts::lone_byte;
-use parts::name;
 use parts::sign_at;
-use parts::whole;
 use token::is_all_tokens;
 use token::is_digit;
 use token::token_at;
@@ -78,8 +80,10 @@ pub enum Parsed {
 // So many parentheses may be open at once.
 const DEPTH: usize = 64;
 
-// What the expression from a place of the text on means. Its names are those of the first bindings, which stand before it in the
-// text. The assembler calls it with a part of a contract that has at most 65,536 bytes (1).
+// What the expression from a place of the text on means, and that it is read up to the end of the text's last token. Its names are those
+// of the first bindings, of a count above 256 the first 256. What is free: the answer where they tell no environment (a name that isn't inside
+// the text, figures of no tree). The assembler calls it with a part of a contract that has at most 65,536 bytes (1), and its table tells the
+// environment that it has read.
 pub fn parse(text: &[u8], at: usize, table: Bindings, values: Values) -> Parsed
     requires { ⌜ length (now text) ≤ 65536 ⌝ }
     ensures { λ r. ⌜ Answers (now (text .entry)) at (columns table values) r ⌝ }
@@ -107,7 +111,7 @@ pub fn parse(text: &[u8], at: usize, table: Bindings, values: Values) -> Parsed
 }
 
 fn at_most_256(n: usize) -> usize
-    ensures { λ r. ⌜ (r ≤ 256) × (n ≤ 256 → r ≡ n) ⌝ }
+    ensures { λ r. ⌜ r ≡ few n ⌝ }
 {
     if n < 256 { n } else { 256 }
 }

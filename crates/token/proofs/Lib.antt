@@ -1,3 +1,6 @@
 pub mod Runs
+pub mod Classes
 pub mod Tokens
+pub mod LongestMatch
+pub mod LastEnd
 pub mod Examples

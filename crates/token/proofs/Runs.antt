@@ -1,5 +1,5 @@
 -- The bytes that pass a test, from a place on.
-use Prim.Native.Nat.{ℕ, _+_, _<_, _≤_}
+use Prim.Native.Nat.{ℕ, zero, suc, _+_, _<_, _≤_}
 use mathlib.Core.Path.{_≡_, refl, sym, ap, _∙_}
 use mathlib.Core.List.{List, [], _∷_}
 use mathlib.Core.Bool.{Bool, true, false, _&&_, _||_}
@@ -58,6 +58,14 @@ run-stops test past [] = past
 run-stops test past (a ∷ s) =
     let h = run-stops test past s in
     by-bool (test a) (λ e. simp e h) (λ e. simp e)
+
+-- the last of them passes
+pub run-last : (test : ℕ → Bool) (s : List ℕ) (n : ℕ) → length (run test s) ≡ suc n → test (getD s n 0) ≡ true
+run-last test [] n h = absurd (omega arith)
+run-last test (a ∷ s) zero h = by-bool (test a) (λ e. e) (λ e. absurd (omega (arith, simp e at h)))
+run-last test (a ∷ s) (suc n) h =
+    let more = run-last test s n in
+    by-bool (test a) (λ e. more (omega (arith, simp e at h))) (λ e. absurd (omega (arith, simp e at h)))
 
 -- one byte more that is in a token
 module _ (s : List ℕ) (i : ℕ) where

@@ -12,26 +12,27 @@ use Rattle.byte.proofs.Parts.{next}
 use Rattle.number.specs.Decimal.{digit, digits, allDigits}
 use Rattle.token.specs.declared.Token.{Token}
 use Rattle.token.specs.Token.{space, nameStart, goesOn, scan, tokens, first, run, startAt, tokenAt}
-use Rattle.token.proofs.Runs.{run-short, take-run, run-stops}
+use Rattle.token.proofs.Runs.{run-short, take-run, run-stops, run-last}
+use Rattle.token.proofs.Classes.{goes-no-space}
 
-tokens-space : (a : ℕ) (s : List ℕ) → space a ≡ true → tokens (a ∷ s) ≡ tokens s
+pub tokens-space : (a : ℕ) (s : List ℕ) → space a ≡ true → tokens (a ∷ s) ≡ tokens s
 unfolding scan
 tokens-space a s e = rw (e, scan)
 
-tokens-start : (a : ℕ) (s : List ℕ) → space a ≡ false → tokens (a ∷ s) ≡ scan (a ∷ []) s
+pub tokens-start : (a : ℕ) (s : List ℕ) → space a ≡ false → tokens (a ∷ s) ≡ scan (a ∷ []) s
 unfolding scan
 tokens-start a s e = rw (e, scan)
 
-scan-more : (a b : ℕ) (v s : List ℕ) → goesOn a b ≡ true → scan (a ∷ v) (b ∷ s) ≡ scan (a ∷ v ++ b ∷ []) s
+pub scan-more : (a b : ℕ) (v s : List ℕ) → goesOn a b ≡ true → scan (a ∷ v) (b ∷ s) ≡ scan (a ∷ v ++ b ∷ []) s
 unfolding scan
 scan-more a b v s e = rw (e, scan)
 
-scan-ended : (a b : ℕ) (v s : List ℕ) → goesOn a b ≡ false → scan (a ∷ v) (b ∷ s) ≡ (a ∷ v) ∷ tokens (b ∷ s)
+pub scan-ended : (a b : ℕ) (v s : List ℕ) → goesOn a b ≡ false → scan (a ∷ v) (b ∷ s) ≡ (a ∷ v) ∷ tokens (b ∷ s)
 unfolding scan
 scan-ended a b v s e = rw (e, scan)
 
 -- a token that is read up to v goes on as long as its start lets it
-scan-token : (a : ℕ) (v s : List ℕ) → scan (a ∷ v) s ≡ (a ∷ v ++ run (goesOn a) s) ∷ tokens (drop (length (run (goesOn a) s)) s)
+pub scan-token : (a : ℕ) (v s : List ℕ) → scan (a ∷ v) s ≡ (a ∷ v ++ run (goesOn a) s) ∷ tokens (drop (length (run (goesOn a) s)) s)
 unfolding scan
 scan-token a v [] = ap (λ (w : List ℕ). (a ∷ w) ∷ []) (sym (append-nil v))
 scan-token a v (b ∷ s) =
@@ -50,12 +51,13 @@ tokens-skip (a ∷ s) =
 abbrev pub tokenFrom : List ℕ → ℕ → List ℕ
 tokenFrom s i = getD s i 0 ∷ run (goesOn (getD s i 0)) (drop (i + 1) s)
 
--- a token is left from a place on: it stands from start up to end
+-- a token is left from a place on: it stands from start up to end, and its last byte is no space
 pub record Next (s : List ℕ) (at start end : ℕ) : Type 0 where
   pub after : at ≤ start
   pub some : start < end
   pub inside : end ≤ length s
   pub bytes : take (end - start) (drop start s) ≡ tokenFrom s start
+  pub last : space (getD s (end - 1) 0) ≡ false
   pub list : tokens (drop at s) ≡ tokenFrom s start ∷ tokens (drop end s)
 
 -- from the first byte that is no space on
@@ -70,6 +72,17 @@ module _ (s : List ℕ) (at i : ℕ) (e : i ≡ startAt s at) where
   unfolding scan
   none-left h = skipped ∙ ap tokens (drop-of-length-le s h)
 
+  no-space-last : (end : ℕ) → end ≡ i + 1 + length (run (goesOn (getD s i 0)) (drop (i + 1) s)) → space (getD s (end - 1) 0) ≡ false
+  no-space-last end q =
+      let a = getD s i 0 in
+      let n = length (run (goesOn a) (drop (i + 1) s)) in
+      by-leb n 0
+      (λ h. let p : end - 1 ≡ i = omega arith in rw p no-space)
+      (λ h.
+      let p : i + 1 + (n - 1) ≡ end - 1 = omega arith in
+      let b : getD (drop (i + 1) s) (n - 1) 0 ≡ getD s (end - 1) 0 = getD-drop (i + 1) s (n - 1) 0 ∙ ap (λ (j : ℕ). getD s j 0) p in
+      rw (← b) (goes-no-space a (getD (drop (i + 1) s) (n - 1) 0) (run-last (goesOn a) (drop (i + 1) s) (n - 1) (omega arith))))
+
   pub next-at : i < length s → (end : ℕ) → end ≡ i + 1 + length (run (goesOn (getD s i 0)) (drop (i + 1) s)) → Next s at i end
   next-at h end q =
       let a = getD s i 0 in
@@ -82,6 +95,7 @@ module _ (s : List ℕ) (at i : ℕ) (e : i ≡ startAt s at) where
         some = omega arith;
         inside = omega arith;
         bytes = rw (n, m) (ap (λ (w : List ℕ). a ∷ w) (take-run (goesOn a) (drop (i + 1) s)));
+        last = no-space-last end q;
         list =
             skipped
             ∙ ap tokens n
@@ -130,7 +144,7 @@ module _ (a : ℕ) (e : digit a ≡ true) where
   no-name : nameStart a ≡ false
   no-name = let b = between 48 57 a e in simp (below 65 90 a (omega arith), below 97 122 a (omega arith), ne-eqb a 95 (λ q. omega arith))
 
-  goes-on-digits : (b : ℕ) → goesOn a b ≡ digit b
+  pub goes-on-digits : (b : ℕ) → goesOn a b ≡ digit b
   goes-on-digits b = simp (e, no-name, or-false)
 
   run-digits : (s : List ℕ) → run (goesOn a) s ≡ digits s

@@ -1,1 +1,2 @@
 pub mod Token
+pub mod Tokens

@@ -1,5 +1,5 @@
 -- The tokens of an expression: digit runs; names, an ASCII letter or `_` and then those or digits; signs. A token is its bytes.
-use Prim.Native.Nat.{ℕ, _+_}
+use Prim.Native.Nat.{ℕ, suc, _+_}
 use mathlib.Core.List.{List, [], _∷_, _++_}
 use mathlib.Core.Bool.{Bool, true, false, cond, _&&_, _||_}
 use lib.Dec.{eqb}
@@ -68,3 +68,8 @@ startAt s at = at + length (run space (drop at s))
 -- the first token from a place on; start and end are the text's end where there is none
 abbrev pub tokenAt : List ℕ → ℕ → Token
 tokenAt s at = record { start = startAt s at; end = startAt s at + length (first (tokens (drop at s))) }
+
+-- where the last token of a text ends
+abbrev pub lastEnd : List ℕ → ℕ
+lastEnd [] = 0
+lastEnd (a ∷ s) = let n = lastEnd s in cond (eqb n 0 && space a) 0 (suc n)

@@ -22,13 +22,13 @@ use Rattle.expression.proofs.+expression+factor+term.Lts-factor as fact
 use Rattle.expression.proofs.term.Reads as term
 use Rattle.expression.proofs.term.Kinds as term-kinds
 use Rattle.expression.proofs.+expression+factor+term.Lts-term as term-lts
-use Rattle.expression.proofs.parts.close.Reads as close-reads
-use Rattle.expression.proofs.figures.join.Reads as join-reads
+use Rattle.expression.proofs.operands.close.Reads as close-reads
+use Rattle.expression.proofs.joining.join.Reads as join-reads
 use Rattle.expression.proofs.parts.is_product.Reads as is-product-reads
 use Rattle.expression.proofs.parts.is_sum.Reads as is-sum-reads
-use Rattle.expression.proofs.parts.literal.Reads as literal-reads
+use Rattle.expression.proofs.operands.literal.Reads as literal-reads
 use Rattle.expression.proofs.parts.lone_byte.Reads as lone-byte-reads
-use Rattle.expression.proofs.parts.name.Reads as name-reads
+use Rattle.expression.proofs.operands.name.Reads as name-reads
 use Rattle.expression.proofs.parts.sign_at.Reads as sign-at-reads
 use Rattle.token.proofs.is_digit.Reads as is-digit-reads
 use Rattle.token.proofs.token_at.Reads as token-at-reads

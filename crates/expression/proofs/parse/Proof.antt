@@ -1,11 +1,12 @@
 -- `expression::parse` meets its contract: what the cycle reads is what the text means, in each environment that the table holds.
 use mathlib.Core.Path.{refl, sym, subst, _∙_}
+use native.Mathlib.Omega.{arith}
 use borrow.Author.Tests.{not-true, not-false}
 use Rattle.expression.specs.declared.Parsed.{Parsed}
 use Rattle.expression.specs.Table.{columns}
 use Rattle.expression.specs.Answer.{Answers}
 use Rattle.expression.proofs.Reading.{carry}
-use Rattle.expression.proofs.Meaning.{not-allowed, refused-answers, done-answers, counted}
+use Rattle.expression.proofs.Meaning.{not-allowed, refused-answers, done-answers}
 use borrow.Author.Needs.{needs}
 use Rattle.expression.proofs.parse.Statement.{statement}
 use Rattle.expression.proofs.parse.Tie as tie
@@ -20,7 +21,7 @@ at-most-256-requires : tie.Need-at-most-256-requires
 at-most-256-requires c κs = search needs
 
 expression-requires : tie.Need-expression-requires
-expression-requires c κs = search needs
+expression-requires c κs = record { short = search needs; room = omega arith }
 
 enum-known-e : tie.Need-enum-known-e
 enum-known-e c = search needs
@@ -34,12 +35,12 @@ whole-requires c κs = search needs
 returns-2 : tie.Need-returns-2
 returns-2 c =
     let a = c .before .before .before .before .before .before .before .before .before .before .before .before .before .before .before .before .before .args in
-    refused-answers (a .text .now) (a .at) _ _ (sym (c .before .before .before .before .before .before .before .before .before .before .before .before .before .before .before .is-all-tokens .ensures) ∙ not-false _ (c .before .before .before .before .before .before .before .before .before .before .before .before .before .before .if1 .left)) (counted (a .t3) (a .t4) (c .before .before .before .before .before .before .before .before .before .before .before .before .before .at-most-256 .ensures .1)) (carry (c .before .e .given .1) (c .before .before .before .expression .ensures))
+    refused-answers (a .text .now) (a .at) (columns (a .t3) (a .t4)) _ (c .before .before .before .before .before .before .before .before .before .before .before .before .before .at-most-256 .ensures) (sym (c .before .before .before .before .before .before .before .before .before .before .before .before .before .before .before .is-all-tokens .ensures) ∙ not-false _ (c .before .before .before .before .before .before .before .before .before .before .before .before .before .before .if1 .left)) (carry (c .before .e .given .1) (c .before .before .before .expression .ensures))
 
 returns-3 : tie.Need-returns-3
 returns-3 c =
     let a = c .before .before .before .before .before .before .before .before .before .before .before .before .before .before .before .before .before .before .args in
-    let m = done-answers (a .text .now) (a .at) _ _ (sym (c .before .before .before .before .before .before .before .before .before .before .before .before .before .before .before .before .is-all-tokens .ensures) ∙ not-false _ (c .before .before .before .before .before .before .before .before .before .before .before .before .before .before .before .if1 .left)) (counted (a .t3) (a .t4) (c .before .before .before .before .before .before .before .before .before .before .before .before .before .before .at-most-256 .ensures .1)) _ refl (carry (c .before .before .read .given .1) (c .before .before .before .before .expression .ensures)) in
+    let m = done-answers (a .text .now) (a .at) (columns (a .t3) (a .t4)) _ (c .before .before .before .before .before .before .before .before .before .before .before .before .before .before .at-most-256 .ensures) (sym (c .before .before .before .before .before .before .before .before .before .before .before .before .before .before .before .before .is-all-tokens .ensures) ∙ not-false _ (c .before .before .before .before .before .before .before .before .before .before .before .before .before .before .before .if1 .left)) _ refl (carry (c .before .before .read .given .1) (c .before .before .before .before .expression .ensures)) in
     subst (λ (r : Parsed). Answers (a .text .now) (a .at) (columns (a .t3) (a .t4)) r) (sym (c .whole .ensures)) m
 
 pub parse-spec : {M : Type 1} → statement M

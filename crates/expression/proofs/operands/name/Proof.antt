@@ -1,4 +1,4 @@
--- `expression::parts::name` meets its contract: what is found is among the first 256 bindings.
+-- `expression::operands::name` meets its contract: what is found is among the first 256 bindings.
 use native.Mathlib.Omega.{arith}
 use Prim.Native.Nat.{_-_}
 use mathlib.Core.Path.{sym, ap, _∙_}
@@ -6,8 +6,8 @@ use lib.ListN.{take, drop}
 use Rattle.expression.specs.declared.Parsed.the-variants.{Done}
 use Rattle.expression.proofs.Lookup.{found-below}
 use borrow.Author.Needs.{needs}
-use Rattle.expression.proofs.parts.name.Statement.{statement}
-use Rattle.expression.proofs.parts.name.Tie as tie
+use Rattle.expression.proofs.operands.name.Statement.{statement}
+use Rattle.expression.proofs.operands.name.Tie as tie
 
 sub-lookup : tie.Need-sub-lookup
 sub-lookup c = search needs

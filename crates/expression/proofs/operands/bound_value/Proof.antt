@@ -1,7 +1,7 @@
--- `expression::parts::bound_value` meets its contract.
+-- `expression::operands::bound_value` meets its contract.
 use borrow.Author.Needs.{needs}
-use Rattle.expression.proofs.parts.bound_value.Statement.{statement}
-use Rattle.expression.proofs.parts.bound_value.Tie as tie
+use Rattle.expression.proofs.operands.bound_value.Statement.{statement}
+use Rattle.expression.proofs.operands.bound_value.Tie as tie
 
 returns : tie.Need-returns
 returns c = search needs

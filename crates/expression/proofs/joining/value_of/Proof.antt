@@ -1,12 +1,12 @@
--- `expression::figures::value_of` meets its contract: the sign decides the operator as in the definition.
+-- `expression::joining::value_of` meets its contract: the sign decides the operator as in the definition.
 use Prim.Native.Nat.{ℕ, _+_, _-_, _%_, _^_, _<_}
 use mathlib.Core.Path.{_≡_, ap}
 use mathlib.Core.Option.{some}
 use native.Mathlib.Omega.{arith}
 use borrow.Author.Tests.{eq-eqb, ne-eqb}
 use borrow.Author.Needs.{needs}
-use Rattle.expression.proofs.figures.value_of.Statement.{statement}
-use Rattle.expression.proofs.figures.value_of.Tie as tie
+use Rattle.expression.proofs.joining.value_of.Statement.{statement}
+use Rattle.expression.proofs.joining.value_of.Tie as tie
 
 difference : (r a b : ℕ) → r < 2 ^ 64 → b < 2 ^ 64 → (r + b) % 2 ^ 64 ≡ a → r ≡ (a + (2 ^ 64 - b)) % 2 ^ 64
 difference r a b h g e = omega arith

@@ -1,9 +1,9 @@
--- `expression::parts::close` meets its contract: the token at a place is the first of the list.
+-- `expression::operands::close` meets its contract: the token at a place is the first of the list.
 use Rattle.expression.proofs.Signs.{next-of}
 use Rattle.expression.proofs.Atoms.{close-end, close-is, close-other}
 use borrow.Author.Needs.{needs}
-use Rattle.expression.proofs.parts.close.Statement.{statement}
-use Rattle.expression.proofs.parts.close.Tie as tie
+use Rattle.expression.proofs.operands.close.Statement.{statement}
+use Rattle.expression.proofs.operands.close.Tie as tie
 
 token-at-requires : tie.Need-token-at-requires
 token-at-requires c κs = search needs

@@ -1,7 +1,7 @@
--- `expression::figures::applied_value` meets its contract: the value of two numbers is the callee's, and none is left of any other.
+-- `expression::joining::applied_value` meets its contract: the value of two numbers is the callee's, and none is left of any other.
 use borrow.Author.Needs.{needs}
-use Rattle.expression.proofs.figures.applied_value.Statement.{statement}
-use Rattle.expression.proofs.figures.applied_value.Tie as tie
+use Rattle.expression.proofs.joining.applied_value.Statement.{statement}
+use Rattle.expression.proofs.joining.applied_value.Tie as tie
 
 enum-told : tie.Need-enum-told
 enum-told c = search needs

@@ -1,4 +1,4 @@
--- `expression::parts::literal` meets its contract: the digits from the place on have the value that `number` gives.
+-- `expression::operands::literal` meets its contract: the digits from the place on have the value that `number` gives.
 use Prim.Native.Nat.{ℕ, _+_}
 use native.Mathlib.Omega.{arith}
 use mathlib.Core.Path.{sym, ap, _∙_}
@@ -8,8 +8,8 @@ use Rattle.number.specs.declared.Digits.{Digits}
 use Rattle.number.proofs.Decimal.{length-word}
 use Rattle.expression.proofs.Atoms.{run-inside, literal-large, literal-is}
 use borrow.Author.Needs.{needs}
-use Rattle.expression.proofs.parts.literal.Statement.{statement}
-use Rattle.expression.proofs.parts.literal.Tie as tie
+use Rattle.expression.proofs.operands.literal.Statement.{statement}
+use Rattle.expression.proofs.operands.literal.Tie as tie
 
 digits-at-requires : tie.Need-digits-at-requires
 digits-at-requires c κs = search needs

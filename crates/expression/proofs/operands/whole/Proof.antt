@@ -1,8 +1,8 @@
--- `expression::parts::whole` meets its contract: the token at a place is the first of the list.
+-- `expression::operands::whole` meets its contract: the token at a place is the first of the list.
 use Rattle.expression.proofs.Meaning.{whole-done, whole-more}
 use borrow.Author.Needs.{needs}
-use Rattle.expression.proofs.parts.whole.Statement.{statement}
-use Rattle.expression.proofs.parts.whole.Tie as tie
+use Rattle.expression.proofs.operands.whole.Statement.{statement}
+use Rattle.expression.proofs.operands.whole.Tie as tie
 
 token-at-requires : tie.Need-token-at-requires
 token-at-requires c κs = search needs

@@ -1,7 +1,7 @@
--- `expression::parts::bound` meets its contract: each figure is the table's.
+-- `expression::operands::bound` meets its contract: each figure is the table's.
 use borrow.Author.Needs.{needs}
-use Rattle.expression.proofs.parts.bound.Statement.{statement}
-use Rattle.expression.proofs.parts.bound.Tie as tie
+use Rattle.expression.proofs.operands.bound.Statement.{statement}
+use Rattle.expression.proofs.operands.bound.Tie as tie
 
 mul-wide : tie.Need-mul-wide
 mul-wide c = search needs

@@ -1,0 +1,45 @@
+-- The classes of bytes are apart.
+use Prim.Native.Nat.{ℕ, _≤_}
+use mathlib.Core.Path.{_≡_}
+use mathlib.Core.Bool.{Bool, true, false, _&&_, _||_}
+use native.Mathlib.Omega.{arith}
+use borrow.Author.Tests.{eqb-true}
+use lib.Dec.{eqb}
+use Rattle.byte.specs.Range.{within}
+use Rattle.byte.proofs.Tests.{by-bool, by-or, and-right, between}
+use Rattle.number.specs.Decimal.{digit}
+use Rattle.token.specs.Token.{space, nameStart, namePart, sign, goesOn}
+
+-- bytes that part tokens come first, then signs, digits, letters
+pub space-bound : (a : ℕ) → space a ≡ true → a ≤ 32
+space-bound a e =
+    by-or (within 9 10 a || within 12 13 a) (eqb a 32) e
+    (λ p. by-or (within 9 10 a) (within 12 13 a) p (λ q. let b = between 9 10 a q in omega arith) (λ q. let b = between 12 13 a q in omega arith))
+    (λ p. let q = eqb-true a 32 p in omega arith)
+
+pub sign-bounds : (a : ℕ) → sign a ≡ true → (40 ≤ a) × (a ≤ 47)
+sign-bounds a e =
+    by-or (within 40 43 a || eqb a 45) (eqb a 47) e
+    (λ p. by-or (within 40 43 a) (eqb a 45) p (λ q. let b = between 40 43 a q in (omega arith, omega arith)) (λ q. let b = eqb-true a 45 q in (omega arith, omega arith)))
+    (λ p. let q = eqb-true a 47 p in (omega arith, omega arith))
+
+pub start-bound : (a : ℕ) → nameStart a ≡ true → 65 ≤ a
+start-bound a e =
+    by-or (within 65 90 a || within 97 122 a) (eqb a 95) e
+    (λ p. by-or (within 65 90 a) (within 97 122 a) p (λ q. let b = between 65 90 a q in omega arith) (λ q. let b = between 97 122 a q in omega arith))
+    (λ p. let q = eqb-true a 95 p in omega arith)
+
+pub not-so : (p : Bool) → (p ≡ true → ⊥) → p ≡ false
+not-so p h = by-bool p (λ e. absurd (h e)) (λ e. e)
+
+part-bound : (a : ℕ) → namePart a ≡ true → 48 ≤ a
+part-bound a e = by-or (nameStart a) (digit a) e (λ p. let b = start-bound a p in omega arith) (λ p. let b = between 48 57 a p in omega arith)
+
+-- no byte that parts tokens goes on with one
+pub goes-no-space : (a b : ℕ) → goesOn a b ≡ true → space b ≡ false
+goes-no-space a b e =
+    let h : 48 ≤ b =
+    by-or (digit a && digit b) (nameStart a && namePart b) e
+    (λ p. let x = between 48 57 b (and-right (digit a) (digit b) p) in omega arith)
+    (λ p. part-bound b (and-right (nameStart a) (namePart b) p)) in
+    not-so (space b) (λ q. let x = space-bound b q in omega arith)
