@@ -15,9 +15,10 @@ pub fn print(r: ParsedOps) {
 
 // The number, and the line, place and length that 28 to 31 carry, or the line of 32.
 fn refusal(why: Numbered) {
+    let number = why.number;
     let words = why.words;
-    io::print_decimal(1, why.number);
-    match why.number {
+    io::print_decimal(1, number);
+    match number {
         28..=31 => {
             spaced(words[0]);
             spaced(words[1]);
