@@ -1,4 +1,6 @@
 pub mod Among
 pub mod Lines
 pub mod Reading
+pub mod Gate
 pub mod Running
+pub mod Within

@@ -1,4 +1,4 @@
--- What callers of the gate, the verifier and the runs rely on.
+-- What callers of the verifier and the runs rely on.
 use Prim.Native.Nat.{ℕ, zero, suc, _+_, _-_, _≤_, _<_}
 use native.Mathlib.Omega.{arith}
 use mathlib.Core.Path.{_≡_, refl, sym, _∙_}
@@ -10,10 +10,8 @@ use lib.Dec.{ltb, leb, eqb}
 use borrow.Author.Tests.{le-leb, eq-eqb, ltb-true, ltb-false, leb-false, eqb-false}
 use Rattle.byte.proofs.Tests.{never, and-both}
 use Rattle.word.specs.Apply.{apply}
-use Rattle.context.specs.declared.ContextError.the-variants.{InvalidChainId, InvalidNetworkId, InvalidGenesisId, ProtocolMismatch, VmMismatch, GenesisMismatch}
 use Rattle.context.specs.declared.Gate.{Gate}
 use Rattle.context.specs.declared.Gate.the-variants as gate
-use Rattle.context.specs.Gate.{gateNumbered}
 use Rattle.machine.specs.declared.Refusal.{Refusal}
 use Rattle.machine.specs.declared.Refusal.the-variants.{BufferLengths, EmptyProgram, ProgramTooLarge, StorageTooLarge, UnknownKind, JumpOutOfRange, OutOfGas, StackLimitExceeded, StorageLimitExceeded, OutsideStorage}
 use Rattle.machine.specs.Operation.{Op, push, binary, dup, swap, jump, jumpIfNotZero, load, store, caller, jumpIfZero, halt, opOf, priceOf, decode}
@@ -29,18 +27,9 @@ use Rattle.vm.specs.Transition.{Lent, untouched, ofRun, afterCheck, lengthsChec
 use Rattle.vm.specs.Numbers.{checkNumbered, answerNumbered}
 use Rattle.vm.specs.Refusals.{numberOf}
 use Rattle.relied.specs.Numbers.{Among}
-use Rattle.relied.proofs.Among.{allIn, widen}
 use Rattle.relied.specs.Running.{Known, StoresWithin, VerifyRelied, Handed, RunRelied}
-
--- the `unreachable!` of `execution_gate`, and the header's "Gives 0, 35 to 40"
-pub gate-gives : (g : Gate) → Among (0 ∷ 35 ∷ 36 ∷ 37 ∷ 38 ∷ 39 ∷ 40 ∷ []) (gateNumbered g .number)
-gate-gives gate.Passed = refl
-gate-gives (gate.Refused InvalidChainId) = refl
-gate-gives (gate.Refused InvalidNetworkId) = refl
-gate-gives (gate.Refused InvalidGenesisId) = refl
-gate-gives (gate.Refused ProtocolMismatch) = refl
-gate-gives (gate.Refused VmMismatch) = refl
-gate-gives (gate.Refused GenesisMismatch) = refl
+use Rattle.relied.proofs.Among.{allIn, widen}
+use Rattle.relied.proofs.Gate.{gate-gives}
 
 -- what is so of each is so of the one at a place, and of what stands past the end
 each-at : {A : Type 0} {Q : A → Type 0} {l : List A} (d : A) → Q d → Each Q l → (i : ℕ) → Q (getD l i d)

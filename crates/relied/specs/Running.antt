@@ -1,4 +1,4 @@
--- What callers of the gate, the verifier and the runs rely on.
+-- What callers of the verifier and the runs rely on.
 use Prim.Native.Nat.{ℕ, _<_, _≤_}
 use mathlib.Core.Path.{_≡_}
 use mathlib.Core.List.{List, [], _∷_}
