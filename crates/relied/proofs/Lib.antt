@@ -4,3 +4,4 @@ pub mod Reading
 pub mod Gate
 pub mod Running
 pub mod Within
+pub mod Same

@@ -2,14 +2,15 @@
 use Prim.Native.Nat.{ℕ, _<_, _≤_}
 use mathlib.Core.Path.{_≡_}
 use mathlib.Core.List.{List, [], _∷_}
-use lib.ListN.{length, getD}
+use lib.ListN.{length, getD, take}
 use Rattle.context.specs.declared.Gate.{Gate}
 use Rattle.machine.specs.Operation.{Op, store, halt, decode}
 use Rattle.ops.specs.Written.{Each}
 use Rattle.vm.specs.declared.State.{State}
+use Rattle.vm.specs.declared.Answer.the-variants.{Success}
 use Rattle.vm.specs.declared.Check.the-variants.{Passed}
 use Rattle.vm.specs.Verify.{gateCheck, verifyOf}
-use Rattle.vm.specs.Transition.{Lent, checksOf, meteredOf, transitionOf}
+use Rattle.vm.specs.Transition.{Result, Lent, checksOf, meteredOf, transitionOf}
 use Rattle.vm.specs.Numbers.{checkNumbered, answerNumbered}
 use Rattle.relied.specs.Numbers.{Among}
 
@@ -65,3 +66,10 @@ pub record RunRelied (ks vs : List ℕ) (caller g : ℕ) (s w m : List ℕ) (sta
   pub meteredHanded : Handed ks vs s w m (state .used) → Among (0 ∷ 41 ∷ 42 ∷ 43 ∷ 45 ∷ 46 ∷ 47 ∷ 48 ∷ 49 ∷ 50 ∷ []) (meteredNumber ks vs caller g s w m state)
   pub transitionHanded : Handed ks vs s w m (state .used) → (gate : Gate)
       → Among (0 ∷ 35 ∷ 36 ∷ 37 ∷ 38 ∷ 39 ∷ 40 ∷ 41 ∷ 42 ∷ 43 ∷ 45 ∷ 46 ∷ 47 ∷ 48 ∷ 49 ∷ 50 ∷ []) (transitionNumber gate ks vs caller g s w m state)
+
+-- the same of two calls
+pub record SameRun (t u : Result) : Type 0 where
+  pub answer : t .answer ≡ u .answer
+  -- after a success stack, work and the used slots are the same, too
+  pub success : (spent operations items : ℕ) (after : State) → t .answer ≡ Success spent operations items after
+      → (t .stack ≡ u .stack) × (t .work ≡ u .work) × (take (after .used) (t .storage) ≡ take (after .used) (u .storage))
