@@ -10,7 +10,7 @@ use Rattle.context.specs.declared.ContextError.{ContextError}
 use Rattle.context.specs.declared.ContextError.the-variants.{InvalidChainId, InvalidNetworkId, InvalidGenesisId, ProtocolMismatch, VmMismatch, GenesisMismatch}
 use Rattle.context.specs.declared.Gate.{Gate}
 use Rattle.context.specs.declared.Gate.the-variants as gate
-use Rattle.context.specs.Gate.{equal, atc, isNetwork, isGenesisId, need, gateOf, contextErrorNumbered, gateNumbered}
+use Rattle.context.specs.Gate.{equal, atc, isNetwork, isGenesisId, need, gateOf, gateNumbered}
 use Rattle.relied.specs.Numbers.{Among}
 
 -- the `unreachable!` of `execution_gate`, and the header's "Gives 0, 35 to 40"

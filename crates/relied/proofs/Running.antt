@@ -27,7 +27,7 @@ use Rattle.vm.specs.Transition.{Lent, untouched, ofRun, afterCheck, lengthsChec
 use Rattle.vm.specs.Numbers.{checkNumbered, answerNumbered}
 use Rattle.vm.specs.Refusals.{numberOf}
 use Rattle.relied.specs.Numbers.{Among}
-use Rattle.relied.specs.Running.{Known, StoresWithin, VerifyRelied, Handed, RunRelied}
+use Rattle.relied.specs.Running.{Known, VerifyRelied, Handed, RunRelied}
 use Rattle.relied.proofs.Among.{allIn, widen}
 use Rattle.relied.proofs.Gate.{gate-gives}
 

@@ -11,8 +11,7 @@ use Rattle.machine.specs.Machine.{Outcome, next, done, stop, whole}
 use Rattle.vm.specs.declared.State.{State}
 use Rattle.vm.specs.declared.Check.{Check}
 use Rattle.vm.specs.declared.Check.the-variants as check
-use Rattle.vm.specs.declared.Answer.{Answer}
-use Rattle.vm.specs.declared.Answer.the-variants.{Success, Refused}
+use Rattle.vm.specs.declared.Answer.the-variants.{Refused}
 use Rattle.vm.specs.Transition.{Result, untouched, ofRun, afterCheck, checksOf, runUnder}
 use Rattle.relied.specs.Running.{SameRun}
 
