@@ -1,4 +1,4 @@
--- What callers of the gate, the verifier and the runs rely on.
+-- What callers of the verifier and the runs rely on.
 use Prim.Native.Nat.{ℕ, zero, suc, _+_, _-_, _≤_, _<_}
 use native.Mathlib.Omega.{arith}
 use mathlib.Core.Path.{_≡_, refl, sym, _∙_}
@@ -10,10 +10,8 @@ use lib.Dec.{ltb, leb, eqb}
 use borrow.Author.Tests.{le-leb, eq-eqb, ltb-true, ltb-false, leb-false, eqb-false}
 use Rattle.byte.proofs.Tests.{never, and-both}
 use Rattle.word.specs.Apply.{apply}
-use Rattle.context.specs.declared.ContextError.the-variants.{InvalidChainId, InvalidNetworkId, InvalidGenesisId, ProtocolMismatch, VmMismatch, GenesisMismatch}
 use Rattle.context.specs.declared.Gate.{Gate}
 use Rattle.context.specs.declared.Gate.the-variants as gate
-use Rattle.context.specs.Gate.{gateNumbered}
 use Rattle.machine.specs.declared.Refusal.{Refusal}
 use Rattle.machine.specs.declared.Refusal.the-variants.{BufferLengths, EmptyProgram, ProgramTooLarge, StorageTooLarge, UnknownKind, JumpOutOfRange, OutOfGas, StackLimitExceeded, StorageLimitExceeded, OutsideStorage}
 use Rattle.machine.specs.Operation.{Op, push, binary, dup, swap, jump, jumpIfNotZero, load, store, caller, jumpIfZero, halt, opOf, priceOf, decode}
@@ -25,22 +23,13 @@ use Rattle.vm.specs.declared.State.{State}
 use Rattle.vm.specs.declared.Check.{Check}
 use Rattle.vm.specs.declared.Check.the-variants as check
 use Rattle.vm.specs.Verify.{need, andThen, buffersFit, gateCheck, targetFits, operationCheck, operationsCheck, verifyOf}
-use Rattle.vm.specs.Transition.{Lent, untouched, ofRun, afterCheck, lengthsCheck, checksOf, runUnder}
+use Rattle.vm.specs.Transition.{Lent, untouched, ofRun, afterCheck, lengthsCheck, checksOf, performed, runUnder}
 use Rattle.vm.specs.Numbers.{checkNumbered, answerNumbered}
 use Rattle.vm.specs.Refusals.{numberOf}
 use Rattle.relied.specs.Numbers.{Among}
+use Rattle.relied.specs.Running.{Known, VerifyRelied, Handed, RunRelied}
 use Rattle.relied.proofs.Among.{allIn, widen}
-use Rattle.relied.specs.Running.{Known, StoresWithin, VerifyRelied, Handed, RunRelied}
-
--- the `unreachable!` of `execution_gate`, and the header's "Gives 0, 35 to 40"
-pub gate-gives : (g : Gate) → Among (0 ∷ 35 ∷ 36 ∷ 37 ∷ 38 ∷ 39 ∷ 40 ∷ []) (gateNumbered g .number)
-gate-gives gate.Passed = refl
-gate-gives (gate.Refused InvalidChainId) = refl
-gate-gives (gate.Refused InvalidNetworkId) = refl
-gate-gives (gate.Refused InvalidGenesisId) = refl
-gate-gives (gate.Refused ProtocolMismatch) = refl
-gate-gives (gate.Refused VmMismatch) = refl
-gate-gives (gate.Refused GenesisMismatch) = refl
+use Rattle.relied.proofs.Gate.{gate-gives}
 
 -- what is so of each is so of the one at a place, and of what stands past the end
 each-at : {A : Type 0} {Q : A → Type 0} {l : List A} (d : A) → Q d → Each Q l → (i : ℕ) → Q (getD l i d)
@@ -306,6 +295,48 @@ module _ (ns : List ℕ) (own : Check) (ks vs : List ℕ) (c g : ℕ) (s w m : L
       (λ e. never (sym e ∙ fits ks vs s w m (state .used) (h .lent)))
       (whole-stops (Among ns) (running ns r) (decode ks vs) c (length m) (each-of (λ op p i e l q. absurd (let z = p i e l in omega arith)) (h .stores)) g (take (state .used) m))
 
+-- under the limit 0, by the first operation
+abbrev ByFirst : Op → ℕ → Type 0
+ByFirst op n = (op ≡ halt → n ≡ 0) × ((op ≡ halt → ⊥) → n ≡ 46)
+
+refused : {op : Op} → (op ≡ halt → ⊥) → ByFirst op 46
+refused h = (λ e. absurd (h e), λ e. refl)
+
+module _ (state : State) (n : ℕ) (m : List ℕ) where
+  abbrev numberAfter : Outcome → ℕ
+  numberAfter o = answerNumbered (ofRun 0 state n m o .answer) .number
+
+  first-number : (c room : ℕ) (fr : Frame) (k : ℕ → Frame → Outcome) (op : Op) → ByFirst op (numberAfter (follow (pay 0 fr (actOf c room op fr)) k))
+  first-number c room fr k (push v) = refused (λ e. let z : _≡_ {A = ℕ} 0 1 = cc in omega arith)
+  first-number c room fr k (binary o) = refused (λ e. let z : _≡_ {A = ℕ} 0 1 = cc in omega arith)
+  first-number c room fr k dup = refused (λ e. let z : _≡_ {A = ℕ} 0 1 = cc in omega arith)
+  first-number c room fr k swap = refused (λ e. let z : _≡_ {A = ℕ} 0 1 = cc in omega arith)
+  first-number c room fr k (jump t) = refused (λ e. let z : _≡_ {A = ℕ} 0 1 = cc in omega arith)
+  first-number c room fr k (jumpIfNotZero t) = refused (λ e. let z : _≡_ {A = ℕ} 0 1 = cc in omega arith)
+  first-number c room fr k (load i) = refused (λ e. let z : _≡_ {A = ℕ} 0 1 = cc in omega arith)
+  first-number c room fr k (store i) = refused (λ e. let z : _≡_ {A = ℕ} 0 1 = cc in omega arith)
+  first-number c room fr k caller = refused (λ e. let z : _≡_ {A = ℕ} 0 1 = cc in omega arith)
+  first-number c room fr k (jumpIfZero t) = refused (λ e. let z : _≡_ {A = ℕ} 0 1 = cc in omega arith)
+  first-number c room fr k halt = (λ e. refl, λ e. absurd (e refl))
+
+  unmetered-number : (program : List Op) (c room : ℕ) (used : List ℕ) → ByFirst (getD program 0 halt) (numberAfter (whole program c room 0 used))
+  unfolding whole runOf
+  unmetered-number [] c room used = (λ e. refl, λ e. absurd (e refl))
+  unmetered-number (op ∷ program) c room used = go (ltb 0 (suc (length program))) refl
+    where
+      go : (b : Bool) → ltb 0 (suc (length program)) ≡ b
+          → ByFirst op (numberAfter (follow (pay 0 (start used) (cond b (actOf c room op (start used)) over)) (runOf (machine (op ∷ program) c room) 0)))
+      go true e = first-number c room (start used) (runOf (machine (op ∷ program) c room) 0) op
+      go false e = absurd (omega (arith, ltb-false 0 (suc (length program)) e))
+
+passed-number : (own : Check) (ks vs : List ℕ) (c : ℕ) (s w m : List ℕ) (state : State) → checksOf own ks vs s w m (state .used) ≡ check.Passed
+    → ByFirst (getD (decode ks vs) 0 halt) (answerNumbered (runUnder own ks vs c 0 s w m state .answer) .number)
+passed-number own ks vs c s w m state e = go (checksOf own ks vs s w m (state .used)) e
+  where
+    go : (x : Check) → x ≡ check.Passed → ByFirst (getD (decode ks vs) 0 halt) (answerNumbered (afterCheck x (λ f. untouched f state s w m) (performed ks vs c 0 s m state) .answer) .number)
+    go check.Passed e = unmetered-number state (length s) m (decode ks vs) c (length m) (take (state .used) m)
+    go (check.Refused f) e = absurd (let z : _≡_ {A = ℕ} 0 1 = cc in omega arith)
+
 pub run-relied : (ks vs : List ℕ) (c g : ℕ) (s w m : List ℕ) (state : State) → RunRelied ks vs c g s w m state
 run-relied ks vs c g s w m state = record {
   metered =
@@ -318,6 +349,8 @@ run-relied ks vs c g s w m state = record {
       let ns : List ℕ = 0 ∷ 34 ∷ 35 ∷ 36 ∷ 37 ∷ 38 ∷ 39 ∷ 40 ∷ 41 ∷ 42 ∷ 43 ∷ 44 ∷ 45 ∷ 46 ∷ [] in
       any-gives ns (gateCheck gate) ks vs c 0 s w m state (gate-among ns refl gate) refl refl refl
       (unmetered-stops (Among ns) refl (decode ks vs) c (length m) (take (state .used) m));
+  halts = λ gate e. passed-number (gateCheck gate) ks vs c s w m state e .0;
+  others = λ gate e. passed-number (gateCheck gate) ks vs c s w m state e .1;
   meteredRoomy = λ h.
       let ns : List ℕ = 0 ∷ 34 ∷ 41 ∷ 42 ∷ 43 ∷ 44 ∷ 45 ∷ 46 ∷ 47 ∷ 48 ∷ 49 ∷ 50 ∷ [] in
       outside-gives ns check.Passed ks vs c g s w m state refl refl refl refl refl (λ i l q. absurd (omega arith));

@@ -1,14 +1,16 @@
--- What callers of the gate, the verifier and the runs rely on.
+-- What callers of the verifier and the runs rely on.
 use Prim.Native.Nat.{ℕ, _<_, _≤_}
 use mathlib.Core.Path.{_≡_}
 use mathlib.Core.List.{List, [], _∷_}
-use lib.ListN.{length}
+use lib.ListN.{length, getD, take}
 use Rattle.context.specs.declared.Gate.{Gate}
-use Rattle.machine.specs.Operation.{Op, store, decode}
+use Rattle.machine.specs.Operation.{Op, store, halt, decode}
 use Rattle.ops.specs.Written.{Each}
 use Rattle.vm.specs.declared.State.{State}
-use Rattle.vm.specs.Verify.{verifyOf}
-use Rattle.vm.specs.Transition.{Lent, meteredOf, transitionOf}
+use Rattle.vm.specs.declared.Answer.the-variants.{Success}
+use Rattle.vm.specs.declared.Check.the-variants.{Passed}
+use Rattle.vm.specs.Verify.{gateCheck, verifyOf}
+use Rattle.vm.specs.Transition.{Result, Lent, checksOf, meteredOf, transitionOf}
 use Rattle.vm.specs.Numbers.{checkNumbered, answerNumbered}
 use Rattle.relied.specs.Numbers.{Among}
 
@@ -53,6 +55,9 @@ pub record RunRelied (ks vs : List ℕ) (caller g : ℕ) (s w m : List ℕ) (sta
   -- the header, of atc_execute_state_transition, whose limit is 0: "Gives 0, 34 to 46"
   pub unmetered : (gate : Gate)
       → Among (0 ∷ 34 ∷ 35 ∷ 36 ∷ 37 ∷ 38 ∷ 39 ∷ 40 ∷ 41 ∷ 42 ∷ 43 ∷ 44 ∷ 45 ∷ 46 ∷ []) (transitionNumber gate ks vs caller 0 s w m state)
+  -- the header, of the same: "only a program that starts with Halt succeeds; another that verifies is 46"
+  pub halts : (gate : Gate) → checksOf (gateCheck gate) ks vs s w m (state .used) ≡ Passed → getD (decode ks vs) 0 halt ≡ halt → transitionNumber gate ks vs caller 0 s w m state ≡ 0
+  pub others : (gate : Gate) → checksOf (gateCheck gate) ks vs s w m (state .used) ≡ Passed → (getD (decode ks vs) 0 halt ≡ halt → ⊥) → transitionNumber gate ks vs caller 0 s w m state ≡ 46
   -- the header, of ATC_MAX_STORAGE_SLOTS: "with this much work and storage a run never gives 51"
   pub meteredRoomy : 65536 ≤ length m → Among (0 ∷ 34 ∷ 41 ∷ 42 ∷ 43 ∷ 44 ∷ 45 ∷ 46 ∷ 47 ∷ 48 ∷ 49 ∷ 50 ∷ []) (meteredNumber ks vs caller g s w m state)
   pub transitionRoomy : 65536 ≤ length m → (gate : Gate)
@@ -61,3 +66,10 @@ pub record RunRelied (ks vs : List ℕ) (caller g : ℕ) (s w m : List ℕ) (sta
   pub meteredHanded : Handed ks vs s w m (state .used) → Among (0 ∷ 41 ∷ 42 ∷ 43 ∷ 45 ∷ 46 ∷ 47 ∷ 48 ∷ 49 ∷ 50 ∷ []) (meteredNumber ks vs caller g s w m state)
   pub transitionHanded : Handed ks vs s w m (state .used) → (gate : Gate)
       → Among (0 ∷ 35 ∷ 36 ∷ 37 ∷ 38 ∷ 39 ∷ 40 ∷ 41 ∷ 42 ∷ 43 ∷ 45 ∷ 46 ∷ 47 ∷ 48 ∷ 49 ∷ 50 ∷ []) (transitionNumber gate ks vs caller g s w m state)
+
+-- the same of two calls
+pub record SameRun (t u : Result) : Type 0 where
+  pub answer : t .answer ≡ u .answer
+  -- after a success stack, work and the used slots are the same, too
+  pub success : (spent operations items : ℕ) (after : State) → t .answer ≡ Success spent operations items after
+      → (t .stack ≡ u .stack) × (t .work ≡ u .work) × (take (after .used) (t .storage) ≡ take (after .used) (u .storage))
