@@ -46,8 +46,8 @@ print-requires c κs = search needs
 enum-known-answer-2 : tie.Need-enum-known-answer-2
 enum-known-answer-2 c = search needs
 
-of-refusal-requires : tie.Need-of-refusal-requires
-of-refusal-requires c κs = search needs
+numbered-requires : tie.Need-numbered-requires
+numbered-requires c κs = search needs
 
 print-decimal-requires : tie.Need-print-decimal-requires
 print-decimal-requires c κs = search needs
@@ -74,7 +74,7 @@ function-spec =
     part-print-end
     print-requires
     enum-known-answer-2
-    of-refusal-requires
+    numbered-requires
     print-decimal-requires
     returns
     returns-2)
