@@ -1,5 +1,7 @@
 -- Runs from related storages go alike, where every operation of the program respects the relation.
-use Prim.Native.Nat.{ℕ, zero, suc, _+_, _-_}
+use Prim.Native.Nat.{ℕ, zero, suc, _+_, _-_, _≤_, _<_}
+use native.Mathlib.Omega.{arith}
+use native.Mathlib.Decide.{decLt}
 use mathlib.Core.Path.{_≡_, refl, subst}
 use mathlib.Core.Bool.{Bool, true, false, cond}
 use mathlib.Core.Option.{Option, some, none}
@@ -7,10 +9,11 @@ use mathlib.Core.List.{List, [], _∷_}
 use lib.ListN.{length, getD}
 use lib.Dec.{ltb, eqb}
 use Rattle.word.specs.Apply.{apply}
-use Rattle.machine.specs.declared.Refusal.the-variants.{OutOfGas, StackLimitExceeded, OutsideStorage}
+use Rattle.machine.specs.declared.Refusal.the-variants.{StackLimitExceeded, OutsideStorage}
 use Rattle.machine.specs.Operation.{Op, push, binary, dup, swap, jump, jumpIfNotZero, load, store, caller, jumpIfZero, halt, priceOf}
 use Rattle.machine.specs.Machine.{Frame, Effect, moves, jumps, ends, fails, Act, over, costs, Outcome, next, done, stop, storeAt, pushOf, valueOf, effectOf, settle, pay, actOf, machine, follow, runOf, start, whole}
 use Rattle.machine.specs.Alike.{holding, AlikeBut}
+use Rattle.machine.proofs.Runs.{unpaid, afforded}
 
 module _ (R : List ℕ → List ℕ → Type 0) where
   abbrev SameEffect : Effect → Effect → Type 0
@@ -80,11 +83,11 @@ module _ (R : List ℕ → List ℕ → Type 0) where
   same-settle g fr m′ (fails f) e′ r h = rw h
 
   same-pay : (p g : ℕ) (fr : Frame) (m′ : List ℕ) (e e′ : Effect) → R (fr .storage) m′ → SameEffect e e′ → AlikeBut R (pay g fr (costs p e)) (pay g (holding m′ fr) (costs p e′))
-  same-pay p g fr m′ e e′ r h = go (ltb g p)
+  same-pay p g fr m′ e e′ r h = go (decLt g p)
     where
-      go : (b : Bool) → AlikeBut R (cond b (stop (OutOfGas p g)) (settle (g - p) fr e)) (cond b (stop (OutOfGas p g)) (settle (g - p) (holding m′ fr) e′))
-      go true = refl
-      go false = same-settle (g - p) fr m′ e e′ r h
+      go : Dec (g < p) → AlikeBut R (pay g fr (costs p e)) (pay g (holding m′ fr) (costs p e′))
+      go (yes l) = rw (unpaid g p fr e l, unpaid g p (holding m′ fr) e′ l)
+      go (no l) = let k : p ≤ g = omega arith in rw (afforded g p fr e k, afforded g p (holding m′ fr) e′ k) (same-settle (g - p) fr m′ e e′ r h)
 
   module _ (program : List Op) (c room : ℕ) (respects : (i : ℕ) → Respects (getD program i halt)) where
     same-step : (g : ℕ) (fr : Frame) (m′ : List ℕ) → R (fr .storage) m′ → AlikeBut R (pay g fr (machine program c room fr)) (pay g (holding m′ fr) (machine program c room (holding m′ fr)))

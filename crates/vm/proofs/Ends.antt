@@ -20,7 +20,7 @@ use Rattle.machine.proofs.Effects.{refused}
 use Rattle.vm.specs.declared.State.{State}
 use Rattle.vm.specs.declared.Answer.{Answer}
 use Rattle.vm.specs.declared.Answer.the-variants.{Success, Refused}
-use Rattle.vm.specs.Needed.{needed, Copied, Serves}
+use Rattle.vm.specs.Needed.{changed, Copied, Serves}
 use Rattle.vm.specs.Transition.{up, ofRun, Meets}
 use Rattle.vm.proofs.Needed.{brought}
 
@@ -46,7 +46,7 @@ module _ (g : ℕ) (state : State) (r : Regs) (s w m s′ w′ : List ℕ) (same
   -- the run's outcome is o but for the storage
   module _ (ks vs : List ℕ) (o : Outcome) (like : AlikeBut (Serves ks vs (state .used) m) (outcomeOf s w r) o) where
     pub succeeded : (x m′ : List ℕ) → r .code ≡ 1 → r .items ≤ length s → r .used ≤ length w → s′ ≡ take (r .items) s ++ replicate (length s - r .items) 0
-        → Copied (λ j. needed ks vs (state .used) j && ltb j (state .used)) w m x → Copied (λ j. leb (state .used) j && ltb j (r .used)) w x m′
+        → Copied (λ j. changed ks vs (state .used) j && ltb j (state .used)) w m x → Copied (λ j. leb (state .used) j && ltb j (r .used)) w x m′
         → Meets (ofRun g state (length s) m o) state (Success (g - r .gas) (r .ops) (r .items) (record { used = r .used })) s′ w′ m′
     succeeded x m′ one hi hu es p q =
         let d = length-down (r .items) s in

@@ -5,19 +5,20 @@ use native.Mathlib.Decide.{decLt}
 use native.Mathlib.Numerals.{add-one}
 use mathlib.Core.Path.{_≡_, refl, sym, ap, _∙_}
 use mathlib.Core.Bool.{Bool, true, false, cond, _&&_, _||_}
-use mathlib.Core.List.{List, _++_}
-use lib.ListN.{length, getD, set, take, drop, length-set, length-append, length-drop, List·getD-append, List·getD-eq-default}
+use mathlib.Core.List.{List, [], _∷_, _++_}
+use lib.ListN.{length, getD, set, take, drop, length-set, length-append, length-drop, drop-of-length-le, List·getD-append, List·getD-eq-default}
 use lib.Seq.{getD-set-same, getD-set-other, getD-take, getD-drop, getD-append-add, length-take-le, ext-getD}
 use lib.Dec.{eqb, leb, ltb}
 use borrow.Author.Tests.{eq-eqb, ne-eqb, le-leb, lt-leb, lt-ltb, le-ltb}
-use Rattle.byte.proofs.Tests.{never, by-bool, by-eqb}
+use Rattle.byte.proofs.Tests.{never, and-right, and-both, by-bool, by-eqb}
+use Rattle.byte.proofs.Parts.{next}
 use Rattle.machine.specs.Operation.{Op, push, binary, dup, swap, jump, jumpIfNotZero, load, store, caller, jumpIfZero, halt, opOf, decode, priceOf}
 use Rattle.machine.specs.Machine.{storeAt, whole}
 use Rattle.machine.specs.Alike.{AlikeBut}
 use Rattle.machine.proofs.Alike.{Touches, Respects, same-whole}
 use Rattle.machine.proofs.Program.{span, op-high, decode-length, decode-at}
 use Rattle.machine.proofs.Slots.{store-length, store-same, store-other}
-use Rattle.vm.specs.Needed.{names, named, needed, Copied, Serves}
+use Rattle.vm.specs.Needed.{names, named, needed, stores, changed, Copied, Serves}
 
 pub copied-none : (c : ℕ → Bool) (s d : List ℕ) → ((j : ℕ) → c j ≡ false) → Copied c s d d
 copied-none c s d e = record { long = refl; each = λ j h. rw (e j) }
@@ -155,7 +156,61 @@ named-at ks vs (suc n) i j h e = go (decLt i n) (λ l. named-at ks vs n i j l e)
     go (yes l) ih = left _ _ (ih l)
     go (no l) ih = let q : i ≡ n = omega arith in right (named ks vs n j) _ (rw (← q) e)
 
+-- kind 12 is Store
+abbrev isStore : Op → Bool
+isStore (push v) = false
+isStore (binary o) = false
+isStore dup = false
+isStore swap = false
+isStore (jump t) = false
+isStore (jumpIfNotZero t) = false
+isStore (load i) = false
+isStore (store i) = true
+isStore caller = false
+isStore (jumpIfZero t) = false
+isStore halt = false
+
+store-kind : (k v : ℕ) → isStore (opOf k v) ≡ eqb k 12
+store-kind k v = go (decLt k 15)
+  where
+    go : Dec (k < 15) → isStore (opOf k v) ≡ eqb k 12
+    go (yes h) = span (λ k. isStore (opOf k v) ≡ eqb k 12) 0 15 k (refl, (refl, (refl, (refl, (refl, (refl, (refl, (refl, (refl, (refl, (refl, (refl, (refl, (refl, (refl, tt))))))))))))))) (omega arith) (omega arith)
+    go (no h) = rw (op-high k v (omega arith), ne-eqb k 12 (omega arith))
+
+stores-at : (ks : List ℕ) (i : ℕ) → i < length ks → eqb (getD ks i 0) 12 ≡ true → stores ks ≡ true
+unfolding stores
+stores-at [] i h e = absurd (omega arith)
+stores-at (k ∷ ks) zero h e = rw e
+stores-at (k ∷ ks) (suc i) h e = go (eqb k 12) (stores-at ks i (omega arith) e)
+  where
+    go : (b : Bool) → stores ks ≡ true → (b || stores ks) ≡ true
+    go true q = refl
+    go false q = q
+
+-- a hit so far, and what is left of the program
+pub store-next : (ks : List ℕ) (hit : Bool) (i : ℕ) → i < length ks → ((hit || eqb (getD ks i 0) 12) || stores (drop (i + 1) ks)) ≡ (hit || stores (drop i ks))
+unfolding stores
+store-next ks hit i h = rw (next ks i (i + 1) h refl) (go hit)
+  where
+    go : (b : Bool) → ((b || eqb (getD ks i 0) 12) || stores (drop (i + 1) ks)) ≡ (b || (eqb (getD ks i 0) 12 || stores (drop (i + 1) ks)))
+    go true = refl
+    go false = refl
+
+pub store-end : (ks : List ℕ) (hit : Bool) (i : ℕ) → length ks ≤ i → (hit || stores (drop i ks)) ≡ hit
+unfolding stores
+store-end ks hit i h = rw (drop-of-length-le ks h) (go hit)
+  where
+    go : (b : Bool) → (b || false) ≡ b
+    go true = refl
+    go false = refl
+
 module _ (ks vs : List ℕ) (used : ℕ) where
+  pub none-changed : {s d : List ℕ} → stores ks ≡ false → Copied (λ j. changed ks vs used j && ltb j used) s d d
+  none-changed {s = s} {d = d} e = copied-none (λ j. changed ks vs used j && ltb j used) s d (λ j. rw e)
+
+  pub needed-changed : {s d x : List ℕ} → stores ks ≡ true → Copied (λ j. needed ks vs used j && ltb j used) s d x → Copied (λ j. changed ks vs used j && ltb j used) s d x
+  needed-changed e = copied-as (λ j. needed ks vs used j && ltb j used) (λ j. changed ks vs used j && ltb j used) (λ j. rw e)
+
   -- all slots of a long program, those named by a short one
   pub all-needed : {s d x : List ℕ} → used / 8 < length ks → Copied (λ j. leb 0 j && ltb j used) s d x → Copied (λ j. needed ks vs used j && ltb j used) s d x
   all-needed h = copied-as (λ j. leb 0 j && ltb j used) (λ j. needed ks vs used j && ltb j used) (λ j. rw (lt-leb (length ks) (used / 8) h, le-leb 0 j (omega arith)))
@@ -172,38 +227,38 @@ module _ (ks vs : List ℕ) (used : ℕ) where
 
   -- the slots of m₀ that are needed, or all of them
   module _ (m₀ : List ℕ) where
-    stored : (i v : ℕ) → needed ks vs used i ≡ true → (m m′ : List ℕ) → Serves ks vs used m₀ m m′ → Serves ks vs used m₀ (storeAt m i v) (storeAt m′ i v)
+    stored : (i v : ℕ) → changed ks vs used i ≡ true → (m m′ : List ℕ) → Serves ks vs used m₀ m m′ → Serves ks vs used m₀ (storeAt m i v) (storeAt m′ i v)
     stored i v n m m′ r =
         record {
           long = store-length m i v ∙ ap (λ (l : ℕ). max l (i + 1)) (r .long) ∙ sym (store-length m′ i v);
           more = rw (store-length m i v) (omega (arith, r .more));
           same = λ j e. slot j (r .same j e);
           past = λ j l. slot j (r .past j l);
-          kept = λ j e l. r .kept j e l ∙ sym (store-other m′ i v j (λ q. never (sym e ∙ ap (needed ks vs used) q ∙ n)));
+          kept = λ j e l. r .kept j e l ∙ sym (store-other m′ i v j (λ q. never (sym e ∙ ap (changed ks vs used) q ∙ n)));
         }
       where
         slot : (j : ℕ) → getD m j 0 ≡ getD m′ j 0 → getD (storeAt m i v) j 0 ≡ getD (storeAt m′ i v) j 0
         slot j e =
             by-eqb j i (λ q. rw q (store-same m i v ∙ sym (store-same m′ i v))) (λ q. store-other m i v j q ∙ e ∙ sym (store-other m′ i v j q))
 
-    touches : (op : Op) → ((j : ℕ) → names op j ≡ true → needed ks vs used j ≡ true) → Touches (Serves ks vs used m₀) op
-    touches (push v) h = tt
-    touches (binary o) h = tt
-    touches dup h = tt
-    touches swap h = tt
-    touches (jump t) h = tt
-    touches (jumpIfNotZero t) h = tt
-    touches (load i) h = λ m m′ r. r .same i (h i (eq-eqb i i refl))
-    touches (store i) h = λ v m m′ r. stored i v (h i (eq-eqb i i refl)) m m′ r
-    touches caller h = tt
-    touches (jumpIfZero t) h = tt
-    touches halt h = tt
+    touches : (op : Op) → ((j : ℕ) → names op j ≡ true → needed ks vs used j ≡ true) → (isStore op ≡ true → stores ks ≡ true) → Touches (Serves ks vs used m₀) op
+    touches (push v) h s = tt
+    touches (binary o) h s = tt
+    touches dup h s = tt
+    touches swap h s = tt
+    touches (jump t) h s = tt
+    touches (jumpIfNotZero t) h s = tt
+    touches (load i) h s = λ m m′ r. r .same i (h i (eq-eqb i i refl))
+    touches (store i) h s = λ v m m′ r. stored i v (and-both (stores ks) (needed ks vs used i) (s refl) (h i (eq-eqb i i refl))) m m′ r
+    touches caller h s = tt
+    touches (jumpIfZero t) h s = tt
+    touches halt h s = tt
 
     respects : length ks ≡ length vs → (i : ℕ) → Respects (Serves ks vs used m₀) (getD (decode ks vs) i halt)
     respects e i = record { touches = go (decLt i (length ks)); price = λ m m′ r. ap (priceOf (getD (decode ks vs) i halt)) (r .long) }
       where
         go : Dec (i < length ks) → Touches (Serves ks vs used m₀) (getD (decode ks vs) i halt)
-        go (yes h) = rw (decode-at ks vs i e h) (touches (opOf (getD ks i 0) (getD vs i 0)) (λ j q. needed-at i j h q))
+        go (yes h) = rw (decode-at ks vs i e h) (touches (opOf (getD ks i 0) (getD vs i 0)) (λ j q. needed-at i j h q) (λ q. stores-at ks i h (sym (store-kind (getD ks i 0) (getD vs i 0)) ∙ q)))
         go (no h) = rw (List·getD-eq-default (decode ks vs) halt {n = i} (omega (arith, decode-length ks vs e))) tt
 
   -- what is copied into the work buffer serves a run from the storage
@@ -236,14 +291,11 @@ module _ (ks vs : List ℕ) (used : ℕ) where
 
   -- what is copied back is the storage that the run leaves
   pub brought : (after : ℕ) (m w m′ x y : List ℕ) → length w ≡ length m → after ≤ length w → Serves ks vs used m (take after w) m′
-      → Copied (λ j. needed ks vs used j && ltb j used) w m x → Copied (λ j. leb used j && ltb j after) w x y → y ≡ m′ ++ drop (length m′) m
+      → Copied (λ j. changed ks vs used j && ltb j used) w m x → Copied (λ j. leb used j && ltb j after) w x y → y ≡ m′ ++ drop (length m′) m
   brought after m w m′ x y l h r p q = ext-getD 0 y (m′ ++ drop (length m′) m) (z .long ∙ sym long) (λ j b. each j (omega (arith, b, z .long)))
     where
-      c : ℕ → Bool
-      c j = (needed ks vs used j && ltb j used) || (leb used j && ltb j after)
-
-      z : Copied (λ j. (needed ks vs used j && ltb j used) || (leb used j && ltb j after)) w m y
-      z = copied-both (λ j. needed ks vs used j && ltb j used) (λ j. leb used j && ltb j after) p q
+      z : Copied (λ j. (changed ks vs used j && ltb j used) || (leb used j && ltb j after)) w m y
+      z = copied-both (λ j. changed ks vs used j && ltb j used) (λ j. leb used j && ltb j after) p q
 
       size : length m′ ≡ after
       size = sym (r .long) ∙ length-take-le after w h
@@ -272,15 +324,15 @@ module _ (ks vs : List ℕ) (used : ℕ) where
       each : (j : ℕ) → j < length m → getD y j 0 ≡ getD (m′ ++ drop (length m′) m) j 0
       each j b = z .each j b ∙ go (decLt j used) (decLt j after)
         where
-          go : Dec (j < used) → Dec (j < after) → cond ((needed ks vs used j && ltb j used) || (leb used j && ltb j after)) (getD w j 0) (getD m j 0) ≡ getD (m′ ++ drop (length m′) m) j 0
+          go : Dec (j < used) → Dec (j < after) → cond ((changed ks vs used j && ltb j used) || (leb used j && ltb j after)) (getD w j 0) (getD m j 0) ≡ getD (m′ ++ drop (length m′) m) j 0
           go (yes k) (yes a) =
               rw (lt-ltb j used k, lt-leb used j k, within j a)
-              (by-bool (needed ks vs used j) (λ e. rw e (sym (getD-take after w j 0 a) ∙ r .same j e)) (λ e. rw e (r .kept j e k)))
+              (by-bool (changed ks vs used j) (λ e. rw e (sym (getD-take after w j 0 a) ∙ r .same j (and-right (stores ks) (needed ks vs used j) e))) (λ e. rw e (r .kept j e k)))
           go (yes k) (no a) = absurd (omega (arith, more))
           go (no k) (yes a) =
               let u : used ≤ j = omega arith in
-              rw (le-ltb j used u, and-false (needed ks vs used j), le-leb used j u, lt-ltb j after a, within j a) (sym (getD-take after w j 0 a) ∙ r .past j u)
+              rw (le-ltb j used u, and-false (changed ks vs used j), le-leb used j u, lt-ltb j after a, within j a) (sym (getD-take after w j 0 a) ∙ r .past j u)
           go (no k) (no a) =
               let u : used ≤ j = omega arith in
               let v : after ≤ j = omega arith in
-              rw (le-ltb j used u, and-false (needed ks vs used j), le-leb used j u, le-ltb j after v, behind j v)
+              rw (le-ltb j used u, and-false (changed ks vs used j), le-leb used j u, le-ltb j after v, behind j v)

@@ -96,7 +96,7 @@ fn finish(
     let used = r.used;
     buffers::clear_from(stack, items);
     let before = state.used;
-    slots::copy_needed(storage, work, kinds, operands, before);
+    slots::copy_changed(storage, work, kinds, operands, before);
     buffers::copy_part(storage, work, before, used);
     buffers::clear_from(work, 0);
     Answer::Success {

@@ -6,7 +6,7 @@ ghost use Prim.Native.Nat.{_≤_};
 ghost use lib.Dec.{ltb};
 ghost use lib.ListN.{length};
 ghost use Rattle.machine.specs.Operation.{opOf};
-ghost use Rattle.vm.specs.Needed.{Copied, names, named, needed};
+ghost use Rattle.vm.specs.Needed.{Copied, names, named, needed, stores, changed};
 use super::buffers;
 
 // Where the program has more operations than an eighth of the used slots, to look at it is no gain over copying them all.
@@ -19,6 +19,28 @@ pub fn copy_needed(d: &mut [u64], s: &[u64], kinds: &[u8], operands: &[u64], use
         return;
     }
     copy_named(d, s, kinds, operands, used);
+}
+
+// Those that a run may have changed: none where the program has no Store.
+pub fn copy_changed(d: &mut [u64], s: &[u64], kinds: &[u8], operands: &[u64], used: usize)
+    requires { ⌜ (length (now kinds) ≡ length (now operands)) × (used ≤ length (now d)) × (used ≤ length (now s)) ⌝ }
+    ensures { λ _. ⌜ Copied (λ j. changed (now (kinds .entry)) (now (operands .entry)) used j && ltb j used) (now (s .entry)) (now (d .entry)) (now (d .exit)) ⌝ }
+{
+    if has_store(kinds) {
+        copy_needed(d, s, kinds, operands, used);
+    }
+}
+
+fn has_store(kinds: &[u8]) -> bool
+    ensures { λ r. ⌜ r ≡ stores (now (kinds .entry)) ⌝ }
+{
+    let mut hit = false;
+    let mut i: usize = 0;
+    while i < kinds.len() {
+        hit = byte::either(hit, kinds[i] == 12);
+        i += 1;
+    }
+    hit
 }
 
 // Only the slots that the program names.

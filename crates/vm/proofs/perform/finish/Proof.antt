@@ -35,8 +35,8 @@ returns c =
 clear-from-requires-3 : tie.Need-clear-from-requires-3
 clear-from-requires-3 c κs = search needs
 
-copy-needed-requires : tie.Need-copy-needed-requires
-copy-needed-requires c κs = search needs
+copy-changed-requires : tie.Need-copy-changed-requires
+copy-changed-requires c κs = search needs
 
 copy-part-requires : tie.Need-copy-part-requires
 copy-part-requires c κs = search needs
@@ -61,7 +61,7 @@ returns-2 c =
     let a = c .before .before .before .before .before .before .before .before .before .before .before .before .before .before .before .before .before .before .before .before .before .before .before .before .before .before .args in
     let p = c .before .before .before .before .before .before .before .before .before .before .before .before .before .before .before .before .before .before .before .before .before .before .before .before .before .before .pre in
     λ o like.
-    succeeded (a .gas-limit) (a .state) (a .r) (a .stack .now) (a .work .now) (a .storage .now) _ _ (p .0 .same) (c .before .before .before .clear-from4 .ensures) (a .kinds .now) (a .operands .now) o like _ _ (c .before .before .before .before .before .before .before .before .before .before .before .before .before .before .before .before .before .before .before .if1 .left) (omega (arith, p)) (p .1 .used) (c .before .before .before .before .before .before .before .before .before .before .before .before .before .before .before .before .before .clear-from3 .ensures) (c .before .before .before .before .before .before .before .before .before .before .before .before .copy-needed .ensures) (c .before .before .before .before .before .before .before .copy-part .ensures)
+    succeeded (a .gas-limit) (a .state) (a .r) (a .stack .now) (a .work .now) (a .storage .now) _ _ (p .0 .same) (c .before .before .before .clear-from4 .ensures) (a .kinds .now) (a .operands .now) o like _ _ (c .before .before .before .before .before .before .before .before .before .before .before .before .before .before .before .before .before .before .before .if1 .left) (omega (arith, p)) (p .1 .used) (c .before .before .before .before .before .before .before .before .before .before .before .before .before .before .before .before .before .clear-from3 .ensures) (c .before .before .before .before .before .before .before .before .before .before .before .before .copy-changed .ensures) (c .before .before .before .before .before .before .before .copy-part .ensures)
 
 pub finish-spec : {M : Type 1} → statement M
 finish-spec =
@@ -74,7 +74,7 @@ finish-spec =
     same-length-2
     returns
     clear-from-requires-3
-    copy-needed-requires
+    copy-changed-requires
     copy-part-requires
     clear-from-requires-4
     sub-t32
