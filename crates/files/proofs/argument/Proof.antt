@@ -1,11 +1,11 @@
--- `assemble::files::argument` meets its contract: the whole buffer lies within itself.
+-- `files::argument` meets its contract: the whole buffer lies within itself.
 -- Assumes nothing.
 use mathlib.Core.Path.{sym}
 use native.Mathlib.Omega.{arith}
 use lib.Seq.{length-take-le}
 use borrow.Author.Needs.{needs}
-use Rattle.assemble.proofs.files.argument.Statement.{statement}
-use Rattle.assemble.proofs.files.argument.Tie as tie
+use Rattle.files.proofs.argument.Statement.{statement}
+use Rattle.files.proofs.argument.Tie as tie
 
 arg-requires : tie.Need-arg-requires
 arg-requires c κs = search needs

@@ -1,6 +1,6 @@
 // Arguments and files, read into a buffer as far as it holds them.
 ghost use Rattle.io.specs.Counts.{Counts};
-ghost use Rattle.assemble.specs.Held.{Held};
+ghost use Rattle.files.specs.Held.{Held};
 
 // How many bytes stand in the buffer, or that the file can't be opened or read.
 pub enum Contents {
@@ -32,7 +32,7 @@ pub fn read(path: &[u8], buf: &mut [u8]) -> Contents
 }
 
 // Reads until the buffer is full or the file ends.
-fn fill(fd: i32, buf: &mut [u8]) -> Contents
+pub fn fill(fd: i32, buf: &mut [u8]) -> Contents
     ensures { λ r. ⌜ Held r (now (buf .exit)) ⌝ }
 {
     let mut done: usize = 0;

@@ -2,8 +2,8 @@
 use Prim.Native.Nat.{ℕ}
 use mathlib.Core.List.{List}
 use Rattle.io.specs.Counts.{Counts}
-use Rattle.assemble.specs.declared.files.Contents.{Contents}
-use Rattle.assemble.specs.declared.files.Contents.the-variants.{Read, Unreadable}
+use Rattle.files.specs.declared.Contents.{Contents}
+use Rattle.files.specs.declared.Contents.the-variants.{Read, Unreadable}
 
 abbrev pub Held : Contents → List ℕ → Type 0
 Held (Read n) s = Counts n s

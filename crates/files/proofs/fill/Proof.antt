@@ -1,25 +1,25 @@
--- `assemble::files::fill` meets its contract: what each read puts behind the bytes that stand there fits the buffer.
+-- `files::fill` meets its contract: what each read puts behind the bytes that stand there fits the buffer.
 -- Assumes nothing.
 use Prim.Native.Nat.{ℕ, _+_, _-_, _≤_}
-use mathlib.Core.Path.{_≡_, sym, ap, subst, _∙_}
+use mathlib.Core.Path.{_≡_, sym, ap, _∙_}
 use mathlib.Core.List.{List}
 use native.Mathlib.Omega.{arith}
 use lib.ListN.{length, take, drop, length-drop}
 use lib.Seq.{length-take-le}
 use Rattle.byte.proofs.Parts.{rest}
-use Rattle.assemble.specs.declared.files.Contents.{Contents}
-use Rattle.assemble.specs.declared.files.Contents.the-variants.{Read}
-use Rattle.assemble.specs.Held.{Held}
+use Rattle.files.specs.declared.Contents.{Contents}
+use Rattle.files.specs.declared.Contents.the-variants.{Read}
+use Rattle.files.specs.Held.{Held}
+use Rattle.files.proofs.Counted.{counted}
 use borrow.Author.Needs.{needs}
-use Rattle.assemble.proofs.files.fill.Statement.{statement}
-use Rattle.assemble.proofs.files.fill.Tie as tie
+use Rattle.files.proofs.fill.Statement.{statement}
+use Rattle.files.proofs.fill.Tie as tie
 
 -- `part` is read behind the first `done` bytes
 more : (buf part : List ℕ) (done n : ℕ) (r : Contents) → done ≤ length buf → length part ≡ length (take (length buf - done) (drop done buf))
     → Held r part → r ≡ Read n → done + n ≤ length buf
 more buf part done n r h l k e =
-    let m = subst (λ (x : Contents). Held x part) e k in
-    let j = m .0 in
+    let j = counted part n r k e .0 in
     let i = ap length (rest buf done) ∙ length-drop done buf in
     omega arith
 
