@@ -1,5 +1,5 @@
 -- Laws of a message's parts: the words by their lines, the key or the line, and how long a message is.
-use Prim.Native.Nat.{ℕ, zero, suc, _+_, _^_, _<_, _≤_, max}
+use Prim.Native.Nat.{ℕ, zero, suc, _^_, _<_, _≤_, max}
 use mathlib.Core.Path.{_≡_, refl, sym, ap, _∙_}
 use mathlib.Core.List.{List, [], _∷_, _++_}
 use mathlib.Core.Bool.{Bool, true, cond}

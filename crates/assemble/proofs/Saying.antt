@@ -1,28 +1,25 @@
 -- What is said, from what the calls ensure.
 use Prim.Native.Nat.{ℕ, _^_, _<_, _≤_}
 use mathlib.Core.Path.{_≡_, refl, sym, ap, ap₂, subst, _∙_}
-use mathlib.Core.List.{List, [], _∷_, _++_}
+use mathlib.Core.List.{List, [], _++_}
 use native.Mathlib.Omega.{arith}
 use lib.Dec.{leb}
 use lib.ListN.{length, getD, take, drop, length-append}
 use lib.Seq.{take-at}
 use Rattle.byte.proofs.Tests.{by-bool}
 use Rattle.assembler.specs.declared.refusal.Refusal.{Refusal}
-use Rattle.assembler.specs.Numbers.{refusalOf}
+use Rattle.assembler.specs.Numbers.{refusalNumbered}
 use Rattle.assembler.specs.Assembled.{Assembled, accepted, rejected, assembledTree}
 use Rattle.assembler.specs.Output.{Answer, success, refusal, Assembly, stemFits, output, named, assembled}
 use Rattle.assembly.specs.declared.Answer as assembly
 use Rattle.assembly.specs.declared.Answer.the-variants.{Success, Refused}
 use Rattle.assembly.specs.Answers.{answerOf, Assembles}
-use Rattle.numbers.specs.declared.Numbered.{Numbered}
-use Rattle.numbers.specs.Numbered.{padded}
-use Rattle.numbers.specs.Numbered as numbers
 use Rattle.pieces.specs.Added.{Added}
 use Rattle.pieces.proofs.Adding.{added-fits, whole}
 use Rattle.assemble.specs.declared.say.Said.{Said}
 use Rattle.assemble.specs.declared.say.Said.the-variants.{Text, Message}
 use Rattle.assemble.specs.Message.{messageOf, refusalMessage}
-use Rattle.assemble.specs.Streams.{Streams, answered, said, countOf, Says}
+use Rattle.assemble.specs.Streams.{answered, said, countOf, Says}
 use Rattle.assemble.proofs.Messages.{message-short}
 
 -- a success counts the bytes of its text, a refusal has no text
@@ -57,27 +54,20 @@ module _ (a : Assembly) (z : Sized (a .text) (a .answer)) (out after : List ℕ)
       }
 
   module _ (why : Refusal) (e : r ≡ Refused why) where
-    refuses : refusal (refusalOf why) ≡ a .answer
+    refuses : refusal (refusalNumbered why) ≡ a .answer
     refuses = ap answerOf (sym e) ∙ h .answer
 
     untouched : after ≡ out
     untouched = h .buffer ∙ ap (λ (t : List ℕ). t ++ drop (length t) out) (subst (Sized (a .text)) (sym refuses) z)
 
     pub says-message : (number value n : ℕ) (last : List ℕ) → 128 ≤ length out → number < 2 ^ 64 → value < 2 ^ 64
-        → number ≡ refusalOf why .number → value ≡ getD (refusalOf why .values) 0 0 → Added after 0 (messageOf number value) last n → Says a (Message n) last
+        → number ≡ refusalNumbered why .number → value ≡ getD (refusalNumbered why .words) 0 0 → Added after 0 (messageOf number value) last n → Says a (Message n) last
     says-message number value n last room f g i j b =
-        let l : take n last ≡ refusalMessage (refusalOf why) = whole b (omega (arith, message-short number value f g, ap length untouched)) ∙ ap₂ messageOf i j in
+        let l : take n last ≡ refusalMessage (refusalNumbered why) = whole b (omega (arith, message-short number value f g, ap length untouched)) ∙ ap₂ messageOf i j in
         record {
           streams = ap (λ (t : List ℕ). record { output = []; error = t }) l ∙ ap (λ (y : Answer). answered y (a .text)) refuses;
           within = added-fits b;
         }
-
-pub first-value : (n : ℕ) (vs : List ℕ) (r : Numbered) → numbers.Says n vs r → r .first ≡ getD vs 0 0
-first-value n vs r h = ap (λ (l : List ℕ). getD l 0 0) (h .values) ∙ front vs
-  where
-    front : (vs : List ℕ) → getD (padded 4 vs) 0 0 ≡ getD vs 0 0
-    front [] = refl
-    front (v ∷ vs) = refl
 
 -- how much of the buffer is written
 pub counted : (a : Assembly) (r q : Said) (out : List ℕ) → Says a r out → r ≡ q → countOf q ≤ length out

@@ -7,7 +7,7 @@ use Rattle.byte.specs.Range.{within}
 use Rattle.number.specs.Decimal.{decimal}
 use Rattle.ops.specs.Ascii.{ascii}
 use Rattle.ops.specs.Ops.{nthLine}
-use Rattle.assembler.specs.Refusal.{Refusal}
+use Rattle.numbered.specs.declared.Numbered.{Numbered}
 
 -- by their numbers, from 1
 abbrev pub words : List (List ℕ)
@@ -57,5 +57,5 @@ carriedText number value =
 abbrev pub messageOf : ℕ → ℕ → List ℕ
 messageOf number value = ascii "assemble: " ++ decimal number ++ ascii ": " ++ wordsOf number ++ carriedText number value ++ (10 ∷ [])
 
-abbrev pub refusalMessage : Refusal → List ℕ
-refusalMessage r = messageOf (r .number) (getD (r .values) 0 0)
+abbrev pub refusalMessage : Numbered → List ℕ
+refusalMessage r = messageOf (r .number) (getD (r .words) 0 0)

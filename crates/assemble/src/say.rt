@@ -20,8 +20,9 @@ pub fn say(contract: &[u8], vector: &[u8], stem: &[u8], out: &mut [u8]) -> Said
     let answer = assembly::assemble(contract, vector, stem, out);
     match answer {
         Answer::Refused(why) => {
-            let refusal = numbers::of_refusal(why);
-            Said::Message(message(refusal.number, refusal.first, out))
+            let refusal = why.numbered();
+            let words = refusal.words;
+            Said::Message(message(refusal.number, words[0], out))
         }
         Answer::Success {
             written,

@@ -9,7 +9,8 @@ use lib.Seq.{take-at}
 use Rattle.ops.specs.declared.OpsError.{OpsError}
 use Rattle.ops.specs.declared.ParsedOps.{ParsedOps}
 use Rattle.ops.specs.declared.ParsedOps.the-variants.{Read, Refused}
-use Rattle.ops.specs.Ops.{Operation, Reading, ops, refused, readText, answerOf, opsOf, onto, kindsOf, operandsOf, numberOfError, Parsed}
+use Rattle.ops.specs.Ops.{Operation, Reading, ops, refused, readText, answerOf, opsOf, onto, kindsOf, operandsOf, Parsed}
+use Rattle.ops.specs.Numbers.{opsErrorNumbered}
 use Rattle.runops.specs.declared.report.Report.{Report}
 use Rattle.runops.specs.Report.{refusedWith, zeros, runReport, readingReport, reportOf}
 
@@ -44,11 +45,11 @@ front-of (refused x) n ks vs a e d = absurd (let z : _≡_ {A = ℕ} 0 1 = cc in
 pub read : (text ks vs : List ℕ) (p : ParsedOps) (n : ℕ) → Parsed text zeros zeros ks vs p → p ≡ Read n → Front n ks vs (readText text 4096)
 read text ks vs p n h e = front-of (readText text 4096) n ks vs (sym e ∙ h .answer) (h .kindsWritten) (h .operandsWritten)
 
-refused-of : (r : Reading) (e : OpsError) → Refused e ≡ answerOf r → refusedWith (numberOfError e) ≡ readingReport r
+refused-of : (r : Reading) (e : OpsError) → Refused e ≡ answerOf r → refusedWith (opsErrorNumbered e .number) ≡ readingReport r
 refused-of (ops os) e a = absurd (let z : _≡_ {A = ℕ} 0 1 = cc in omega arith)
-refused-of (refused d) e a = let k : e ≡ d = cc in ap (λ (x : OpsError). refusedWith (numberOfError x)) k
+refused-of (refused d) e a = let k : e ≡ d = cc in ap (λ (x : OpsError). refusedWith (opsErrorNumbered x .number)) k
 
-pub not-read : (text ks vs : List ℕ) (p : ParsedOps) (e : OpsError) (n : ℕ) (r : Report) → Parsed text zeros zeros ks vs p → p ≡ Refused e → n ≡ numberOfError e → r ≡ refusedWith n → r ≡ readingReport (readText text 4096)
+pub not-read : (text ks vs : List ℕ) (p : ParsedOps) (e : OpsError) (n : ℕ) (r : Report) → Parsed text zeros zeros ks vs p → p ≡ Refused e → n ≡ opsErrorNumbered e .number → r ≡ refusedWith n → r ≡ readingReport (readText text 4096)
 not-read text ks vs p e n r h q k l = l ∙ ap refusedWith k ∙ refused-of (readText text 4096) e (sym q ∙ h .answer)
 
 -- by the text's length

@@ -5,8 +5,8 @@ use mathlib.Core.Bool.{cond}
 use lib.Dec.{ltb}
 use lib.ListN.{length, getD, replicate}
 use Rattle.context.specs.declared.Gate.the-variants as gate
-use Rattle.ops.specs.declared.OpsError.{OpsError}
-use Rattle.ops.specs.Ops.{Operation, Reading, ops, refused, readText, kindsOf, operandsOf, numberOfError}
+use Rattle.ops.specs.Ops.{Reading, ops, refused, readText, kindsOf, operandsOf}
+use Rattle.ops.specs.Numbers.{opsErrorNumbered}
 use Rattle.vm.specs.declared.State.{State}
 use Rattle.vm.specs.declared.Answer.{Answer}
 use Rattle.vm.specs.declared.Answer.the-variants.{Success, Refused}
@@ -53,7 +53,7 @@ runReport kinds operands = answered (ran kinds operands .answer) (ran kinds oper
 
 abbrev pub readingReport : Reading → Report
 readingReport (ops os) = runReport (kindsOf os) (operandsOf os)
-readingReport (refused e) = refusedWith (numberOfError e)
+readingReport (refused e) = refusedWith (opsErrorNumbered e .number)
 
 -- over 65,536 bytes prints 27
 abbrev pub reportOf : List ℕ → Report

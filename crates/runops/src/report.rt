@@ -27,7 +27,7 @@ pub fn of_text(text: &[u8]) -> Report
     let parsed = ops::parse_ops(text, &mut kinds, &mut operands);
     match parsed {
         ParsedOps::Refused(e) => {
-            let why = numbers::of_ops_error(e);
+            let why = e.numbered();
             refused(why.number)
         }
         ParsedOps::Read(n) => of_run(&kinds[..n], &operands[..n]),
@@ -52,7 +52,7 @@ fn of_run(kinds: &[u8], operands: &[u64]) -> Report
     );
     match answer {
         Answer::Refused(f) => {
-            let why = numbers::of_run_refusal(f);
+            let why = f.numbered();
             refused(why.number)
         }
         Answer::Success {

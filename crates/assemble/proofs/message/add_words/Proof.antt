@@ -17,7 +17,7 @@ same-length : tie.Need-same-length
 same-length c = search needs
 
 returns : tie.Need-returns
-returns c = added-same (c .before .before .before .trimmed-line .ensures ∙ words-line (c .before .before .before .before .before .before .before .before .args .number)) (c .before .before .add-bytes .ensures)
+returns c = added-same (c .before .before .before .trimmed-line .ensures .text ∙ words-line (c .before .before .before .before .before .before .before .before .args .number)) (c .before .before .add-bytes .ensures)
 
 pub add-words-spec : {M : Type 1} → statement M
 add-words-spec = tie.close (tie.spec trimmed-line-requires add-bytes-requires same-length returns)

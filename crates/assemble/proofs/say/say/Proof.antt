@@ -1,9 +1,11 @@
 -- `assemble::say::say` meets its contract: the text where assembly succeeds, the message where it is refused.
 -- Assumes nothing.
 use native.Mathlib.Omega.{arith}
-use lib.ListN.{length}
+use mathlib.Core.Path.{ap}
+use lib.ListN.{length, getD}
 use denote.Ref.{now}
-use Rattle.assemble.proofs.Saying.{sized, says-text, says-message, first-value}
+use Rattle.numbered.specs.declared.Numbered.{Numbered}
+use Rattle.assemble.proofs.Saying.{sized, says-text, says-message}
 use borrow.Author.Needs.{needs}
 use Rattle.assemble.proofs.say.say.Statement.{statement}
 use Rattle.assemble.proofs.say.say.Tie as tie
@@ -14,8 +16,8 @@ assemble-requires c κs = search needs
 enum-known-answer : tie.Need-enum-known-answer
 enum-known-answer c = search needs
 
-of-refusal-requires : tie.Need-of-refusal-requires
-of-refusal-requires c κs = search needs
+numbered-requires : tie.Need-numbered-requires
+numbered-requires c κs = search needs
 
 message-requires : tie.Need-message-requires
 message-requires c κs = search needs
@@ -27,7 +29,7 @@ same-length : tie.Need-same-length
 same-length c = search needs
 
 returns : tie.Need-returns
-returns c = says-message _ (sized (now (c .before .before .before .before .before .before .before .before .before .before .before .before .before .before .before .before .args .contract)) (now (c .before .before .before .before .before .before .before .before .before .before .before .before .before .before .before .before .args .vector)) (now (c .before .before .before .before .before .before .before .before .before .before .before .before .before .before .before .before .args .stem)) (length (now (c .before .before .before .before .before .before .before .before .before .before .before .before .before .before .before .before .args .out)))) _ _ _ (c .before .before .before .before .before .before .before .before .before .before .assemble .ensures) _ (c .before .before .before .before .before .before .answer .given .1) _ _ _ _ (c .before .before .before .before .before .before .before .before .before .before .before .before .before .before .before .before .pre) (omega arith) (omega arith) (c .before .before .before .before .of-refusal .ensures .number) (first-value _ _ _ (c .before .before .before .before .of-refusal .ensures)) (c .before .before .message .ensures)
+returns c = says-message _ (sized (now (c .before .before .before .before .before .before .before .before .before .before .before .before .before .before .before .before .args .contract)) (now (c .before .before .before .before .before .before .before .before .before .before .before .before .before .before .before .before .args .vector)) (now (c .before .before .before .before .before .before .before .before .before .before .before .before .before .before .before .before .args .stem)) (length (now (c .before .before .before .before .before .before .before .before .before .before .before .before .before .before .before .before .args .out)))) _ _ _ (c .before .before .before .before .before .before .before .before .before .before .assemble .ensures) _ (c .before .before .before .before .before .before .answer .given .1) _ _ _ _ (c .before .before .before .before .before .before .before .before .before .before .before .before .before .before .before .before .pre) (omega arith) (omega arith) (ap (λ (n : Numbered). n .number) (c .before .before .before .before .numbered .ensures)) (ap (λ (n : Numbered). getD (n .words) 0 0) (c .before .before .before .before .numbered .ensures)) (c .before .before .message .ensures)
 
 same-length-2 : tie.Need-same-length-2
 same-length-2 c = search needs
@@ -41,7 +43,7 @@ say-spec =
     (tie.spec
     assemble-requires
     enum-known-answer
-    of-refusal-requires
+    numbered-requires
     message-requires
     enum-known-answer-2
     same-length

@@ -1,8 +1,9 @@
 -- `runops::report::of_text` meets its contract: what was read is what is run.
 -- Assumes nothing.
-use mathlib.Core.Path.{sym, _∙_}
+use mathlib.Core.Path.{sym, ap, _∙_}
 use lib.Seq.{length-take-le}
 use denote.Ref.{now}
+use Rattle.numbered.specs.declared.Numbered.{Numbered}
 use Rattle.runops.proofs.Reading.{read, not-read, large, small}
 use borrow.Author.Needs.{needs}
 use Rattle.runops.proofs.report.of_text.Statement.{statement}
@@ -26,8 +27,8 @@ parse-ops-requires c κs = search needs
 enum-known-parsed : tie.Need-enum-known-parsed
 enum-known-parsed c = search needs
 
-of-ops-error-requires : tie.Need-of-ops-error-requires
-of-ops-error-requires c κs = search needs
+numbered-requires : tie.Need-numbered-requires
+numbered-requires c κs = search needs
 
 refused-requires-2 : tie.Need-refused-requires-2
 refused-requires-2 c κs = search needs
@@ -51,7 +52,7 @@ of-run-requires : tie.Need-of-run-requires
 of-run-requires c κs = search needs
 
 returns-2 : tie.Need-returns-2
-returns-2 c = small (now (c .before .before .before .before .before .before .before .before .before .before .before .before .args .text)) _ (c .before .before .before .before .before .before .before .before .before .before .if1 .left) (not-read _ _ _ _ _ _ _ (c .before .before .before .before .before .before .before .parse-ops .ensures) (c .before .before .before .parsed .given .1) (c .before .of-ops-error .ensures .number) (c .refused2 .ensures))
+returns-2 c = small (now (c .before .before .before .before .before .before .before .before .before .before .before .before .args .text)) _ (c .before .before .before .before .before .before .before .before .before .before .if1 .left) (not-read _ _ _ _ _ _ _ (c .before .before .before .before .before .before .before .parse-ops .ensures) (c .before .before .before .parsed .given .1) (ap (λ (n : Numbered). n .number) (c .before .numbered .ensures)) (c .refused2 .ensures))
 
 returns-3 : tie.Need-returns-3
 returns-3 c = small (now (c .before .before .before .before .before .before .before .before .before .before .before .before .before .args .text)) _ (c .before .before .before .before .before .before .before .before .before .before .before .if1 .left) (c .of-run .ensures ∙ (read _ _ _ _ _ (c .before .before .before .before .before .before .before .before .parse-ops .ensures) (c .before .before .before .before .parsed2 .given .1)) .run)
@@ -66,7 +67,7 @@ of-text-spec =
     slice-aggregate-parse-ops-2
     parse-ops-requires
     enum-known-parsed
-    of-ops-error-requires
+    numbered-requires
     refused-requires-2
     enum-known-parsed-2
     array-share-prefix-kinds
