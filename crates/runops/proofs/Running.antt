@@ -4,7 +4,6 @@ use native.Mathlib.Omega.{arith}
 use mathlib.Core.Path.{_≡_, refl, sym, ap, _∙_}
 use mathlib.Core.List.{List, [], _∷_}
 use lib.ListN.{length, getD, replicate, length-append}
-use Rattle.context.specs.declared.Gate.the-variants as gate
 use Rattle.machine.specs.declared.Refusal.{Refusal}
 use Rattle.machine.specs.Operation.{decode}
 use Rattle.machine.specs.Machine.{Outcome, next, done, stop, whole}
@@ -14,7 +13,7 @@ use Rattle.vm.specs.declared.Check.the-variants as check
 use Rattle.vm.specs.declared.Answer.{Answer}
 use Rattle.vm.specs.declared.Answer.the-variants.{Success, Refused}
 use Rattle.vm.specs.Numbers.{answerNumbered}
-use Rattle.vm.specs.Transition.{up, untouched, ofRun, afterCheck, checksOf, transitionOf}
+use Rattle.vm.specs.Transition.{up, untouched, ofRun, afterCheck, checksOf, meteredOf}
 use Rattle.runops.specs.declared.report.Report.{Report}
 use Rattle.runops.specs.Report.{refusedWith, topOf, answered, zeros, none, ran, runReport}
 
@@ -28,7 +27,7 @@ pub record Ran (ks vs : List ℕ) (a : Answer) (s : List ℕ) : Type 0 where
   pub answer : a ≡ ran ks vs .answer
   pub stack : s ≡ ran ks vs .stack
 
-pub made : (ks vs s : List ℕ) (a : Answer) → a ≡ transitionOf gate.Passed ks vs 7 1000 zeros zeros zeros none .answer → s ≡ transitionOf gate.Passed ks vs 7 1000 zeros zeros zeros none .stack → Ran ks vs a s
+pub made : (ks vs s : List ℕ) (a : Answer) → a ≡ meteredOf ks vs 7 1000 zeros zeros zeros none .answer → s ≡ meteredOf ks vs 7 1000 zeros zeros zeros none .stack → Ran ks vs a s
 unfolding ran
 made ks vs s a h k = record { answer = h; stack = k }
 
@@ -36,7 +35,7 @@ made ks vs s a h k = record { answer = h; stack = k }
 pub items-fit : (ks vs s : List ℕ) (a : Answer) (spent operations items : ℕ) (after : State) → Ran ks vs a s → a ≡ Success spent operations items after → items ≤ length s
 unfolding ran
 items-fit ks vs s a spent operations items after r e =
-    go (checksOf gate.Passed ks vs zeros zeros zeros 0) (whole (decode ks vs) 7 4096 1000 []) (sym (r .answer) ∙ e) (r .stack)
+    go (checksOf check.Passed ks vs zeros zeros zeros 0) (whole (decode ks vs) 7 4096 1000 []) (sym (r .answer) ∙ e) (r .stack)
   where
     not-success : {A : Type 0} (f : Refusal) → Refused f ≡ Success spent operations items after → A
     not-success f e = let z : _≡_ {A = ℕ} 0 1 = cc in absurd (omega arith)

@@ -4,14 +4,13 @@ use mathlib.Core.List.{List}
 use mathlib.Core.Bool.{cond}
 use lib.Dec.{ltb}
 use lib.ListN.{length, getD, replicate}
-use Rattle.context.specs.declared.Gate.the-variants as gate
 use Rattle.ops.specs.Ops.{Reading, ops, refused, readText, kindsOf, operandsOf}
 use Rattle.ops.specs.Numbers.{opsErrorNumbered}
 use Rattle.vm.specs.declared.State.{State}
 use Rattle.vm.specs.declared.Answer.{Answer}
 use Rattle.vm.specs.declared.Answer.the-variants.{Success, Refused}
 use Rattle.vm.specs.Numbers.{answerNumbered}
-use Rattle.vm.specs.Transition.{Result, transitionOf}
+use Rattle.vm.specs.Transition.{Result, meteredOf}
 use Rattle.runops.specs.declared.report.Report.{Report}
 
 -- all but the first 0 on refusal
@@ -46,7 +45,7 @@ none = record { used = 0 }
 
 -- a metered run with limit 1,000, caller 7
 unfoldable pub ran : (kinds operands : List ℕ) → Result
-ran kinds operands = transitionOf gate.Passed kinds operands 7 1000 zeros zeros zeros none
+ran kinds operands = meteredOf kinds operands 7 1000 zeros zeros zeros none
 
 abbrev pub runReport : (kinds operands : List ℕ) → Report
 runReport kinds operands = answered (ran kinds operands .answer) (ran kinds operands .stack)

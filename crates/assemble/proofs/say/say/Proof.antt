@@ -19,6 +19,9 @@ enum-known-answer c = search needs
 numbered-requires : tie.Need-numbered-requires
 numbered-requires c κs = search needs
 
+array-read-message : tie.Need-array-read-message
+array-read-message c = search needs
+
 message-requires : tie.Need-message-requires
 message-requires c κs = search needs
 
@@ -29,7 +32,7 @@ same-length : tie.Need-same-length
 same-length c = search needs
 
 returns : tie.Need-returns
-returns c = says-message _ (sized (now (c .before .before .before .before .before .before .before .before .before .before .before .before .before .before .before .before .args .contract)) (now (c .before .before .before .before .before .before .before .before .before .before .before .before .before .before .before .before .args .vector)) (now (c .before .before .before .before .before .before .before .before .before .before .before .before .before .before .before .before .args .stem)) (length (now (c .before .before .before .before .before .before .before .before .before .before .before .before .before .before .before .before .args .out)))) _ _ _ (c .before .before .before .before .before .before .before .before .before .before .assemble .ensures) _ (c .before .before .before .before .before .before .answer .given .1) _ _ _ _ (c .before .before .before .before .before .before .before .before .before .before .before .before .before .before .before .before .pre) (omega arith) (omega arith) (ap (λ (n : Numbered). n .number) (c .before .before .before .before .numbered .ensures)) (ap (λ (n : Numbered). getD (n .words) 0 0) (c .before .before .before .before .numbered .ensures)) (c .before .before .message .ensures)
+returns c = says-message _ (sized (now (c .before .before .before .before .before .before .before .before .before .before .before .before .before .before .before .before .before .args .contract)) (now (c .before .before .before .before .before .before .before .before .before .before .before .before .before .before .before .before .before .args .vector)) (now (c .before .before .before .before .before .before .before .before .before .before .before .before .before .before .before .before .before .args .stem)) (length (now (c .before .before .before .before .before .before .before .before .before .before .before .before .before .before .before .before .before .args .out)))) _ _ _ (c .before .before .before .before .before .before .before .before .before .before .before .assemble .ensures) _ (c .before .before .before .before .before .before .before .answer .given .1) _ _ _ _ (c .before .before .before .before .before .before .before .before .before .before .before .before .before .before .before .before .before .pre) (omega arith) (omega arith) (ap (λ (n : Numbered). n .number) (c .before .before .before .before .before .numbered .ensures)) (ap (λ (n : Numbered). getD (n .words) 0 0) (c .before .before .before .before .before .numbered .ensures)) (c .before .before .message .ensures)
 
 same-length-2 : tie.Need-same-length-2
 same-length-2 c = search needs
@@ -44,6 +47,7 @@ say-spec =
     assemble-requires
     enum-known-answer
     numbered-requires
+    array-read-message
     message-requires
     enum-known-answer-2
     same-length
