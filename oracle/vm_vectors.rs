@@ -533,7 +533,8 @@ fn main() {
         let added = document.lines().filter(|l| l.starts_with(&format!("d{call}"))).count();
         counts += &format!("{name}: {} of the original, {added} of document 01\n", c.calls[&call]);
     }
-    counts += "0 differ\n";
+    let wrong = document.lines().filter(|l| l.starts_with('w')).count();
+    counts += &format!("{wrong} of {wrong} wrong on purpose differ\n0 differ\n");
     let text = format!("# Answers of the original.\n{}{document}", c.lines);
     std::fs::write(format!("{folder}/stdin"), text).unwrap();
     std::fs::write(format!("{folder}/stdout"), &counts).unwrap();

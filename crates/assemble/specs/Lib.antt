@@ -1,2 +1,2 @@
-pub mod Held
-pub mod Carried
+pub mod Message
+pub mod Streams

@@ -1,12 +1,14 @@
 // Assembles the contract and the vector in the two files that its arguments name. The ops text goes to standard
 // output; a refusal, and a file that can't be read, are named on standard error.
-mod files;
-mod refusals;
-mod report;
-mod words;
+ghost use Prim.Native.Nat.{_≤_};
+ghost use lib.ListN.{length};
 
-use assembly::Answer;
+mod message;
+mod report;
+mod say;
+
 use files::Contents;
+use say::Said;
 
 fn main() {
     if os::arg_count() != 3 {
@@ -43,15 +45,12 @@ fn assemble(contract: &[u8], vector: &[u8], stem: &[u8]) {
     assemble_into(contract, vector, stem, &mut out);
 }
 
-fn assemble_into(contract: &[u8], vector: &[u8], stem: &[u8], out: &mut [u8; 1048576]) {
-    let answer = assembly::assemble(contract, vector, stem, out);
-    match answer {
-        Answer::Refused(why) => report::refused(why),
-        Answer::Success {
-            written,
-            k: _,
-            p: _,
-            value: _,
-        } => report::text(out, written),
+fn assemble_into(contract: &[u8], vector: &[u8], stem: &[u8], out: &mut [u8])
+    requires { ⌜ 128 ≤ length (now out) ⌝ }
+{
+    let said = say::say(contract, vector, stem, out);
+    match said {
+        Said::Text(n) => report::text(&out[..n]),
+        Said::Message(n) => report::refused(&out[..n]),
     }
 }

@@ -1,4 +1,12 @@
-// What a run gives, as document 01's two lines: the names, then the numbers.
+// What the program prints of a text.
+ghost use Prim.Native.Nat.{_≤_};
+ghost use mathlib.Core.Path.{_≡_};
+ghost use lib.ListN.{length};
+ghost use Rattle.runops.specs.Report.{refusedWith, topOf, runReport, reportOf};
+use ops::ParsedOps;
+use vm::Answer;
+use vm::State;
+
 pub struct Report {
     pub refusal: u64,
     pub gas_spent: u64,
@@ -8,9 +16,66 @@ pub struct Report {
     pub slots: u64,
 }
 
-pub fn refused(refusal: u64) -> Report {
+pub fn of_text(text: &[u8]) -> Report
+    ensures { λ r. ⌜ r ≡ reportOf (now (text .entry)) ⌝ }
+{
+    if text.len() > 65536 {
+        return refused(27);
+    }
+    let mut kinds = [0u8; 4096];
+    let mut operands = [0u64; 4096];
+    let parsed = ops::parse_ops(text, &mut kinds, &mut operands);
+    match parsed {
+        ParsedOps::Refused(e) => {
+            let why = e.numbered();
+            refused(why.number)
+        }
+        ParsedOps::Read(n) => of_run(&kinds[..n], &operands[..n]),
+    }
+}
+
+fn of_run(kinds: &[u8], operands: &[u64]) -> Report
+    ensures { λ r. ⌜ r ≡ runReport (now (kinds .entry)) (now (operands .entry)) ⌝ }
+{
+    let mut stack = [0u64; 4096];
+    let mut work = [0u64; 4096];
+    let mut storage = [0u64; 4096];
+    let answer = vm::run_with_gas(
+        kinds,
+        operands,
+        7,
+        1000,
+        &mut stack,
+        &mut work,
+        &mut storage,
+        State { used: 0 },
+    );
+    match answer {
+        Answer::Refused(f) => {
+            let why = f.numbered();
+            refused(why.number)
+        }
+        Answer::Success {
+            gas_spent,
+            operations,
+            items,
+            state,
+        } => Report {
+            refusal: 0,
+            gas_spent,
+            operations,
+            items: items as u64,
+            top: top(&stack, items),
+            slots: state.used as u64,
+        },
+    }
+}
+
+fn refused(number: u64) -> Report
+    ensures { λ r. ⌜ r ≡ refusedWith number ⌝ }
+{
     Report {
-        refusal,
+        refusal: number,
         gas_spent: 0,
         operations: 0,
         items: 0,
@@ -19,18 +84,13 @@ pub fn refused(refusal: u64) -> Report {
     }
 }
 
-pub fn print(r: Report) {
-    io::write_all(1, b"refusal gas_spent operations items top slots\n");
-    io::print_decimal(1, r.refusal);
-    spaced(r.gas_spent);
-    spaced(r.operations);
-    spaced(r.items);
-    spaced(r.top);
-    spaced(r.slots);
-    io::write_all(1, b"\n");
-}
-
-fn spaced(n: u64) {
-    io::write_all(1, b" ");
-    io::print_decimal(1, n);
+// The last of the items, or 0 where there is none.
+fn top(stack: &[u64], items: usize) -> u64
+    requires { ⌜ items ≤ length (now stack) ⌝ }
+    ensures { λ r. ⌜ r ≡ topOf (now (stack .entry)) items ⌝ }
+{
+    if items == 0 {
+        return 0;
+    }
+    stack[items - 1]
 }

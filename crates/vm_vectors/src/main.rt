@@ -1,7 +1,8 @@
 // Replays answers of the original's verifier, machine and transitions, and document 01's own where the original can't be asked.
-// Written are the lines where library and file differ, and how many cases each call has. A line of standard input that starts
+// Written are the lines where library and file differ, and how many cases each call has. A case that is wrong in one entry on
+// purpose must differ; it is counted, and not named. A line of standard input that starts
 // with `#` is a remark; any other is a case. Its parts end in `/`; numbers have a space between them, `n*v` being n times v:
-//   0  who answers (`o` the original, `d` document 01) and the call: `v` verify, `r` run_with_gas, `g`
+//   0  who answers (`o` the original, `d` document 01, `w` wrong on purpose) and the call: `v` verify, `r` run_with_gas, `g`
 //      execute_state_transition_with_gas, `s` execute_state_transition
 //   1  a transition's chain id, network, genesis id, protocol, VM version, computed genesis id, expected protocol and expected
 //      VM version, with a comma between them
@@ -46,7 +47,7 @@ fn replay(
     storage: &mut [u64],
     numbers: &mut [u64],
 ) {
-    let mut counts = [0u64; 10];
+    let mut counts = [0u64; 12];
     let mut at: usize = 0;
     while at < input.len() {
         let step = lines::line_at(input, at);

@@ -1,10 +1,14 @@
-// Counts: 0 to 3 hold the cases of each call that the original answers, 4 to 7 those that document 01 answers, 8 the lines
-// and 9 those that differ.
+// Counts: 0 to 3 hold the cases of each call that the original answers, 4 to 7 those that document 01 answers, 8 the lines,
+// 9 those that differ, 10 those that are wrong on purpose, and 11 those of them that differ.
 use super::calls;
 
 const LINES: usize = 8;
 
 const DIFFERENT: usize = 9;
+
+const WRONG: usize = 10;
+
+const CAUGHT: usize = 11;
 
 // One more line, which is named where it differs or is neither a remark nor a case.
 pub fn line(counts: &mut [u64], line: &[u8], agrees: bool) {
@@ -14,6 +18,12 @@ pub fn line(counts: &mut [u64], line: &[u8], agrees: bool) {
     }
     let place = place(line);
     add(counts, place);
+    if place == WRONG {
+        if !agrees {
+            add(counts, CAUGHT);
+        }
+        return;
+    }
     if !byte::both(agrees, place < LINES) {
         add(counts, DIFFERENT);
         io::write_all(1, b"line ");
@@ -27,6 +37,7 @@ fn place(line: &[u8]) -> usize {
     match calls::letter(line, 0) {
         b'o' => call,
         b'd' => document_place(call),
+        b'w' => WRONG,
         _ => LINES,
     }
 }
@@ -66,6 +77,10 @@ pub fn print(counts: &[u64]) {
     call(counts, b"run_with_gas", 1, 5);
     call(counts, b"execute_state_transition_with_gas", 2, 6);
     call(counts, b"execute_state_transition", 3, 7);
+    io::print_decimal(1, entry(counts, CAUGHT));
+    io::write_all(1, b" of ");
+    io::print_decimal(1, entry(counts, WRONG));
+    io::write_all(1, b" wrong on purpose differ\n");
     io::print_decimal(1, entry(counts, DIFFERENT));
     io::write_all(1, b" differ\n");
 }

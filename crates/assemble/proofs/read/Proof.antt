@@ -1,18 +1,9 @@
 -- `assemble::read` is safe: what was read of each file lies within its buffer.
 -- Assumes nothing.
-use Prim.Native.Nat.{ℕ}
-use mathlib.Core.Path.{_≡_, subst}
-use mathlib.Core.List.{List}
-use Rattle.io.specs.Counts.{Counts}
-use Rattle.assemble.specs.declared.files.Contents.{Contents}
-use Rattle.assemble.specs.declared.files.Contents.the-variants.{Read}
-use Rattle.assemble.specs.Held.{Held}
+use Rattle.files.proofs.Counted.{counted}
 use borrow.Author.Needs.{needs}
 use Rattle.assemble.proofs.read.Statement.{statement}
 use Rattle.assemble.proofs.read.Tie as tie
-
-counted : (s : List ℕ) (n : ℕ) (r : Contents) → Held r s → r ≡ Read n → Counts n s
-counted s n r h e = subst (λ (x : Contents). Held x s) e h
 
 slice-aggregate-read : tie.Need-slice-aggregate-read
 slice-aggregate-read c = search needs

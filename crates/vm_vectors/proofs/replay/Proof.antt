@@ -13,7 +13,7 @@ use Rattle.vm_vectors.proofs.replay.Tie as tie
 
 abbrev Inv-loop : tie.InvT-loop
 Inv-loop input kinds₀ operands₀ stack₀ work₀ storage₀ numbers₀ counts₀ at₀ kinds operands stack work storage numbers counts at =
-    (length kinds ≡ length kinds₀) × (length operands ≡ length operands₀) × (length stack ≡ length stack₀) × (length work ≡ length work₀) × (length storage ≡ length storage₀) × (length numbers ≡ length numbers₀) × (10 ≡ length counts)
+    (length kinds ≡ length kinds₀) × (length operands ≡ length operands₀) × (length stack ≡ length stack₀) × (length work ≡ length work₀) × (length storage ≡ length storage₀) × (length numbers ≡ length numbers₀) × (12 ≡ length counts)
 
 abbrev μ-loop : tie.MeasureT-loop
 μ-loop input kinds₀ operands₀ stack₀ work₀ storage₀ numbers₀ counts₀ at₀ kinds operands stack work storage numbers counts at =

@@ -1,0 +1,3 @@
+pub mod Running
+pub mod Reading
+mod Examples

@@ -1,0 +1,63 @@
+-- What is reported of a run, from what the run ensures.
+use Prim.Native.Nat.{ℕ, zero, suc, _-_, _≤_}
+use native.Mathlib.Omega.{arith}
+use mathlib.Core.Path.{_≡_, refl, sym, ap, _∙_}
+use mathlib.Core.List.{List, [], _∷_}
+use lib.ListN.{length, getD, replicate, length-append}
+use Rattle.machine.specs.declared.Refusal.{Refusal}
+use Rattle.machine.specs.Operation.{decode}
+use Rattle.machine.specs.Machine.{Outcome, next, done, stop, whole}
+use Rattle.vm.specs.declared.State.{State}
+use Rattle.vm.specs.declared.Check.{Check}
+use Rattle.vm.specs.declared.Check.the-variants as check
+use Rattle.vm.specs.declared.Answer.{Answer}
+use Rattle.vm.specs.declared.Answer.the-variants.{Success, Refused}
+use Rattle.vm.specs.Numbers.{answerNumbered}
+use Rattle.vm.specs.Transition.{up, untouched, ofRun, afterCheck, checksOf, meteredOf}
+use Rattle.runops.specs.declared.report.Report.{Report}
+use Rattle.runops.specs.Report.{refusedWith, topOf, answered, zeros, none, ran, runReport}
+
+length-up : (s : List ℕ) → length (up s) ≡ length s
+unfolding up
+length-up [] = refl
+length-up (x ∷ s) = let h = length-up s in omega (arith, length-append (up s) (x ∷ []))
+
+-- a run's answer and its stack
+pub record Ran (ks vs : List ℕ) (a : Answer) (s : List ℕ) : Type 0 where
+  pub answer : a ≡ ran ks vs .answer
+  pub stack : s ≡ ran ks vs .stack
+
+pub made : (ks vs s : List ℕ) (a : Answer) → a ≡ meteredOf ks vs 7 1000 zeros zeros zeros none .answer → s ≡ meteredOf ks vs 7 1000 zeros zeros zeros none .stack → Ran ks vs a s
+unfolding ran
+made ks vs s a h k = record { answer = h; stack = k }
+
+-- the items lie within the stack buffer
+pub items-fit : (ks vs s : List ℕ) (a : Answer) (spent operations items : ℕ) (after : State) → Ran ks vs a s → a ≡ Success spent operations items after → items ≤ length s
+unfolding ran
+items-fit ks vs s a spent operations items after r e =
+    go (checksOf check.Passed ks vs zeros zeros zeros 0) (whole (decode ks vs) 7 4096 1000 []) (sym (r .answer) ∙ e) (r .stack)
+  where
+    not-success : {A : Type 0} (f : Refusal) → Refused f ≡ Success spent operations items after → A
+    not-success f e = let z : _≡_ {A = ℕ} 0 1 = cc in absurd (omega arith)
+
+    go : (x : Check) (o : Outcome) → afterCheck x (λ f. untouched f none zeros zeros zeros) (ofRun 1000 none 4096 zeros o) .answer ≡ Success spent operations items after
+        → s ≡ afterCheck x (λ f. untouched f none zeros zeros zeros) (ofRun 1000 none 4096 zeros o) .stack → items ≤ length s
+    go (check.Refused f) o e k = not-success f e
+    go check.Passed (next h fr) e k = not-success _ e
+    go check.Passed (stop f) e k = not-success f e
+    go check.Passed (done h fr) e k =
+        let n : length (fr .stack) ≡ items = cc in
+        omega (arith, ap length k, length-append (up (fr .stack)) (replicate (4096 - length (fr .stack)) 0), length-up (fr .stack))
+
+pub refused-run : (ks vs s : List ℕ) (a : Answer) (f : Refusal) (n : ℕ) (r : Report) → Ran ks vs a s → a ≡ Refused f → n ≡ answerNumbered (Refused f) .number → r ≡ refusedWith n → r ≡ runReport ks vs
+refused-run ks vs s a f n r h e k l = l ∙ ap refusedWith k ∙ ap (λ (x : Answer). answered x (ran ks vs .stack)) (sym e ∙ h .answer)
+
+pub successful-run : (ks vs s : List ℕ) (a : Answer) (spent operations items top : ℕ) (after : State) → Ran ks vs a s → a ≡ Success spent operations items after → top ≡ topOf s items
+    → record { refusal = 0; «gas_spent» = spent; operations = operations; items = items; top = top; slots = after .used } ≡ runReport ks vs
+successful-run ks vs s a spent operations items top after h e k =
+    ap (λ (t : ℕ). record { refusal = 0; «gas_spent» = spent; operations = operations; items = items; top = t; slots = after .used }) (k ∙ ap (λ (l : List ℕ). topOf l items) (h .stack))
+    ∙ ap (λ (x : Answer). answered x (ran ks vs .stack)) (sym e ∙ h .answer)
+
+pub top-item : (s : List ℕ) (items : ℕ) → (items ≡ 0 → ⊥) → getD s (items - 1) 0 ≡ topOf s items
+top-item s zero n = absurd (n refl)
+top-item s (suc below) n = let e : suc below - 1 ≡ below = omega arith in ap (λ (i : ℕ). getD s i 0) e

@@ -1,0 +1,59 @@
+-- Program `runops` of document 01: what it prints of a text.
+use Prim.Native.Nat.{ℕ, zero, suc}
+use mathlib.Core.List.{List}
+use mathlib.Core.Bool.{cond}
+use lib.Dec.{ltb}
+use lib.ListN.{length, getD, replicate}
+use Rattle.ops.specs.Ops.{Reading, ops, refused, readText, kindsOf, operandsOf}
+use Rattle.ops.specs.Numbers.{opsErrorNumbered}
+use Rattle.vm.specs.declared.State.{State}
+use Rattle.vm.specs.declared.Answer.{Answer}
+use Rattle.vm.specs.declared.Answer.the-variants.{Success, Refused}
+use Rattle.vm.specs.Numbers.{answerNumbered}
+use Rattle.vm.specs.Transition.{Result, meteredOf}
+use Rattle.runops.specs.declared.report.Report.{Report}
+
+-- all but the first 0 on refusal
+abbrev pub refusedWith : ℕ → Report
+refusedWith n = record { refusal = n; «gas_spent» = 0; operations = 0; items = 0; top = 0; slots = 0 }
+
+-- top 0 if no item
+abbrev pub topOf : List ℕ → ℕ → ℕ
+topOf stack zero = 0
+topOf stack (suc below) = getD stack below 0
+
+-- slots is the used length
+abbrev pub answered : Answer → List ℕ → Report
+answered (Success spent operations items state) stack =
+    record {
+      refusal = answerNumbered (Success spent operations items state) .number;
+      «gas_spent» = spent;
+      operations = operations;
+      items = items;
+      top = topOf stack items;
+      slots = state .used;
+    }
+answered (Refused f) stack = refusedWith (answerNumbered (Refused f) .number)
+
+-- all buffers 4,096 long
+abbrev pub zeros : List ℕ
+zeros = replicate 4096 0
+
+-- no storage used
+abbrev pub none : State
+none = record { used = 0 }
+
+-- a metered run with limit 1,000, caller 7
+unfoldable pub ran : (kinds operands : List ℕ) → Result
+ran kinds operands = meteredOf kinds operands 7 1000 zeros zeros zeros none
+
+abbrev pub runReport : (kinds operands : List ℕ) → Report
+runReport kinds operands = answered (ran kinds operands .answer) (ran kinds operands .stack)
+
+abbrev pub readingReport : Reading → Report
+readingReport (ops os) = runReport (kindsOf os) (operandsOf os)
+readingReport (refused e) = refusedWith (opsErrorNumbered e .number)
+
+-- over 65,536 bytes prints 27
+abbrev pub reportOf : List ℕ → Report
+reportOf text = cond (ltb 65536 (length text)) (refusedWith 27) (readingReport (readText text 4096))
