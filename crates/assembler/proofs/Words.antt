@@ -5,13 +5,12 @@ use mathlib.Core.List.{List, [], _∷_}
 use mathlib.Core.Bool.{Bool, true, false, cond}
 use mathlib.Core.Option.{Option, some, none}
 use native.Mathlib.Omega.{arith}
-use Rattle.word.specs.Apply.{Binary}
-use Rattle.word.specs.Apply as Apply
 use Rattle.number.proofs.Decimal.{length-word}
-use Rattle.expression.specs.Tree.{Tree, num, bin, kOf, lineOf, lenOf}
+use Rattle.expression.specs.Tree.{Tree, num, bin, kOf, lenOf}
 use Rattle.expression.specs.Parse.{Env, sameText, lookup, meaning, tree}
 use Rattle.expression.specs.Grammar.{Derives, number, name, parentheses, alone, join}
 use Rattle.expression.proofs.Grammar.{grammar}
+use Rattle.expression.proofs.Reading.{line-most}
 
 abbrev pub Words : Tree → Type 0
 Words (num n) = n < 2 ^ 64
@@ -44,14 +43,6 @@ pub meaning-words : (env : Env) (s : List ℕ) (t : Tree) → WordsIn env → me
 meaning-words env s t h e = derives-words h (grammar env s t .0 e .1 .1)
 
 -- the text of a tree is bounded by its k
-line-short : (op : Binary) → lineOf op ≤ 4
-line-short Apply.add = omega arith
-line-short Apply.sub = omega arith
-line-short Apply.mul = omega arith
-line-short Apply.div = omega arith
-line-short Apply.eq = omega arith
-line-short Apply.lt = omega arith
-
 pub words-short : (t : Tree) → Words t → lenOf t + 4 ≤ 30 * kOf t
 words-short (num n) w = omega (arith, length-word n w)
-words-short (bin op l r) w = omega (arith, line-short op, words-short l (w .0), words-short r (w .1))
+words-short (bin op l r) w = omega (arith, line-most op, words-short l (w .0), words-short r (w .1))

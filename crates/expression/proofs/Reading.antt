@@ -31,7 +31,7 @@ pub small : {s : List ℕ} {at : ℕ} {v : Read} → length s ≤ 65536 → Plac
 small {s} {at} {v} h p = record { k = omega (arith, p .k, p .within); p = omega (arith, p .p, p .within); len = omega (arith, p .len, p .within) }
 
 -- an operator's line has at most 4 bytes
-line-most : (op : Binary) → lineOf op ≤ 4
+pub line-most : (op : Binary) → lineOf op ≤ 4
 line-most add = omega arith
 line-most sub = omega arith
 line-most mul = omega arith
