@@ -2,11 +2,10 @@
 ghost use mathlib.Core.Path.{_≡_};
 ghost use lib.ListN.{length};
 ghost use Rattle.context.specs.Gate.{gateOf, gateNumbered};
-ghost use Rattle.context.specs.declared.Gate.the-variants as gate;
 ghost use Rattle.assembler.specs.Output.{assembled};
 ghost use Rattle.vm.specs.Verify.{verifyOf};
 ghost use Rattle.vm.specs.Numbers.{checkNumbered};
-ghost use Rattle.vm.specs.Transition.{transitionOf};
+ghost use Rattle.vm.specs.Transition.{meteredOf, transitionOf};
 ghost use Rattle.atc_vm.specs.Words.{Tells};
 ghost use Rattle.atc_vm.specs.Calls.{Assembled, Read, Ran, placeNumbered};
 use lines::Step;
@@ -122,7 +121,7 @@ pub extern "C" fn atc_run_with_gas(
     used: u64,
     answer: &mut [u64; 8],
 ) -> u64
-    ensures { λ r. ⌜ Ran (transitionOf gate.Passed (now (kinds .entry)) (now (operands .entry)) caller «gas_limit» (now (stack .entry)) (now (work .entry)) (now (storage .entry)) (record { used = used })) (now (stack .exit)) (now (work .exit)) (now (storage .exit)) (now (answer .exit)) r ⌝ }
+    ensures { λ r. ⌜ Ran (meteredOf (now (kinds .entry)) (now (operands .entry)) caller «gas_limit» (now (stack .entry)) (now (work .entry)) (now (storage .entry)) (record { used = used })) (now (stack .exit)) (now (work .exit)) (now (storage .exit)) (now (answer .exit)) r ⌝ }
 {
     let state = State {
         used: used as usize,

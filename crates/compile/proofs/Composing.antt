@@ -20,10 +20,10 @@ use Rattle.assembly.specs.declared.Answer.the-variants.{Success, Refused}
 use Rattle.assembly.specs.Answers.{Assembles}
 use Rattle.compile.specs.declared.Compiled.{Compiled}
 use Rattle.compile.specs.declared.Compiled.the-variants.{NotAssembled, NotRead, Ran}
+use Rattle.compiled.proofs.Sized.{sized-as}
 use Rattle.compiled.specs.Call.{Buffers, Call, assemblyOf, readingOf, transitionOn}
 use Rattle.compile.specs.Answer.{ran}
 use Rattle.compile.specs.Compile.{thenRun, thenRead, compileOf, Composes}
-use Rattle.compile.proofs.Assembled.{sized-as}
 
 abbrev buffers : (out kinds operands stack work storage : List ℕ) → Buffers
 buffers out kinds operands stack work storage = record { out = out; kinds = kinds; operands = operands; stack = stack; work = work; storage = storage }
@@ -49,7 +49,7 @@ module _ (x : Call) where
         record {
           answer = a .answer;
           buffer = a .buffer;
-          text = ap (take n) (a .buffer) ∙ take-at text (drop (length text) (x .lent .out)) n (sized-as (x .contract) (x .vector) (x .stem) (x .lent .out) (a .answer));
+          text = ap (take n) (a .buffer) ∙ take-at text (drop (length text) (x .lent .out)) n (sized-as (x .contract) (x .vector) (x .stem) (length (x .lent .out)) (a .answer));
         }
 
     pub not-assembled : {r : assembly.Answer} {why : Refusal} → Assembles (assemblyOf x) (x .lent .out) o r → r ≡ Refused why
@@ -57,7 +57,7 @@ module _ (x : Call) where
     unfolding compileOf
     not-assembled {r} {why} b e =
         let a = subst (λ (z : assembly.Answer). Assembles (assemblyOf x) (x .lent .out) o z) e b in
-        let kept : o ≡ x .lent .out = a .buffer ∙ ap (λ (l : List ℕ). onto l (x .lent .out)) (sized-as (x .contract) (x .vector) (x .stem) (x .lent .out) (a .answer)) in
+        let kept : o ≡ x .lent .out = a .buffer ∙ ap (λ (l : List ℕ). onto l (x .lent .out)) (sized-as (x .contract) (x .vector) (x .stem) (length (x .lent .out)) (a .answer)) in
         subst (λ (z : Output.Answer). Composes (thenRead x z) (NotAssembled why) (buffers o (x .lent .kinds) (x .lent .operands) (x .lent .stack) (x .lent .work) (x .lent .storage))) (a .answer)
         (record { answer = refl; number = refl; out = kept; kinds = refl; operands = refl; stack = refl; work = refl; storage = refl })
 
@@ -77,10 +77,10 @@ module _ (x : Call) where
         stopped (ops os) r = absurd (let z : _≡_ {A = ℕ} 0 1 = cc (r .answer) in omega arith)
         stopped (refused e) r = record { answer = cc (r .answer); number = cc (r .answer); out = a .buffer; kinds = r .kinds; operands = r .operands; stack = refl; work = refl; storage = refl }
 
-        finished : {s w m : List ℕ} {j : ℕ} {t : Answer} (y : Reading) → Reads y (parsed.Read j) ks vs → Meets (transitionOn x ks vs) t s w m → Composes (thenRun x n k p v y) (Ran n k p v j t) (buffers o ks vs s w m)
+        finished : {s w m : List ℕ} {j : ℕ} {t : Answer} (y : Reading) → Reads y (parsed.Read j) ks vs → Meets (transitionOn x ks vs) (x .state) t s w m → Composes (thenRun x n k p v y) (Ran n k p v j t) (buffers o ks vs s w m)
         finished (refused e) r q = absurd (let z : _≡_ {A = ℕ} 0 1 = cc (r .answer) in omega arith)
         finished {s} {w} {m} {j} {t} (ops os) r q =
-            let u = subst (λ (l : List ℕ). Meets (transitionOn x l (onto (operandsOf os) (x .lent .operands))) t s w m) (r .kinds) (subst (λ (l : List ℕ). Meets (transitionOn x ks l) t s w m) (r .operands) q) in
+            let u = subst (λ (l : List ℕ). Meets (transitionOn x l (onto (operandsOf os) (x .lent .operands))) (x .state) t s w m) (r .kinds) (subst (λ (l : List ℕ). Meets (transitionOn x ks l) (x .state) t s w m) (r .operands) q) in
             let j-is : j ≡ length os = cc (r .answer) in
             record {
               answer = ap (λ (i : ℕ). ran n k p v i t) j-is ∙ ap (ran n k p v (length os)) (u .answer);
@@ -97,6 +97,6 @@ module _ (x : Call) where
             → Composes (compileOf x) (NotRead e) (buffers o ks vs (x .lent .stack) (x .lent .work) (x .lent .storage))
         not-read q e = follows (stopped (readingOf x) (reads q e))
 
-        pub has-run : {r : ParsedOps} {j : ℕ} {t : Answer} {s w m : List ℕ} → Parsed (take n o) (x .lent .kinds) (x .lent .operands) ks vs r → r ≡ parsed.Read j → Meets (transitionOn x ks vs) t s w m
+        pub has-run : {r : ParsedOps} {j : ℕ} {t : Answer} {s w m : List ℕ} → Parsed (take n o) (x .lent .kinds) (x .lent .operands) ks vs r → r ≡ parsed.Read j → Meets (transitionOn x ks vs) (x .state) t s w m
             → Composes (compileOf x) (Ran n k p v j t) (buffers o ks vs s w m)
         has-run q e t = follows (finished (readingOf x) (reads q e) t)

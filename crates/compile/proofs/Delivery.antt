@@ -3,7 +3,6 @@ use Prim.Native.Nat.{ℕ, _*_}
 use native.Mathlib.Omega.{arith}
 use mathlib.Core.Path.{_≡_, sym, ap, subst, _∙_}
 use lib.ListN.{length}
-use Rattle.ops.specs.declared.ParsedOps.{ParsedOps}
 use Rattle.ops.specs.declared.ParsedOps.the-variants.{Read}
 use Rattle.ops.specs.Ops.{Reading, ops, refused, answerOf, opsOf}
 use Rattle.vm.specs.declared.Answer.{Answer}

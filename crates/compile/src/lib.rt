@@ -1,8 +1,11 @@
 // A contract compiled and run: assembly, reading and transition in a row.
+ghost use mathlib.Core.Path.{_≡_};
 ghost use Rattle.context.specs.Gate.{gateOf};
+ghost use Rattle.compile.specs.Numbers.{compiledNumbered};
 ghost use Rattle.compile.specs.Compile.{compileOf, Composes};
 ghost use Rattle.compile.specs.Delivery.{Delivers};
 use assembler::refusal::Refusal;
+use numbered::Numbered;
 use ops::OpsError;
 use ops::ParsedOps;
 use vm::State;
@@ -19,6 +22,26 @@ pub enum Compiled {
         operations: usize,
         answer: vm::Answer,
     },
+}
+
+// The number is that of the call that ends it.
+impl Compiled {
+    pub fn numbered(self) -> Numbered
+        ensures { λ r. ⌜ r ≡ compiledNumbered self ⌝ }
+    {
+        match self {
+            Compiled::NotAssembled(why) => why.numbered(),
+            Compiled::NotRead(e) => e.numbered(),
+            Compiled::Ran {
+                written,
+                k,
+                p,
+                value,
+                operations,
+                answer,
+            } => answer.numbered(),
+        }
+    }
 }
 
 // Reading takes exactly the bytes written, the transition all of both program buffers.

@@ -8,4 +8,6 @@ pub mod Reading
 pub mod Transition
 pub mod CompileStatement
 pub mod Told
+pub mod Refusals
+pub mod Sized
 pub mod Examples

@@ -19,6 +19,7 @@ use Rattle.ops.specs.Numbers.{parsedOpsNumbered}
 use Rattle.vm.specs.Numbers.{answerNumbered}
 use Rattle.vm.specs.declared.Check.{Check}
 use Rattle.vm.specs.declared.Check.the-variants as check
+use Rattle.vm.specs.Verify.{gateCheck}
 use Rattle.vm.specs.Transition.{Result, untouched, ofRun, afterCheck, checksOf}
 use Rattle.vm.specs.declared.Answer.{Answer}
 use Rattle.vm.specs.declared.Answer.the-variants.{Success, Refused}
@@ -118,7 +119,7 @@ module _ (x : Call) (ks vs : List ℕ) where
 
   pub used-told : result .state .used ≡ usedAfter (answerNumbered (result .answer)) (x .state .used)
   used-told =
-      go (checksOf (x .context) ks vs (x .lent .stack) (x .lent .work) (x .lent .storage) (x .state .used))
+      go (checksOf (gateCheck (x .context)) ks vs (x .lent .stack) (x .lent .work) (x .lent .storage) (x .state .used))
       (whole (decode ks vs) (x .caller) (length (x .lent .storage)) (x .limit) (take (x .state .used) (x .lent .storage)))
     where
       after : Check → Outcome → Result

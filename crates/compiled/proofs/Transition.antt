@@ -39,5 +39,5 @@ module _ (t : Tree) where
         let ks = kindsOf (operationsOf t) in
         let vs = operandsOf (operationsOf t) in
         let fit : buffersFit (length ks) (length vs) (length s) (length w) (length m) (state .used) ≡ true = rw (kinds-length, operands-length) b in
-        let passes : checksOf gate.Passed ks vs s w m (state .used) ≡ Passed = rw fit (verifies h k (state .used) u) in
+        let passes : checksOf Passed ks vs s w m (state .used) ≡ Passed = rw fit (verifies h k (state .used) u) in
         rw (passes, decoded-program t) (compiled t v e caller g s m state (lent ks vs s w m (state .used) fit .within))

@@ -10,16 +10,19 @@ use Rattle.vm.specs.Transition.{up}
 use Rattle.assembler.specs.State.{each}
 use Rattle.assembler.specs.Assembled.{assembledTree}
 use Rattle.assembler.specs.Output.{output, assembled}
+use Rattle.compile.specs.Compile.{compileOf}
 use Rattle.examples.specs.Runs.{ran}
 use Rattle.examples.specs.Bench.{Bench}
 
 pub bench : Bench
-unfolding ran decode runOf whole operationsCheck up assembled output decimal assembledTree each meaning parseF scan
+unfolding ran compileOf decode runOf whole operationsCheck up assembled output decimal assembledTree each meaning parseF scan
 bench = record {
   e1 = refl;
   e1-text = refl;
   e1-run = refl;
   e1-stack = refl;
+  e1-compiled = refl;
+  e1-item = refl;
   e2 = refl;
   e3-price = refl;
   e3-items = refl;

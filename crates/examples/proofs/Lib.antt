@@ -1,3 +1,4 @@
 pub mod Bench
 pub mod Reading
 pub mod Assembling
+pub mod Compiling

@@ -5,12 +5,11 @@ use mathlib.Core.Path.{_≡_, refl, sym, ap, ap₂, subst, _∙_}
 use mathlib.Core.List.{List, [], _∷_}
 use lib.ListN.{length, take, drop, length-append}
 use lib.Seq.{take-at}
-use Rattle.context.specs.declared.Gate.the-variants as gate
 use Rattle.ops.specs.declared.ParsedOps.{ParsedOps}
 use Rattle.ops.specs.Ops.{Operation, Reading, ops, refused, readText, answerOf, opsOf, onto, kindsOf, operandsOf, Parsed}
 use Rattle.vm.specs.declared.Answer.{Answer}
-use Rattle.vm.specs.Transition.{transitionOf, Meets}
-use Rattle.examples.specs.Runs.{operations, countOf, ran, zeros, plainly, four, onFour, Ends, Stores, Fills}
+use Rattle.vm.specs.Transition.{meteredOf, Meets}
+use Rattle.examples.specs.Runs.{operations, countOf, ran, zeros, plainly, four, onFour, Ends, Stores, nines, Fills}
 
 pub counted : (r : Reading) → countOf (answerOf r) ≡ length (opsOf r)
 counted (ops os) = refl
@@ -55,28 +54,28 @@ front text ks vs ks′ vs′ r n m p e =
       operands = ap₂ take count atOperands ∙ operands-front os vs;
     }
 
-pub runs : (text : List ℕ) (n g : ℕ) (ks vs s w m s′ w′ m′ : List ℕ) (a : Answer) → Front text n ks vs → Meets (transitionOf gate.Passed (take n ks) (take n vs) 7 g s w m (record { used = 0 })) a s′ w′ m′ → Meets (ran text g s w m) a s′ w′ m′
+pub runs : (text : List ℕ) (n g : ℕ) (ks vs s w m s′ w′ m′ : List ℕ) (a : Answer) → Front text n ks vs → Meets (meteredOf (take n ks) (take n vs) 7 g s w m (record { used = 0 })) (record { used = 0 }) a s′ w′ m′ → Meets (ran text g s w m) (record { used = 0 }) a s′ w′ m′
 unfolding ran
 runs text n g ks vs s w m s′ w′ m′ a f h =
-    subst (λ (l : List ℕ). Meets (transitionOf gate.Passed (kindsOf (operations text)) l 7 g s w m (record { used = 0 })) a s′ w′ m′) (f .operands)
-    (subst (λ (l : List ℕ). Meets (transitionOf gate.Passed l (take n vs) 7 g s w m (record { used = 0 })) a s′ w′ m′) (f .kinds) h)
+    subst (λ (l : List ℕ). Meets (meteredOf (kindsOf (operations text)) l 7 g s w m (record { used = 0 })) (record { used = 0 }) a s′ w′ m′) (f .operands)
+    (subst (λ (l : List ℕ). Meets (meteredOf l (take n vs) 7 g s w m (record { used = 0 })) (record { used = 0 }) a s′ w′ m′) (f .kinds) h)
 
 -- runs on buffers that are known
-pub ends : (text : List ℕ) (g : ℕ) (s s′ w′ m′ : List ℕ) (a : Answer) → s ≡ zeros → Meets (ran text g s zeros zeros) a s′ w′ m′ → Ends (plainly text g) a s′
+pub ends : (text : List ℕ) (g : ℕ) (s s′ w′ m′ : List ℕ) (a : Answer) → s ≡ zeros → Meets (ran text g s zeros zeros) (record { used = 0 }) a s′ w′ m′ → Ends (plainly text g) a s′
 ends text g s s′ w′ m′ a e h =
     record {
       answer = h .answer ∙ ap (λ (l : List ℕ). ran text g l zeros zeros .answer) e;
       stack = h .stack ∙ ap (λ (l : List ℕ). ran text g l zeros zeros .stack) e;
     }
 
-pub stores : (text : List ℕ) (m s′ w′ m′ : List ℕ) (a : Answer) → m ≡ four → Meets (ran text 1000 zeros four m) a s′ w′ m′ → Stores (onFour text) a m′
+pub stores : (text : List ℕ) (m s′ w′ m′ : List ℕ) (a : Answer) → m ≡ four → Meets (ran text 1000 zeros four m) (record { used = 0 }) a s′ w′ m′ → Stores (onFour text) a m′
 stores text m s′ w′ m′ a e h =
     record {
       answer = h .answer ∙ ap (λ (l : List ℕ). ran text 1000 zeros four l .answer) e;
       storage = h .storage ∙ ap (λ (l : List ℕ). ran text 1000 zeros four l .storage) e;
     }
 
-pub fills : (text vs ks′ vs′ : List ℕ) (r : ParsedOps) → vs ≡ zeros → Parsed text zeros vs ks′ vs′ r → Fills text r vs′
-fills text vs ks′ vs′ r e h =
-    let p : Parsed text zeros zeros ks′ vs′ r = subst (λ (o : List ℕ). Parsed text zeros o ks′ vs′ r) e h in
-    record { answer = p .answer; operands = p .operandsWritten }
+pub fills : (text ks vs ks′ vs′ : List ℕ) (r : ParsedOps) → ks ≡ nines → vs ≡ zeros → Parsed text ks vs ks′ vs′ r → Fills text r ks′ vs′
+fills text ks vs ks′ vs′ r d e h =
+    let p : Parsed text nines zeros ks′ vs′ r = subst (λ (o : List ℕ). Parsed text nines o ks′ vs′ r) e (subst (λ (o : List ℕ). Parsed text o vs ks′ vs′ r) d h) in
+    record { answer = p .answer; kinds = p .kindsWritten; operands = p .operandsWritten }

@@ -10,7 +10,10 @@ use Rattle.ops.specs.Numbers.{parsedOpsNumbered}
 use Rattle.context.specs.Gate.{gateOf, gateNumbered}
 use Rattle.vm.specs.Numbers.{answerNumbered}
 use Rattle.assembler.specs.Output.{Assembly, assembled, assemblyNumbered}
-use Rattle.examples.specs.Runs.{operations, plainly, onFour}
+use Rattle.compiled.specs.Call.{Call}
+use Rattle.compile.specs.Numbers.{numbered}
+use Rattle.compile.specs.Compile.{compileOf}
+use Rattle.examples.specs.Runs.{operations, zeros, plainly, four, onFour}
 
 abbrev pub tally : List ℕ
 tally = ascii "fn total (a, b) {\n  let s = a + b\n  return s * 2\n}\n"
@@ -25,6 +28,19 @@ tallyOps = ascii "# contract: tally\n# expected: 24\nPush 5\nPush 7\nAdd\nPush 2
 abbrev pub tallyAssembled : Assembly
 tallyAssembled = assembled tally tallyVector (ascii "tally") 4096
 
+-- through the three calls in a row, by caller 7 with a limit of 7 and this stack
+abbrev pub tallyCall : List ℕ → Call
+tallyCall stack = record {
+  contract = tally;
+  vector = tallyVector;
+  stem = ascii "tally";
+  context = gateOf (ascii "atc") (ascii "devnet") (replicate 64 97) (ascii "1") (ascii "2") (replicate 64 97) (ascii "1") (ascii "2");
+  caller = 7;
+  limit = 7;
+  state = record { used = 0 };
+  lent = record { out = replicate 67 0; kinds = replicate 6 0; operands = replicate 6 0; stack = stack; work = four; storage = four };
+}
+
 abbrev pub precedence : List ℕ
 precedence = ascii "fn f () {\n  return 7 - 2 * 3\n}\n"
 
@@ -32,11 +48,13 @@ abbrev pub leftToRight : List ℕ
 leftToRight = ascii "fn f () {\n  return 8 / 2 / 2\n}\n"
 
 pub record Bench : Type 0 where
-  -- E1: this assembly, k 3, p 2; and its run with limit 1,000
+  -- E1: this assembly, k 3, p 2; its run with limit 1,000; and both through `compile`
   pub e1 : assemblyNumbered (tallyAssembled .answer) ≡ carrying 0 (67 ∷ 3 ∷ 2 ∷ 24 ∷ [])
   pub e1-text : tallyAssembled .text ≡ tallyOps
   pub e1-run : answerNumbered (plainly tallyOps 1000 .answer) ≡ carrying 0 (7 ∷ 6 ∷ 1 ∷ 0 ∷ [])
   pub e1-stack : plainly tallyOps 1000 .stack ≡ 24 ∷ replicate 4095 0
+  pub e1-compiled : numbered (compileOf (tallyCall zeros) .answer) ≡ carrying 0 (7 ∷ 6 ∷ 1 ∷ 0 ∷ [])
+  pub e1-item : compileOf (tallyCall zeros) .left .stack ≡ 24 ∷ replicate 4095 0
   -- E2: its run with gas 6 is 46, price 2, left 1
   pub e2 : answerNumbered (plainly tallyOps 6 .answer) ≡ carrying 46 (2 ∷ 1 ∷ [])
   -- E3: Div on an empty stack, gas 1 gives 46, gas 2 gives 47

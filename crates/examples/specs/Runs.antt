@@ -3,12 +3,11 @@ use Prim.Native.Nat.{ℕ}
 use mathlib.Core.Path.{_≡_}
 use mathlib.Core.List.{List}
 use lib.ListN.{replicate}
-use Rattle.context.specs.declared.Gate.the-variants as gate
 use Rattle.ops.specs.Ops.{Operation, readText, answerOf, opsOf, kindsOf, operandsOf, onto}
 use Rattle.ops.specs.declared.ParsedOps.{ParsedOps}
 use Rattle.ops.specs.declared.ParsedOps.the-variants.{Read, Refused}
 use Rattle.vm.specs.declared.Answer.{Answer}
-use Rattle.vm.specs.Transition.{Result, transitionOf}
+use Rattle.vm.specs.Transition.{Result, meteredOf}
 
 -- a text that is refused has none
 abbrev pub operations : List ℕ → List Operation
@@ -20,7 +19,7 @@ countOf (Refused e) = 0
 
 -- with this limit, stack, work and storage
 unfoldable pub ran : List ℕ → ℕ → (s w m : List ℕ) → Result
-ran text g s w m = transitionOf gate.Passed (kindsOf (operations text)) (operandsOf (operations text)) 7 g s w m (record { used = 0 })
+ran text g s w m = meteredOf (kindsOf (operations text)) (operandsOf (operations text)) 7 g s w m (record { used = 0 })
 
 abbrev pub zeros : List ℕ
 zeros = replicate 4096 0
@@ -45,7 +44,12 @@ pub record Stores (t : Result) (a : Answer) (m : List ℕ) : Type 0 where
   pub answer : a ≡ t .answer
   pub storage : m ≡ t .storage
 
--- a reading of a text into buffers of 4,096 zeros: its answer, and the operands
-pub record Fills (text : List ℕ) (r : ParsedOps) (after : List ℕ) : Type 0 where
+-- kinds that are not those read
+abbrev pub nines : List ℕ
+nines = replicate 4096 9
+
+-- a reading of a text into 4,096 such kinds and 4,096 zeros: its answer, and what it leaves in both
+pub record Fills (text : List ℕ) (r : ParsedOps) (ks vs : List ℕ) : Type 0 where
   pub answer : r ≡ answerOf (readText text 4096)
-  pub operands : after ≡ onto (operandsOf (operations text)) zeros
+  pub kinds : ks ≡ onto (kindsOf (operations text)) nines
+  pub operands : vs ≡ onto (operandsOf (operations text)) zeros

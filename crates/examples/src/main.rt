@@ -3,6 +3,7 @@
 // E1's text follows its line.
 mod assemblies;
 mod gate;
+mod in_row;
 mod readings;
 mod run;
 mod runs;
@@ -11,6 +12,7 @@ mod show;
 fn main() {
     e1();
     e1_run();
+    e1_compiled();
     run_line(b"E2", runs::tally_short());
     run_line(b"E3", runs::div_price());
     run_line(b"E3", runs::div_items());
@@ -45,6 +47,14 @@ fn e1_run() {
     io::write_all(1, b"\n");
 }
 
+fn e1_compiled() {
+    let mut stack = [0u64; 4096];
+    io::write_all(1, b"E1");
+    show::compiled(in_row::tally(&mut stack));
+    show::number(stack[0]);
+    io::write_all(1, b"\n");
+}
+
 fn e5() {
     let mut stack = [0u64; 4096];
     io::write_all(1, b"E5");
@@ -65,9 +75,11 @@ fn e6() {
 }
 
 fn e7() {
+    let mut kinds = [9u8; 4096];
     let mut operands = [0u64; 4096];
     io::write_all(1, b"E7");
-    show::reading(readings::push_plus(&mut operands));
+    show::reading(readings::push_plus(&mut kinds, &mut operands));
+    show::byte(kinds[0]);
     show::number(operands[0]);
     io::write_all(1, b"\n");
 }

@@ -27,7 +27,7 @@ pub fn on_four(text: &[u8], storage: &mut [u64; 4]) -> Answer
 }
 
 fn run(text: &[u8], limit: u64, stack: &mut [u64], work: &mut [u64], storage: &mut [u64]) -> Answer
-    ensures { λ a. ⌜ Meets (ran (now (text .entry)) limit (now (stack .entry)) (now (work .entry)) (now (storage .entry))) a (now (stack .exit)) (now (work .exit)) (now (storage .exit)) ⌝ }
+    ensures { λ a. ⌜ Meets (ran (now (text .entry)) limit (now (stack .entry)) (now (work .entry)) (now (storage .entry))) (record { used = 0 }) a (now (stack .exit)) (now (work .exit)) (now (storage .exit)) ⌝ }
 {
     let mut kinds = [0u8; 4096];
     let mut operands = [0u64; 4096];

@@ -1,4 +1,5 @@
 // Answers and entries of buffers, each number behind a space.
+use compile::Compiled;
 use context::Gate;
 use machine::Refusal;
 use ops::OpsError;
@@ -92,9 +93,24 @@ fn run_values(f: Refusal) {
     }
 }
 
+// The number and the four values of a success.
+pub fn compiled(r: Compiled) {
+    let told = r.numbered();
+    let words = told.words;
+    number(told.number);
+    number(words[0]);
+    number(words[1]);
+    number(words[2]);
+    number(words[3]);
+}
+
 pub fn gate(g: Gate) {
     let told = g.numbered();
     number(told.number);
+}
+
+pub fn byte(b: u8) {
+    number(b as u64);
 }
 
 pub fn number(n: u64) {

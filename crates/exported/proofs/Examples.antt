@@ -1,0 +1,70 @@
+-- Document 01's bench example through the three exports, with a limit of 7: what each gives, by computing, and the statement of it.
+use Prim.Native.Nat.{ℕ}
+use native.Mathlib.Omega.{arith}
+use mathlib.Core.Path.{refl}
+use mathlib.Core.List.{List, [], _∷_, _++_}
+use lib.ListN.{replicate}
+use Rattle.numbered.specs.Numbered.{carrying}
+use Rattle.number.specs.Decimal.{decimal}
+use Rattle.token.specs.Token.{scan}
+use Rattle.ops.specs.Ascii.{ascii}
+use Rattle.context.specs.Gate.{gateOf}
+use Rattle.machine.specs.Operation.{decode}
+use Rattle.machine.specs.Machine.{runOf, whole}
+use Rattle.vm.specs.Verify.{operationsCheck}
+use Rattle.vm.specs.Transition.{up}
+use Rattle.expression.specs.Parse.{parseF, meaning}
+use Rattle.assembler.specs.State.{each}
+use Rattle.assembler.specs.Assembled.{assembledTree}
+use Rattle.assembler.specs.Output.{output, assembled}
+use Rattle.compiled.specs.Call.{Call}
+use Rattle.compiled.specs.Statement.{Statement, foundIn}
+use Rattle.exported.specs.Exports.{Given, InRow, Lends}
+use Rattle.exported.proofs.ExportedStatement.{exported-statement}
+
+contract : List ℕ
+contract = ascii "fn total (a, b) {\n  let s = a + b\n  return s * 2\n}\n"
+
+vector : List ℕ
+vector = ascii "{\"a\": 5, \"b\": 7, \"expected\": 24}"
+
+abbrev text : List ℕ
+text = ascii "# contract: tally\n# expected: 24\nPush 5\nPush 7\nAdd\nPush 2\nMul\nHalt\n"
+
+abbrev genesis : List ℕ
+genesis = replicate 64 97
+
+-- by caller 7; the buffers hold what they may, and no storage is used
+abbrev tally : Call
+tally = record {
+  contract = contract;
+  vector = vector;
+  stem = ascii "tally";
+  context = gateOf (ascii "atc") (ascii "devnet") genesis (ascii "1") (ascii "1") genesis (ascii "1") (ascii "1");
+  caller = 7;
+  limit = 7;
+  state = record { used = 0 };
+  lent = record { out = replicate 70 9; kinds = replicate 6 9; operands = replicate 6 9; stack = replicate 4096 9; work = 9 ∷ []; storage = 8 ∷ [] };
+}
+
+abbrev given : Given
+given = record {
+  assembly = carrying 0 (67 ∷ 3 ∷ 2 ∷ 24 ∷ []);
+  reading = carrying 0 (6 ∷ []);
+  transition = carrying 0 (7 ∷ 6 ∷ 1 ∷ 0 ∷ []);
+  left = record { out = text ++ 9 ∷ 9 ∷ 9 ∷ []; kinds = 0 ∷ 0 ∷ 1 ∷ 0 ∷ 3 ∷ 15 ∷ []; operands = 5 ∷ 7 ∷ 0 ∷ 2 ∷ 0 ∷ 0 ∷ []; stack = 24 ∷ replicate 4095 0; work = 0 ∷ []; storage = 8 ∷ [] };
+}
+
+in-row : InRow tally 67 given
+unfolding assembled output decimal assembledTree each meaning parseF scan decode runOf whole operationsCheck up contract vector
+in-row = record {
+  assembles = record { tells = record { number = refl; words = refl }; buffer = refl };
+  reads = record { tells = record { number = refl; words = refl }; kindsWritten = refl; operandsWritten = refl };
+  runs = record { tells = record { number = refl; words = refl }; stackLeft = refl; workLeft = refl; storageLeft = refl };
+}
+
+lends : Lends tally 67 3 2 24 given
+lends = record { accepts = refl; kinds = refl; operands = refl; passes = refl; stack = omega arith; work = refl; within = omega arith; used = omega arith }
+
+stated : Statement tally 3 2 24 (foundIn (given .reading) (given .transition) 0 (given .left))
+stated = exported-statement tally 67 3 2 24 given in-row lends

@@ -1,0 +1,104 @@
+-- The compile statement of the three exports in a row.
+use Prim.Native.Nat.{ℕ, _≤_}
+use native.Mathlib.Omega.{arith}
+use mathlib.Core.Path.{_≡_, refl, sym, ap, subst, _∙_}
+use mathlib.Core.List.{List}
+use mathlib.Core.Bool.{true}
+use borrow.Author.Tests.{eq-eqb, le-leb}
+use lib.ListN.{length, take, drop}
+use lib.Seq.{take-at}
+use Rattle.numbered.specs.declared.Numbered.{Numbered}
+use Rattle.context.specs.declared.ContextError.the-variants.{InvalidChainId, InvalidNetworkId, InvalidGenesisId, ProtocolMismatch, VmMismatch, GenesisMismatch}
+use Rattle.context.specs.declared.Gate.{Gate}
+use Rattle.context.specs.declared.Gate.the-variants.{Passed, Refused}
+use Rattle.context.specs.Gate.{gateNumbered}
+use Rattle.ops.specs.Ops.{opsOf, kindsOf, operandsOf, onto}
+use Rattle.vm.specs.Numbers.{answerNumbered}
+use Rattle.vm.specs.Verify.{buffersFit}
+use Rattle.assembler.specs.Output.{success}
+use Rattle.compiled.specs.Call.{Call, assemblyOf, readingOf, transitionOn}
+use Rattle.compiled.specs.Statement.{Found, Hypotheses, Statement, foundBy, foundIn, usedAfter}
+use Rattle.compiled.proofs.CompileStatement.{compile-statement}
+use Rattle.compiled.proofs.Refusals.{accepted-told}
+use Rattle.compiled.proofs.Sized.{sized-as}
+use Rattle.compiled.proofs.Told.{used-told}
+use Rattle.atc_vm.specs.Words.{Tells}
+use Rattle.atc_vm.specs.Calls.{Read, Ran}
+use Rattle.exported.specs.Exports.{Given, InRow, Lends}
+
+-- what an export tells is a number
+tells-is : {n m : Numbered} → Tells n (m .words) (m .number) → n ≡ m
+tells-is {n} {m} t = λ i. record { number = sym (t .number) i; words = sym (t .words) i }
+
+gate-passed : (g : Gate) → gateNumbered g .number ≡ 0 → g ≡ Passed
+gate-passed Passed e = refl
+gate-passed (Refused InvalidChainId) e = absurd (omega arith)
+gate-passed (Refused InvalidNetworkId) e = absurd (omega arith)
+gate-passed (Refused InvalidGenesisId) e = absurd (omega arith)
+gate-passed (Refused ProtocolMismatch) e = absurd (omega arith)
+gate-passed (Refused VmMismatch) e = absurd (omega arith)
+gate-passed (Refused GenesisMismatch) e = absurd (omega arith)
+
+fits : (ks vs s w m used : ℕ) → ks ≡ vs → 4096 ≤ s → w ≡ m → used ≤ m → buffersFit ks vs s w m used ≡ true
+fits ks vs s w m used a b c d = rw (eq-eqb ks vs a, le-leb 4096 s b, eq-eqb w m c, le-leb used m d)
+
+module _ (x : Call) (n k p v : ℕ) (y : Given) (row : InRow x n y) (lends : Lends x n k p v y) where
+  abbrev ks : List ℕ
+  ks = y .left .kinds
+
+  abbrev vs : List ℕ
+  vs = y .left .operands
+
+  accepts : assemblyOf x .answer ≡ success n k p v
+  accepts = accepted-told (x .contract) (x .vector) (x .stem) (length (x .lent .out)) n k p v (tells-is (row .assembles .tells) ∙ lends .accepts)
+
+  hypotheses : Hypotheses x n k p v
+  hypotheses = record {
+    accepts = accepts;
+    kindsRoom = lends .kinds;
+    operandsRoom = lends .operands;
+    passes = gate-passed (x .context) (lends .passes);
+    lent = fits (length (x .lent .kinds)) (length (x .lent .operands)) (length (x .lent .stack)) (length (x .lent .work)) (length (x .lent .storage)) (x .state .used) (lends .kinds ∙ sym (lends .operands)) (lends .stack) (lends .work) (lends .within);
+    used = lends .used;
+  }
+
+  -- reading is lent exactly the text that assembly wrote
+  text-is : take n (y .left .out) ≡ assemblyOf x .text
+  text-is =
+      let text = assemblyOf x .text in
+      ap (take n) (row .assembles .buffer) ∙ take-at text (drop (length text) (x .lent .out)) n (sized-as (x .contract) (x .vector) (x .stem) (length (x .lent .out)) (sym accepts))
+
+  reads : Read (assemblyOf x .text) (x .lent .kinds) (x .lent .operands) ks vs (y .reading .words) (y .reading .number)
+  reads = subst (λ (l : List ℕ). Read l (x .lent .kinds) (x .lent .operands) ks vs (y .reading .words) (y .reading .number)) text-is (row .reads)
+
+  abbrev readKinds : List ℕ
+  readKinds = onto (kindsOf (opsOf (readingOf x))) (x .lent .kinds)
+
+  abbrev readOperands : List ℕ
+  readOperands = onto (operandsOf (opsOf (readingOf x))) (x .lent .operands)
+
+  abbrev RanOn : List ℕ → List ℕ → Type 0
+  RanOn l m = Ran (transitionOn x l m) (y .left .stack) (y .left .work) (y .left .storage) (y .transition .words) (y .transition .number)
+
+  runs : RanOn readKinds readOperands
+  runs = subst (λ (l : List ℕ). RanOn l readOperands) (reads .kindsWritten) (subst (λ (l : List ℕ). RanOn ks l) (reads .operandsWritten) (row .runs))
+
+  told : answerNumbered (transitionOn x readKinds readOperands .answer) ≡ y .transition
+  told = tells-is (runs .tells)
+
+  found : foundBy x ≡ foundIn (y .reading) (y .transition) (x .state .used) (y .left)
+  found = λ i. record {
+    reading = tells-is (reads .tells) i;
+    kinds = sym (reads .kindsWritten) i;
+    operands = sym (reads .operandsWritten) i;
+    ending = record {
+      numbered = told i;
+      used = (used-told x readKinds readOperands ∙ ap (λ (m : Numbered). usedAfter m (x .state .used)) told) i;
+      stack = sym (runs .stackLeft) i;
+      work = sym (runs .workLeft) i;
+      storage = sym (runs .storageLeft) i;
+    };
+  }
+
+  pub exported-statement : Statement x k p v (foundIn (y .reading) (y .transition) (x .state .used) (y .left))
+  exported-statement = subst (λ (z : Found). Statement x k p v z) found (compile-statement x n k p v hypotheses)

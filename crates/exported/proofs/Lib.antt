@@ -1,0 +1,2 @@
+pub mod ExportedStatement
+pub mod Examples
