@@ -84,7 +84,7 @@ module _ (x : Call) where
             let j-is : j ≡ length os = cc (r .answer) in
             record {
               answer = ap (λ (i : ℕ). ran n k p v i t) j-is ∙ ap (ran n k p v (length os)) (u .answer);
-              number = ap answerNumbered (u .answer);
+              number = u .says;
               out = a .buffer;
               kinds = r .kinds;
               operands = r .operands;
