@@ -13,7 +13,7 @@ numbered-requires : tie.Need-numbered-requires
 numbered-requires c κs = search needs
 
 returns : tie.Need-returns
-returns c = ap (λ (n : Numbered). n .number) (c .numbered .ensures ∙ ap gateNumbered (c .before .execution-gate .ensures))
+returns c = ap (λ (n : Numbered). n .number) (c .numbered .ensures ∙ ap gateNumbered (c .before .execution-gate .ensures .answer))
 
 pub atc-execution-gate-spec : {M : Type 1} → statement M
 atc-execution-gate-spec = tie.close (tie.spec execution-gate-requires numbered-requires returns)

@@ -15,7 +15,7 @@ tell-requires : tie.Need-tell-requires
 tell-requires c κs = search needs
 
 returns : tie.Need-returns
-returns c = told checkNumbered (c .before .before .before .verify .ensures) (c .before .numbered .ensures) (c .tell .ensures)
+returns c = told checkNumbered (c .before .before .before .verify .ensures .answer) (c .before .numbered .ensures) (c .tell .ensures)
 
 pub atc-verify-spec : {M : Type 1} → statement M
 atc-verify-spec = tie.close (tie.spec verify-requires numbered-requires tell-requires returns)

@@ -34,7 +34,7 @@ execution-gate-requires : tie.Need-execution-gate-requires
 execution-gate-requires c κs = search needs
 
 returns : tie.Need-returns
-returns c = ap gateNumbered (c .execution-gate .ensures) ∙ bench .e10
+returns c = ap gateNumbered (c .execution-gate .ensures .answer) ∙ bench .e10
 
 pub letters-spec : {M : Type 1} → statement M
 letters-spec =
