@@ -8,6 +8,5 @@ pub mod Reading
 pub mod Transition
 pub mod CompileStatement
 pub mod Told
-pub mod Refusals
 pub mod Sized
 pub mod Examples

@@ -2,12 +2,13 @@
 use Prim.Native.Nat.{ℕ, _≤_}
 use native.Mathlib.Omega.{arith}
 use mathlib.Core.Path.{_≡_, refl, sym, ap, subst, _∙_}
-use mathlib.Core.List.{List}
+use mathlib.Core.List.{List, [], _∷_}
 use mathlib.Core.Bool.{true}
 use borrow.Author.Tests.{eq-eqb, le-leb}
-use lib.ListN.{length, take, drop}
+use lib.ListN.{length, getD, take, drop}
 use lib.Seq.{take-at}
 use Rattle.numbered.specs.declared.Numbered.{Numbered}
+use Rattle.numbered.specs.Numbered.{carrying}
 use Rattle.context.specs.declared.ContextError.the-variants.{InvalidChainId, InvalidNetworkId, InvalidGenesisId, ProtocolMismatch, VmMismatch, GenesisMismatch}
 use Rattle.context.specs.declared.Gate.{Gate}
 use Rattle.context.specs.declared.Gate.the-variants.{Passed, Refused}
@@ -15,11 +16,11 @@ use Rattle.context.specs.Gate.{gateNumbered}
 use Rattle.ops.specs.Ops.{opsOf, kindsOf, operandsOf, onto}
 use Rattle.vm.specs.Numbers.{answerNumbered}
 use Rattle.vm.specs.Verify.{buffersFit}
-use Rattle.assembler.specs.Output.{success}
+use Rattle.assembler.specs.Output.{Answer, success, refusal, assemblyNumbered}
+use Rattle.assembly.proofs.Bounds.{Refuses, refuses}
 use Rattle.compiled.specs.Call.{Call, assemblyOf, readingOf, transitionOn}
 use Rattle.compiled.specs.Statement.{Found, Hypotheses, Statement, foundBy, foundIn, usedAfter}
 use Rattle.compiled.proofs.CompileStatement.{compile-statement}
-use Rattle.compiled.proofs.Refusals.{accepted-told}
 use Rattle.compiled.proofs.Sized.{sized-as}
 use Rattle.compiled.proofs.Told.{used-told}
 use Rattle.atc_vm.specs.Words.{Tells}
@@ -29,6 +30,17 @@ use Rattle.exported.specs.Exports.{Given, InRow, Lends}
 -- what an export tells is a number
 tells-is : {n m : Numbered} → Tells n (m .words) (m .number) → n ≡ m
 tells-is {n} {m} t = λ i. record { number = sym (t .number) i; words = sym (t .words) i }
+
+-- assembly's refusals are 1 to 26, so 0 is a success, with its four values
+success-told : (a : Answer) (n k p v : ℕ) → Refuses 26 a → assemblyNumbered a ≡ carrying 0 (n ∷ k ∷ p ∷ v ∷ []) → a ≡ success n k p v
+success-told (refusal r) n k p v h e = absurd (let z : r .number ≡ 0 = ap (λ (x : Numbered). x .number) e in omega arith)
+success-told (success n′ k′ p′ v′) n k p v h e =
+    let word : (i : ℕ) → getD (carrying 0 (n′ ∷ k′ ∷ p′ ∷ v′ ∷ []) .words) i 0 ≡ getD (carrying 0 (n ∷ k ∷ p ∷ v ∷ []) .words) i 0 = λ i. ap (λ (x : Numbered). getD (x .words) i 0) e in
+    let a : n′ ≡ n = word 0 in
+    let b : k′ ≡ k = word 1 in
+    let c : p′ ≡ p = word 2 in
+    let d : v′ ≡ v = word 3 in
+    λ i. success (a i) (b i) (c i) (d i)
 
 gate-passed : (g : Gate) → gateNumbered g .number ≡ 0 → g ≡ Passed
 gate-passed Passed e = refl
@@ -50,7 +62,7 @@ module _ (x : Call) (n k p v : ℕ) (y : Given) (row : InRow x n y) (lends : Len
   vs = y .left .operands
 
   accepts : assemblyOf x .answer ≡ success n k p v
-  accepts = accepted-told (x .contract) (x .vector) (x .stem) (length (x .lent .out)) n k p v (tells-is (row .assembles .tells) ∙ lends .accepts)
+  accepts = success-told (assemblyOf x .answer) n k p v (refuses (x .contract) (x .vector) (x .stem) (length (x .lent .out))) (tells-is (row .assembles .tells) ∙ lends .accepts)
 
   hypotheses : Hypotheses x n k p v
   hypotheses = record {
