@@ -1,5 +1,5 @@
 -- What is said, from what the calls ensure.
-use Prim.Native.Nat.{ℕ, _^_, _<_, _≤_}
+use Prim.Native.Nat.{ℕ, _≤_}
 use mathlib.Core.Path.{_≡_, refl, sym, ap, ap₂, subst, _∙_}
 use mathlib.Core.List.{List, [], _++_}
 use native.Mathlib.Omega.{arith}
@@ -20,7 +20,6 @@ use Rattle.assemble.specs.declared.say.Said.{Said}
 use Rattle.assemble.specs.declared.say.Said.the-variants.{Text, Message}
 use Rattle.assemble.specs.Message.{messageOf, refusalMessage}
 use Rattle.assemble.specs.Streams.{answered, said, countOf, Says}
-use Rattle.assemble.proofs.Messages.{message-short}
 
 -- a success counts the bytes of its text, a refusal has no text
 abbrev Sized : List ℕ → Answer → Type 0
@@ -60,10 +59,10 @@ module _ (a : Assembly) (z : Sized (a .text) (a .answer)) (out after : List ℕ)
     untouched : after ≡ out
     untouched = h .buffer ∙ ap (λ (t : List ℕ). t ++ drop (length t) out) (subst (Sized (a .text)) (sym refuses) z)
 
-    pub says-message : (number value n : ℕ) (last : List ℕ) → 128 ≤ length out → number < 2 ^ 64 → value < 2 ^ 64
+    pub says-message : (number value n : ℕ) (last : List ℕ) → 128 ≤ length out → length (messageOf number value) ≤ 128
         → number ≡ refusalNumbered why .number → value ≡ getD (refusalNumbered why .words) 0 0 → Added after 0 (messageOf number value) last n → Says a (Message n) last
-    says-message number value n last room f g i j b =
-        let l : take n last ≡ refusalMessage (refusalNumbered why) = whole b (omega (arith, message-short number value f g, ap length untouched)) ∙ ap₂ messageOf i j in
+    says-message number value n last room f i j b =
+        let l : take n last ≡ refusalMessage (refusalNumbered why) = whole b (omega (arith, f, ap length untouched)) ∙ ap₂ messageOf i j in
         record {
           streams = ap (λ (t : List ℕ). record { output = []; error = t }) l ∙ ap (λ (y : Answer). answered y (a .text)) refuses;
           within = added-fits b;

@@ -1,4 +1,6 @@
 // What the program says of a refusal.
+ghost use Prim.Native.Nat.{_≤_};
+ghost use lib.ListN.{length};
 ghost use Rattle.assemble.specs.Message.{wordsOf, keyText, carriedText, messageOf};
 ghost use Rattle.pieces.specs.Added.{Added};
 use pieces::add_bytes;
@@ -6,7 +8,7 @@ use pieces::add_decimal;
 
 // The number of a refusal and the value that it carries, as a line at the start of the buffer.
 pub fn message(number: u64, value: u64, out: &mut [u8]) -> usize
-    ensures { λ r. ⌜ Added (now (out .entry)) 0 (messageOf number value) (now (out .exit)) r ⌝ }
+    ensures { λ r. ⌜ (length (messageOf number value) ≤ 128) × Added (now (out .entry)) 0 (messageOf number value) (now (out .exit)) r ⌝ }
 {
     let name = add_bytes(out, 0, b"assemble: ");
     let digits = add_decimal(out, name, number);

@@ -1,6 +1,8 @@
 -- `assemble::message::message` meets its contract: its six pieces.
 -- Assumes nothing.
+use native.Mathlib.Omega.{arith}
 use Rattle.pieces.proofs.Adding.{added-then}
+use Rattle.assemble.proofs.Messages.{message-short}
 use borrow.Author.Needs.{needs}
 use Rattle.assemble.proofs.message.message.Statement.{statement}
 use Rattle.assemble.proofs.message.message.Tie as tie
@@ -36,7 +38,7 @@ same-length : tie.Need-same-length
 same-length c = search needs
 
 returns : tie.Need-returns
-returns c = added-then (added-then (added-then (added-then (added-then (c .before .before .before .before .before .before .before .before .before .before .before .before .before .before .before .before .before .before .before .before .before .before .before .before .add-bytes .ensures) (c .before .before .before .before .before .before .before .before .before .before .before .before .before .before .before .before .before .before .before .before .add-decimal .ensures)) (c .before .before .before .before .before .before .before .before .before .before .before .before .before .before .before .add-bytes2 .ensures)) (c .before .before .before .before .before .before .before .before .before .before .before .add-words .ensures)) (c .before .before .before .before .before .before .before .add-carried .ensures)) (c .before .before .add-bytes3 .ensures)
+returns c = (message-short (c .before .before .before .before .before .before .before .before .before .before .before .before .before .before .before .before .before .before .before .before .before .before .before .before .before .before .before .before .args .number) (c .before .before .before .before .before .before .before .before .before .before .before .before .before .before .before .before .before .before .before .before .before .before .before .before .before .before .before .before .args .value) (omega arith) (omega arith), added-then (added-then (added-then (added-then (added-then (c .before .before .before .before .before .before .before .before .before .before .before .before .before .before .before .before .before .before .before .before .before .before .before .before .add-bytes .ensures) (c .before .before .before .before .before .before .before .before .before .before .before .before .before .before .before .before .before .before .before .before .add-decimal .ensures)) (c .before .before .before .before .before .before .before .before .before .before .before .before .before .before .before .add-bytes2 .ensures)) (c .before .before .before .before .before .before .before .before .before .before .before .add-words .ensures)) (c .before .before .before .before .before .before .before .add-carried .ensures)) (c .before .before .add-bytes3 .ensures))
 
 pub message-spec : {M : Type 1} → statement M
 message-spec =

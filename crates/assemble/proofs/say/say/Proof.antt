@@ -1,6 +1,5 @@
 -- `assemble::say::say` meets its contract: the text where assembly succeeds, the message where it is refused.
 -- Assumes nothing.
-use native.Mathlib.Omega.{arith}
 use mathlib.Core.Path.{ap}
 use lib.ListN.{length, getD}
 use denote.Ref.{now}
@@ -32,7 +31,7 @@ same-length : tie.Need-same-length
 same-length c = search needs
 
 returns : tie.Need-returns
-returns c = says-message _ (sized (now (c .before .before .before .before .before .before .before .before .before .before .before .before .before .before .before .before .before .args .contract)) (now (c .before .before .before .before .before .before .before .before .before .before .before .before .before .before .before .before .before .args .vector)) (now (c .before .before .before .before .before .before .before .before .before .before .before .before .before .before .before .before .before .args .stem)) (length (now (c .before .before .before .before .before .before .before .before .before .before .before .before .before .before .before .before .before .args .out)))) _ _ _ (c .before .before .before .before .before .before .before .before .before .before .before .assemble .ensures) _ (c .before .before .before .before .before .before .before .answer .given .1) _ _ _ _ (c .before .before .before .before .before .before .before .before .before .before .before .before .before .before .before .before .before .pre) (omega arith) (omega arith) (ap (λ (n : Numbered). n .number) (c .before .before .before .before .before .numbered .ensures)) (ap (λ (n : Numbered). getD (n .words) 0 0) (c .before .before .before .before .before .numbered .ensures)) (c .before .before .message .ensures)
+returns c = says-message _ (sized (now (c .before .before .before .before .before .before .before .before .before .before .before .before .before .before .before .before .before .args .contract)) (now (c .before .before .before .before .before .before .before .before .before .before .before .before .before .before .before .before .before .args .vector)) (now (c .before .before .before .before .before .before .before .before .before .before .before .before .before .before .before .before .before .args .stem)) (length (now (c .before .before .before .before .before .before .before .before .before .before .before .before .before .before .before .before .before .args .out)))) _ _ _ (c .before .before .before .before .before .before .before .before .before .before .before .assemble .ensures) _ (c .before .before .before .before .before .before .before .answer .given .1) _ _ _ _ (c .before .before .before .before .before .before .before .before .before .before .before .before .before .before .before .before .before .pre) (c .before .before .message .ensures .0) (ap (λ (n : Numbered). n .number) (c .before .before .before .before .before .numbered .ensures)) (ap (λ (n : Numbered). getD (n .words) 0 0) (c .before .before .before .before .before .numbered .ensures)) (c .before .before .message .ensures .1)
 
 same-length-2 : tie.Need-same-length-2
 same-length-2 c = search needs
