@@ -150,6 +150,7 @@ impl AssembleError {
             23 => AssembleError::NoValue,
             24 => AssembleError::NotExpected,
             25 => AssembleError::BadStem,
+            // Proved: crates/assembly/proofs/Bounds.antt, `never-26`.
             number => unreachable!("the assembler gives 1 to 25 where it has room, not {number}"),
         }
     }
