@@ -1,7 +1,7 @@
 -- Laws of the whole: the parameters, then the body, then the last return's value.
 use Prim.Native.Nat.{ℕ, _-_, _<_, _≤_}
-use mathlib.Core.Path.{_≡_, refl, sym, ap, subst, _∙_}
-use mathlib.Core.List.{List, []}
+use mathlib.Core.Path.{_≡_, refl, sym, ap, ap₂, subst, _∙_}
+use mathlib.Core.List.{List}
 use mathlib.Core.Bool.{Bool, true, false}
 use mathlib.Core.Option.{Option, some, none}
 use native.Mathlib.Omega.{arith}
@@ -19,7 +19,6 @@ use Rattle.lines.specs.Lines.{lines}
 use Rattle.expression.specs.declared.figures.Value.the-variants.{Is, None}
 use Rattle.expression.specs.Tree.{Tree, valueOf}
 use Rattle.expression.specs.Figures.{optionOf}
-use Rattle.expression.specs.Table.{Told, columns}
 use Rattle.expression.specs.Source.{sources}
 use Rattle.assembler.specs.declared.assembly.Assembly.{Assembly}
 use Rattle.assembler.specs.declared.refusal.Refusal.{Refusal}
@@ -37,10 +36,13 @@ use Rattle.assembler.specs.Parameters.{parametersBound}
 use Rattle.assembler.specs.Body.{linesRead}
 use Rattle.assembler.specs.Numbers.{refusalNumbered}
 use Rattle.assembler.specs.Stored.{noBindings, noValues, nothingYet}
+use Rattle.assembler.specs.LastReturn.{Place, Met, bodyMet, metOf, Meets, Standing}
 use Rattle.assembler.specs.Held.{LastIs, Represents, Good, Leads, Follows, Within, isRefused}
 use Rattle.assembler.specs.Assembled.{Assembled, accepted, rejected, readable, bodyRead, compared, returned, concluded, functionRead, assembledTree}
 use Rattle.assembler.specs.Concluded.{Reached, rejectedFor, ConcludesBy, Concludes, ConcludesAll, Located}
+use Rattle.assembler.proofs.Holding.{holds-length}
 use Rattle.assembler.proofs.Sourced.{env-none}
+use Rattle.assembler.proofs.Meeting.{all-made, no-place}
 use Rattle.assembler.proofs.Leading.{leads-off, by-leads, represents-later, leads-later}
 
 -- an answer that is refused
@@ -90,6 +92,9 @@ module _ (s vector : List ℕ) (p : Places) (f : Located s p) where
         (λ st q e. never (sym b ∙ ap isRefused (q .going)))
         (λ why t e. leads-off t (ap (λ (u : Outcome). andThen u (λ st. linesRead st (lines (part s (p .«body_start») (p .«body_end»))))) e))
 
+    pub params-stand : isRefused (a .status) ≡ true → Standing s p a
+    params-stand b = record { is = λ g. never (sym b ∙ ap isRefused g) }
+
     module _ (b : isRefused (a .status) ≡ false) where
       pub params-good : Good (take (p .«body_start») s) a
       params-good = let o = order in by-leads led
@@ -105,6 +110,17 @@ module _ (s vector : List ℕ) (p : Places) (f : Located s p) where
           subst (λ (u : Outcome). Leads s r u goes) (sym (ap (λ (u : Outcome). andThen u (λ x. linesRead x (lines (part s (p .«body_start») (p .«body_end»))))) e)) z)
           (λ why t e. never (sym (ap isRefused t) ∙ b))
 
+      pub body-stands : {r : Code.State} → Meets s (p .«body_start») (p .«body_end») a r → Standing s p r
+      body-stands {r} k = record { is = λ x. ap (λ (m : Met). m .last) (k .is x ∙ ap (bodyMet s (p .«body_start») (p .«body_end»)) met) }
+        where
+          met : metOf a ≡ record { count = length (parameters (part s (p .«params_start») (p .«params_end»))); last = none }
+          met = by-leads led
+              (λ st q e.
+              let z = all-made vector 1 started (parameters (part s (p .«params_start») (p .«params_end»))) st e in
+              ap₂ (λ (n : ℕ) (x : Option Place). record { count = n; last = x }) (sym (holds-length (q .holds)) ∙ z .count ∙ omega arith)
+              (no-place _ (a .table) (a .values) (a .last) (subst (LastIs (take (p .«params_end») s) (a .table) (a .values) (a .last)) (z .last) (q .last))))
+              (λ why t e. never (sym (ap isRefused t) ∙ b))
+
 -- the refusal in a status, or another
 abbrev refusalIn : Refusal → Status → Refusal
 refusalIn other Going = other
@@ -114,7 +130,7 @@ refusalIn other (Refused why) = why
 module _ (a : Code.State) (expected : ℕ) where
   pub end-refused : (why : Refusal) → a .status ≡ Refused why → ConcludesAll a expected (rejectedFor why)
   end-refused why b = record {
-    is = λ s vector p f l.
+    is = λ s vector p f l m.
         by-leads l
         (λ st q e. never (sym (ap isRefused b) ∙ ap isRefused (q .going)))
         (λ other t e. concludes-off refl (ap (concluded expected) e ∙ ap (λ (w : Refusal). rejected (refusalNumbered w)) (ap (refusalIn why) (sym t ∙ b))));
@@ -124,9 +140,9 @@ module _ (a : Code.State) (expected : ℕ) where
     -- wherever a was read
     by-reached : {r : Assembly} → ((s vector : List ℕ) (q : Reached s vector a) → Concludes s vector (returned expected (q .st .last)) r) → ConcludesAll a expected r
     by-reached {r} f = record {
-      is = λ s vector p g l.
+      is = λ s vector p g l m.
           by-leads l
-          (λ st q e. subst (λ (o : Assembled). Concludes s vector o r) (sym (ap (concluded expected) e)) (f s vector (record { places = p; found = g; st = st; read = e; represents = q })))
+          (λ st q e. subst (λ (o : Assembled). Concludes s vector o r) (sym (ap (concluded expected) e)) (f s vector (record { places = p; found = g; st = st; read = e; represents = q; place = m .is b })))
           (λ why t e. never (sym (ap isRefused t) ∙ ap isRefused b));
     }
 

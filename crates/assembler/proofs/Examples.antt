@@ -14,6 +14,7 @@ use Rattle.assembler.specs.State.{refused, started, each}
 use Rattle.assembler.specs.Body.{linesRead}
 use Rattle.number.specs.Decimal.{decimal}
 use Rattle.assembler.specs.Assembled.{accepted, rejected, assembledTree}
+use Rattle.assembler.specs.LastReturn.{linesMet, lastReturn}
 use Rattle.assembler.specs.Output.{success, nothing, output, assembled}
 
 -- document 01's bench example
@@ -140,3 +141,8 @@ feed-in-stem = refl
 no-stem : assembled tally tallyVector [] 0 ≡ nothing (plain 25)
 unfolding assembled output decimal assembledTree each meaning parseF scan tally tallyVector
 no-stem = refl
+
+-- `1` stands twice: the last return is the second, with one binding before its line
+second-one : lastReturn (ascii "fn f(){let b = 1\nreturn 1 }") (record { «params_start» = 5; «params_end» = 5; «body_start» = 7; «body_end» = 26 }) ≡ some (record { start = 24; end = 25; count = 1; next = 25 })
+unfolding linesMet
+second-one = refl

@@ -14,3 +14,4 @@ pub mod Concluding
 pub mod Words
 pub mod Wrong
 pub mod Accepted
+pub mod Meeting

@@ -16,6 +16,7 @@ use Rattle.assembler.specs.declared.state.State as Code
 use Rattle.assembler.specs.State.{State, goes}
 use Rattle.assembler.specs.Numbers.{refusalNumbered}
 use Rattle.assembler.specs.Stored.{refusedAs, nothingYet}
+use Rattle.assembler.specs.LastReturn.{lastReturn, placeOf, Standing}
 use Rattle.assembler.specs.Held.{LastIs, Represents, Leads}
 use Rattle.assembler.specs.Assembled.{Assembled, accepted, rejected, bodyRead, concluded}
 
@@ -26,6 +27,7 @@ pub record Reached (s vector : List ℕ) (a : Code.State) : Type 0 where
   pub st : State
   pub read : bodyRead s vector places ≡ goes st
   pub represents : Represents s a st
+  pub place : placeOf (a .last) ≡ lastReturn s places
 
 -- the state's last return means the tree t, which is accepted
 pub record Accepts (s vector : List ℕ) (o : Assembled) (r : Assembly) : Type 0 where
@@ -49,7 +51,7 @@ pub record Concludes (s vector : List ℕ) (o : Assembled) (r : Assembly) : Type
 
 -- what is made of a state and the expected value, wherever the state was read
 pub record ConcludesAll (a : Code.State) (expected : ℕ) (r : Assembly) : Type 0 where
-  pub is : (s vector : List ℕ) (p : Places) → functionOf s ≡ Found p → Leads s a (bodyRead s vector p) goes → Concludes s vector (concluded expected (bodyRead s vector p)) r
+  pub is : (s vector : List ℕ) (p : Places) → functionOf s ≡ Found p → Leads s a (bodyRead s vector p) goes → Standing s p a → Concludes s vector (concluded expected (bodyRead s vector p)) r
 
 -- where the contract's function stands
 pub record Located (s : List ℕ) (p : Places) : Type 0 where

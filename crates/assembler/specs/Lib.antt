@@ -7,6 +7,7 @@ pub mod Assembled
 pub mod Places
 pub mod Stored
 pub mod Numbers
+pub mod LastReturn
 pub mod Held
 pub mod Concluded
 pub mod Output

@@ -3,6 +3,7 @@ ghost use mathlib.Core.Path.{_≡_};
 ghost use Rattle.source.specs.Vector.{vectorNumber};
 ghost use Rattle.assembler.specs.State.{goes};
 ghost use Rattle.assembler.specs.Parameters.{keyed};
+ghost use Rattle.assembler.specs.LastReturn.{Standing};
 ghost use Rattle.assembler.specs.Held.{Leads};
 ghost use Rattle.assembler.specs.Assembled.{readable, bodyRead, expectedKey, expectedRead, assembledTree};
 ghost use Rattle.assembler.specs.Concluded.{rejectedFor, Concludes, ConcludesAll, Located};
@@ -24,7 +25,8 @@ use source::function::find_function;
 use utf8::is_utf8;
 
 // The bindings and the last return, which has the expected value; or the refusal, with no binding and no expected value. Left open are what
-// the table's arrays hold from the count on, `next` of the last return, and which of the places whose text means the same it names.
+// the table's arrays hold from the count on, the number beside a binding whose value is none, and at which of the places that give the same
+// names and trees the bindings stand.
 pub struct Assembly {
     pub state: State,
     pub expected: u64,
@@ -78,7 +80,7 @@ fn read_function(contract: &[u8], vector: &[u8], places: Places) -> Assembly
 // The parameters are bound, then the body is read.
 fn read_places(contract: &[u8], vector: &[u8], places: Places) -> State
     requires { ⌜ Located (now contract) places ⌝ }
-    ensures { λ r. ⌜ Leads (now (contract .entry)) r (bodyRead (now (contract .entry)) (now (vector .entry)) places) goes ⌝ }
+    ensures { λ r. ⌜ Leads (now (contract .entry)) r (bodyRead (now (contract .entry)) (now (vector .entry)) places) goes × Standing (now (contract .entry)) places r ⌝ }
 {
     let bound = bind_parameters(
         contract,

@@ -1,3 +1,4 @@
+pub mod Printing
 pub mod Running
 pub mod Reading
 mod Examples

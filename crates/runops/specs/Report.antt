@@ -1,10 +1,13 @@
 -- Program `runops` of document 01: what it prints of a text.
 use Prim.Native.Nat.{ℕ, zero, suc}
-use mathlib.Core.List.{List}
+use mathlib.Core.Path.{_≡_}
+use mathlib.Core.List.{List, [], _∷_, _++_}
 use mathlib.Core.Bool.{cond}
 use lib.Dec.{ltb}
 use lib.ListN.{length, getD, replicate}
-use Rattle.ops.specs.Ops.{Reading, ops, refused, readText, kindsOf, operandsOf}
+use Rattle.number.specs.Decimal.{decimal}
+use Rattle.ops.specs.Ascii.{ascii}
+use Rattle.ops.specs.Ops.{Reading, ops, refused, readText, onto, kindsOf, operandsOf}
 use Rattle.ops.specs.Numbers.{opsErrorNumbered}
 use Rattle.vm.specs.declared.State.{State}
 use Rattle.vm.specs.declared.Answer.{Answer}
@@ -57,3 +60,24 @@ readingReport (refused e) = refusedWith (opsErrorNumbered e .number)
 -- over 65,536 bytes prints 27
 abbrev pub reportOf : List ℕ → Report
 reportOf text = cond (ltb 65536 (length text)) (refusedWith 27) (readingReport (readText text 4096))
+
+-- a value behind a space
+abbrev pub spaced : ℕ → List ℕ
+spaced n = 0x20 ∷ decimal n
+
+-- two lines: the names, then the values
+abbrev pub printed : Report → List ℕ
+printed r =
+    ascii "refusal gas_spent operations items top slots\n"
+    ++ decimal (r .refusal)
+    ++ spaced (r .«gas_spent»)
+    ++ spaced (r .operations)
+    ++ spaced (r .items)
+    ++ spaced (r .top)
+    ++ spaced (r .slots)
+    ++ (10 ∷ [])
+
+-- they stand at the start of a buffer, all else is as before, and r is how long they are
+pub record Prints (report : Report) (before after : List ℕ) (r : ℕ) : Type 0 where
+  pub is : after ≡ onto (printed report) before
+  pub len : r ≡ length (printed report)

@@ -1,4 +1,4 @@
-// Reads ops text from standard input, makes a metered run of it, and writes what the run gives. A read that fails is
+// Reads ops text from standard input, makes a metered run of it, and writes what the run gives. A read or a write that fails is
 // named on standard error.
 mod print;
 mod report;

@@ -35,7 +35,7 @@ returns : tie.Need-returns
 returns c = let a = c .before .before .before .before .before .before .before .before in let s = now (a .args .contract) in let v = now (a .args .vector) in let p = a .args .places in concludes-off (c .rejected .ensures) (ap (expectedRead s v p) (sym (sym (ap keyedAs (c .before .before .number .given .1)) ∙ c .before .before .before .before .number-for .ensures)))
 
 returns-2 : tie.Need-returns-2
-returns-2 c = let a = c .before .before .before .before .before .before .before .before .before in let s = now (a .args .contract) in let v = now (a .args .vector) in let p = a .args .places in subst (λ (o : Assembled). Concludes s v o (c .conclude .result)) (ap (expectedRead s v p) (sym (ap keyedAs (c .before .before .before .number2 .given .1)) ∙ c .before .before .before .before .before .number-for .ensures)) (c .conclude .ensures .is s v p (a .pre .found) (c .before .read-places .ensures))
+returns-2 c = let a = c .before .before .before .before .before .before .before .before .before in let s = now (a .args .contract) in let v = now (a .args .vector) in let p = a .args .places in subst (λ (o : Assembled). Concludes s v o (c .conclude .result)) (ap (expectedRead s v p) (sym (ap keyedAs (c .before .before .before .number2 .given .1)) ∙ c .before .before .before .before .before .number-for .ensures)) (c .conclude .ensures .is s v p (a .pre .found) (c .before .read-places .ensures .0) (c .before .read-places .ensures .1))
 
 pub read-function-spec : {M : Type 1} → statement M
 read-function-spec =

@@ -2,7 +2,7 @@
 -- Assumes nothing.
 use mathlib.Core.Path.{sym, _∙_}
 use denote.Ref.{now}
-use Rattle.assembler.proofs.Concluding.{params-within, body-within, params-off, params-good, body-leads}
+use Rattle.assembler.proofs.Concluding.{params-within, body-within, params-off, params-stand, params-good, body-leads, body-stands}
 use borrow.Author.Needs.{needs}
 use Rattle.assembler.proofs.assembly.read_places.Statement.{statement}
 use Rattle.assembler.proofs.assembly.read_places.Tie as tie
@@ -17,13 +17,13 @@ is-refused-requires : tie.Need-is-refused-requires
 is-refused-requires c κs = search needs
 
 returns : tie.Need-returns
-returns c = let a = c .before .before .before .before .before .before in let s = now (a .args .contract) in let v = now (a .args .vector) in let p = a .args .places in params-off s v p (a .pre) _ _ (c .before .before .before .started .ensures) (c .before .before .bind-parameters .ensures) (sym (c .before .is-refused .ensures) ∙ c .if1 .taken)
+returns c = let a = c .before .before .before .before .before .before in let s = now (a .args .contract) in let v = now (a .args .vector) in let p = a .args .places in (params-off s v p (a .pre) _ _ (c .before .before .before .started .ensures) (c .before .before .bind-parameters .ensures) (sym (c .before .is-refused .ensures) ∙ c .if1 .taken), params-stand s v p (a .pre) _ _ (c .before .before .before .started .ensures) (c .before .before .bind-parameters .ensures) (sym (c .before .is-refused .ensures) ∙ c .if1 .taken))
 
 read-body-requires : tie.Need-read-body-requires
 read-body-requires c κs = let a = c .before .before .before .before .before .before in let s = now (a .args .contract) in let v = now (a .args .vector) in let p = a .args .places in (body-within s v p (a .pre), params-good s v p (a .pre) _ _ (c .before .before .before .started .ensures) (c .before .before .bind-parameters .ensures) (sym (c .before .is-refused .ensures) ∙ c .if1 .left))
 
 returns-2 : tie.Need-returns-2
-returns-2 c = let a = c .before .before .before .before .before .before .before in let s = now (a .args .contract) in let v = now (a .args .vector) in let p = a .args .places in body-leads s v p (a .pre) _ _ (c .before .before .before .before .started .ensures) (c .before .before .before .bind-parameters .ensures) (sym (c .before .before .is-refused .ensures) ∙ c .before .if1 .left) (c .read-body .ensures)
+returns-2 c = let a = c .before .before .before .before .before .before .before in let s = now (a .args .contract) in let v = now (a .args .vector) in let p = a .args .places in (body-leads s v p (a .pre) _ _ (c .before .before .before .before .started .ensures) (c .before .before .before .bind-parameters .ensures) (sym (c .before .before .is-refused .ensures) ∙ c .before .if1 .left) (c .read-body .ensures .0), body-stands s v p (a .pre) _ _ (c .before .before .before .before .started .ensures) (c .before .before .before .bind-parameters .ensures) (sym (c .before .before .is-refused .ensures) ∙ c .before .if1 .left) (c .read-body .ensures .1))
 
 pub read-places-spec : {M : Type 1} → statement M
 read-places-spec =
