@@ -14,7 +14,7 @@ use Rattle.expression.specs.declared.figures.Value.the-variants.{Is, None}
 use Rattle.expression.specs.Tree.{Tree, num, bin, kOf, pOf}
 use Rattle.expression.specs.Parse.{Binding, Env}
 use Rattle.expression.specs.Figures.{Figures, optionOf}
-use Rattle.expression.specs.Table.{Columns, columns, unless, Entry, entryAt, Tells, Told, Holds}
+use Rattle.expression.specs.Table.{Columns, columns, unless, Entry, entryAt, tagOf, Tells, Told, Holds}
 use Rattle.assembler.specs.declared.state.State.{State}
 use Rattle.assembler.specs.Part.{part}
 use Rattle.assembler.specs.Stored.{numberIn, isNone, More}
@@ -47,6 +47,7 @@ module _ (s : List ℕ) (i e : ℕ) (h : i ≤ e) (k : e ≤ length s) where
       record {
         inside = let g = t .inside in omega arith;
         name = t .name ∙ later (x .start) (x .len) (t .inside);
+        tag = t .tag;
         k = t .k;
         p = t .p;
         value = t .value;
@@ -70,7 +71,7 @@ unless-value None = refl
 abbrev cols : State → Columns
 cols a = columns (a .table) (a .values)
 
-module _ (s : List ℕ) {a r : State} {name expr : Span} {v : Read} (m : More a name expr v r) where
+module _ (s : List ℕ) {a r : State} {name expr : Span} {v : Read} {w : List ℕ} (m : More a name expr v w r) where
   tells-still : {i : ℕ} {b : Binding} → i < (a .table .count) → Tells s (entryAt (cols a) i) b → Tells s (entryAt (cols r) i) b
   tells-still {i} l t =
       let d : i ≡ (a .table .count) → ⊥ = λ e. omega arith in
@@ -79,6 +80,7 @@ module _ (s : List ℕ) {a r : State} {name expr : Span} {v : Read} (m : More a 
       record {
         inside = rw (names, lens) (t .inside);
         name = rw (names, lens) (t .name);
+        tag = m .values .tag .other i d ∙ t .tag;
         k = m .table .ks .other i d ∙ t .k;
         p = m .table .ps .other i d ∙ t .p;
         value = rw (m .values .none .other i d, m .values .value .other i d) (t .value);
@@ -92,7 +94,7 @@ module _ (s : List ℕ) {a r : State} {name expr : Span} {v : Read} (m : More a 
   told-still (suc i) [] l t = absurd t
   told-still (suc i) (b ∷ env) l t = (tells-still (omega arith) (t .0), told-still i env (omega arith) (t .1))
 
-  module _ (o : name .start ≤ name .end) (h : name .end ≤ length s) {t : Tree} (f : Figures t v) where
+  module _ (o : name .start ≤ name .end) (h : name .end ≤ length s) (e : w ≡ part s (name .start) (name .end)) {t : Tree} (f : Figures t v) where
     tells-new : Tells s (entryAt (cols r) (a .table .count)) (record { name = part s (name .start) (name .end); tree = t })
     tells-new =
         let names = m .table .name-start .here in
@@ -100,6 +102,7 @@ module _ (s : List ℕ) {a r : State} {name expr : Span} {v : Read} (m : More a 
         record {
           inside = rw (names, lens) (omega arith);
           name = rw (names, lens) refl;
+          tag = m .values .tag .here ∙ ap tagOf e;
           k = m .table .ks .here ∙ f .k;
           p = m .table .ps .here ∙ f .p;
           value = rw (m .values .none .here, m .values .value .here) (unless-value (v .value) ∙ f .value);
@@ -109,7 +112,7 @@ module _ (s : List ℕ) {a r : State} {name expr : Span} {v : Read} (m : More a 
 
     pub holds-more : {env : Env} → (a .table .count) < 256 → Holds s (cols a) env → Holds s (cols r) (record { name = part s (name .start) (name .end); tree = t } ∷ env)
     holds-more {env} l g = record {
-      room = let e = m .table .count in omega arith;
+      room = let c = m .table .count in omega arith;
       told = subst (λ (i : ℕ). Told s (cols r) i (record { name = part s (name .start) (name .end); tree = t } ∷ env)) (sym (m .table .count ∙ add-one (a .table .count))) (tells-new, told-still (a .table .count) env (omega arith) (g .told));
     }
 

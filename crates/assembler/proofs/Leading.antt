@@ -55,7 +55,7 @@ module _ (s : List ℕ) (i e : ℕ) (h : i ≤ e) (k : e ≤ length s) where
   leads-later l = by-leads l (λ st r w. leads-on (represents-later r) w) (λ why f w. leads-off f w)
 
 -- one binding more
-module _ (s : List ℕ) (a r : Code.State) (name expr : Span) (v : Read) (b : Bound a name expr v r) (o : name .start ≤ name .end) (k : name .end ≤ length s) where
+module _ (s : List ℕ) (a r : Code.State) (name expr : Span) (v : Read) {w : List ℕ} (b : Bound a name expr v w r) (o : name .start ≤ name .end) (k : name .end ≤ length s) (same : w ≡ part s (name .start) (name .end)) where
   pub bound-leads : {st : State} {t : Tree} → Represents s a st → Figures t v → Gives s (st .env) expr (numberIn (v .value)) t → Leads s r (bound st (part s (name .start) (name .end)) t) goes
   bound-leads {st} {t} q f g =
       let n = holds-length (q .holds) in
@@ -64,12 +64,12 @@ module _ (s : List ℕ) (a r : Code.State) (name expr : Span) (v : Read) (b : Bo
       (λ l.
       let m = b .more l in
       let e = lt-ltb (length (st .env)) 256 (omega arith) in
-      let w = subst (λ (env : Env). Gives s env expr (numberIn (v .value)) t) (q .sources) g in
+      let u = subst (λ (env : Env). Gives s env expr (numberIn (v .value)) t) (q .sources) g in
       leads-on
       (record {
-        holds = holds-more s m o k f l (q .holds);
-        stand = stand-more s m w o k (q .stand);
-        sources = ap (λ (env : Env). record { name = part s (name .start) (name .end); tree = t } ∷ env) (q .sources) ∙ sym (env-more s m w);
+        holds = holds-more s m o k same f l (q .holds);
+        stand = stand-more s m u o k same (q .stand);
+        sources = ap (λ (env : Env). record { name = part s (name .start) (name .end); tree = t } ∷ env) (q .sources) ∙ sym (env-more s m u);
         last = subst (λ (x : Last). LastIs s (r .table) (r .values) x (st .last)) (sym (m .last)) (last-more s m (a .last) (st .last) (q .last));
         going = m .status ∙ q .going;
       })

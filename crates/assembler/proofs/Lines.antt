@@ -95,7 +95,7 @@ module _ (s : List ℕ) (a : Code.State) (expr : Span) (w : Within s (expr .star
       means = λ l. rw part-in e;
     }
 
-    let-read : (name : Span) (r : Code.State) → name .start ≤ name .end → name .end ≤ expr .start → Bound a name expr v r
+    let-read : (name : Span) (r : Code.State) → name .start ≤ name .end → name .end ≤ expr .start → Bound a name expr v (part s (name .start) (name .end)) r
         → Follows before a (λ st. performed line st (binds (part s (name .start) (name .end)) text)) behind r
     let-read name r o h b = record {
       leads = λ st q.
@@ -103,7 +103,7 @@ module _ (s : List ℕ) (a : Code.State) (expr : Span) (w : Within s (expr .star
           let n = length-take-le (expr .end) s (w .inside) in
           let e : part behind (name .start) (name .end) ≡ part s (name .start) (name .end) = part-take s (expr .end) (expr .end) (omega arith) (w .inside) (name .start) (name .end - name .start) (let y = w .ordered in omega arith) in
           let z = tree-found line (bound st (part s (name .start) (name .end))) (x .1 .0) (x .1 .1 .0) in
-          subst (λ (u : Outcome). Leads behind r u goes) (ap (λ (u : List ℕ). bound st u (x .0)) e ∙ sym z) (bound-leads behind a r name expr v b o (let y = w .ordered in omega arith) (later q) (x .1 .1 .1) (gives (x .1 .0)));
+          subst (λ (u : Outcome). Leads behind r u goes) (ap (λ (u : List ℕ). bound st u (x .0)) e ∙ sym z) (bound-leads behind a r name expr v b o (let y = w .ordered in omega arith) (sym e) (later q) (x .1 .1 .1) (gives (x .1 .0)));
     }
 
 -- the line from start to end of the contract
@@ -175,7 +175,7 @@ module _ (s : List ℕ) (start end : ℕ) (w : Within s start end) where
               ),
             )
 
-        pub let-follows : {r : Code.State} → Bound a name expr v r → Follows (take start s) a read (take end s) r
+        pub let-follows : {r : Code.State} → Bound a name expr v (part s (name .start) (name .end)) r → Follows (take start s) a read (take end s) r
         let-follows {r} b = let l = let-within e in line-let (let-read s a expr (l .within) line k name r (l .ordered) (l .between) b)
 
     module _ {expr : Span} (e : Stmt.Return expr ≡ statementAt s start end) where

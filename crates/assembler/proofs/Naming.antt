@@ -46,14 +46,14 @@ module _ (s vector : List ℕ) (a : Code.State) (start end : ℕ) (w : Within s 
   pub parameter-refused : (why : Refusal) → x ≡ Number.Refused why → Follows (take start s) a one (take end s) (refusedAs a why)
   parameter-refused why q = record { leads = λ st r. leads-off refl (ap (boundTo st (part s start end)) (sym (sym (ap keyedAs q) ∙ e))) }
 
-  pub parameter-bound : (n : ℕ) → x ≡ Number.Is n → {v : Read} → Figures (num n) v → (r : Code.State) → Bound a (record { start = start; end = end }) (record { start = end; end = end }) v r → Follows (take start s) a one (take end s) r
+  pub parameter-bound : (n : ℕ) → x ≡ Number.Is n → {v : Read} → Figures (num n) v → (r : Code.State) → Bound a (record { start = start; end = end }) (record { start = end; end = end }) v (part s start end) r → Follows (take start s) a one (take end s) r
   parameter-bound n q {v} f r b = record {
     leads = λ st p.
         let l = length-take-le end s (w .inside) in
         let y = part-take s end end (omega arith) (w .inside) start (end - start) (let o = w .ordered in omega arith) in
         let z = ap (boundTo st (part s start end)) (sym (sym (ap keyedAs q) ∙ e)) in
         subst (λ (u : Outcome). Leads (take end s) r u goes) (ap (λ (u : List ℕ). boundTo st u (keyedAs (Number.Is n))) y ∙ sym z)
-        (bound-leads (take end s) a r (record { start = start; end = end }) (record { start = end; end = end }) v b (w .ordered) (omega arith) (represents-later s start end (w .ordered) (w .inside) p) f (literal-gives (omega arith) (v .value) (f .value)));
+        (bound-leads (take end s) a r (record { start = start; end = end }) (record { start = end; end = end }) v b (w .ordered) (omega arith) (sym y) (represents-later s start end (w .ordered) (w .inside) p) f (literal-gives (omega arith) (v .value) (f .value)));
   }
 
 -- the parameters from a place on, of the text before another

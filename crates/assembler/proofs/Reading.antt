@@ -1,10 +1,10 @@
 -- Laws of the loop over the body's lines: what the statement of the line at a place makes of a state.
-use Prim.Native.Nat.{ℕ, _+_, _-_, _<_}
+use Prim.Native.Nat.{ℕ, _+_, _-_, _<_, _≤_}
 use mathlib.Core.Path.{_≡_, refl, subst}
 use mathlib.Core.List.{List}
 use mathlib.Core.Bool.{true}
 use native.Mathlib.Omega.{arith}
-use lib.ListN.{take}
+use lib.ListN.{length, take}
 use Rattle.lines.specs.declared.Line.{Line}
 use Rattle.lines.specs.declared.Step.the-variants.{Next}
 use Rattle.lines.specs.Lines.{lines}
@@ -68,6 +68,9 @@ module _ {s : List ℕ} {start end : ℕ} (w : Within s start end) {first : Stat
     pub let-part : Within s (expr .start) (expr .end)
     let-part = let-within s at (l .end) line-within y .within
 
+    pub let-name : (name .start ≤ name .end) × (name .end ≤ length s)
+    let-name = let x = let-within s at (l .end) line-within y in (x .ordered, omega (arith, x .between, x .within .ordered, x .within .inside))
+
     module _ {x : Checked} (k : ExprChecked expr x) where
       pub let-off : {why : Refusal} → x ≡ Refused why → AllMake (refusedAs a why)
       let-off q = off (let-refused s at (l .end) line-within a line y (subst (ExprChecked expr) q k)) refl
@@ -79,10 +82,10 @@ module _ {s : List ℕ} {start end : ℕ} (w : Within s start end) {first : Stat
         pub let-fit : Placed name × (Placed expr × Small v)
         let-fit = let-fits s at (l .end) line-within a line y done (turn-good w t g)
 
-        pub let-next : {r : State} → Bound a name expr v r → r .status ≡ a .status → Lines s start end first (l .next) (line + 1) r
+        pub let-next : {r : State} → Bound a name expr v (part s (name .start) (name .end)) r → r .status ≡ a .status → Lines s start end first (l .next) (line + 1) r
         let-next b = next (let-follows s at (l .end) line-within a line y done b)
 
-        pub let-full : {r : State} → Bound a name expr v r → isRefused (r .status) ≡ true → AllMake r
+        pub let-full : {r : State} → Bound a name expr v (part s (name .start) (name .end)) r → isRefused (r .status) ≡ true → AllMake r
         let-full b = off (let-follows s at (l .end) line-within a line y done b)
 
   module _ {expr : Span} (y : Stmt.Return expr ≡ statementAt s at (l .end)) where

@@ -15,6 +15,7 @@ use Rattle.expression.specs.declared.Values.{Values}
 use Rattle.expression.specs.declared.figures.Read.{Read}
 use Rattle.expression.specs.Tree.{Tree, num}
 use Rattle.expression.specs.Parse.{Env, tree, meaning}
+use Rattle.expression.specs.Table.{tagOf}
 use Rattle.expression.specs.Source.{Sources, sources, nameOf, expressionOf, envOf, treeOf, Stands, AllStand}
 use Rattle.assembler.specs.declared.state.State.{State}
 use Rattle.assembler.specs.declared.state.Returned.{Returned}
@@ -33,6 +34,7 @@ env-none s c n e = rw e
 record Same (s : List ℕ) (c : Sources) (t : List ℕ) (d : Sources) (i : ℕ) : Type 0 where
   pub names : getD (d .names) i 0 ≡ getD (c .names) i 0
   pub lens : getD (d .lens) i 0 ≡ getD (c .lens) i 0
+  pub tags : getD (d .tags) i 0 ≡ getD (c .tags) i 0
   pub starts : getD (d .starts) i 0 ≡ getD (c .starts) i 0
   pub sizes : getD (d .sizes) i 0 ≡ getD (c .sizes) i 0
   pub values : getD (d .values) i 0 ≡ getD (c .values) i 0
@@ -59,6 +61,7 @@ module _ (s : List ℕ) (c : Sources) (t : List ℕ) (d : Sources) where
         let e = env-same i (λ j k. h j (omega arith)) in
         record {
           name = omega (arith, x .names, x .lens, y .name);
+          tag = x .tags ∙ y .tag ∙ ap tagOf (sym (x .name));
           inside = omega (arith, x .starts, x .sizes, y .inside);
           means = λ p. let z = y .means (omega (arith, x .sizes)) in cc (x .sizes, x .values, x .expression, e, z);
         }
@@ -100,6 +103,7 @@ module _ (s : List ℕ) (i e : ℕ) (h : i ≤ e) (k : e ≤ length s) where
       record {
         names = refl;
         lens = refl;
+        tags = refl;
         starts = refl;
         sizes = refl;
         values = refl;
@@ -128,7 +132,7 @@ abbrev envIn : List ℕ → State → Env
 envIn s a = envOf s (srcs a) (a .table .count)
 
 -- one binding more
-module _ (s : List ℕ) {a r : State} {name expr : Span} {v : Read} (m : More a name expr v r) where
+module _ (s : List ℕ) {a r : State} {name expr : Span} {v : Read} {w : List ℕ} (m : More a name expr v w r) where
   same-more : AllSame s (srcs a) s (srcs r) (a .table .count)
   same-more i l =
       let d : i ≡ (a .table .count) → ⊥ = λ e. omega arith in
@@ -139,6 +143,7 @@ module _ (s : List ℕ) {a r : State} {name expr : Span} {v : Read} (m : More a 
       record {
         names = names;
         lens = lens;
+        tags = m .values .tag .other i d;
         starts = starts;
         sizes = sizes;
         values = m .values .value .other i d;
@@ -173,10 +178,11 @@ module _ (s : List ℕ) {a r : State} {name expr : Span} {v : Read} (m : More a 
         let lens = m .table .name-len .here in
         ap (envOf s (srcs r)) (m .table .count ∙ add-one (a .table .count)) ∙ cc
 
-    module _ (o : name .start ≤ name .end) (h : name .end ≤ length s) where
+    module _ (o : name .start ≤ name .end) (h : name .end ≤ length s) (e : w ≡ part s (name .start) (name .end)) where
       stands-new : Stands s (srcs r) (a .table .count)
       stands-new = record {
         name = omega (arith, m .table .name-start .here, m .table .name-len .here);
+        tag = rw (m .table .name-start .here, m .table .name-len .here) (m .values .tag .here ∙ ap tagOf e);
         inside = omega (arith, m .table .expr-start .here, m .table .expr-len .here, g .ordered, g .inside);
         means = λ p. new-means (omega (arith, m .table .expr-len .here)) ∙ ap tree (sym new-tree);
       }
@@ -184,5 +190,5 @@ module _ (s : List ℕ) {a r : State} {name expr : Span} {v : Read} (m : More a 
       pub stand-more : AllStand s (srcs a) (a .table .count) → AllStand s (srcs r) (r .table .count)
       stand-more q i l =
           by-eqb i (a .table .count)
-          (λ e. subst (λ (j : ℕ). Stands s (srcs r) j) (sym e) stands-new)
-          (λ e. stand-same s (srcs a) s (srcs r) (omega arith) (a .table .count) same-more q i (omega (arith, m .table .count)))
+          (λ q′. subst (λ (j : ℕ). Stands s (srcs r) j) (sym q′) stands-new)
+          (λ q′. stand-same s (srcs a) s (srcs r) (omega arith) (a .table .count) same-more q i (omega (arith, m .table .count)))

@@ -10,6 +10,7 @@ use Rattle.expression.specs.declared.Values.{Values}
 use Rattle.expression.specs.declared.figures.Read.{Read}
 use Rattle.expression.specs.declared.figures.Value.{Value}
 use Rattle.expression.specs.declared.figures.Value.the-variants.{Is, None}
+use Rattle.expression.specs.Table.{tagOf}
 use Rattle.assembler.specs.declared.refusal.Refusal.{Refusal}
 use Rattle.assembler.specs.declared.refusal.Refusal.the-variants.{TooManyBindings}
 use Rattle.assembler.specs.declared.state.State.{State}
@@ -21,7 +22,7 @@ abbrev pub noBindings : Bindings
 noBindings = record { «name_start» = replicate 256 0; «name_len» = replicate 256 0; «expr_start» = replicate 256 0; «expr_len» = replicate 256 0; k = replicate 256 0; p = replicate 256 0; count = 0 }
 
 abbrev pub noValues : Values
-noValues = record { value = replicate 256 0; none = replicate 256 false; len = replicate 256 0 }
+noValues = record { value = replicate 256 0; none = replicate 256 false; len = replicate 256 0; tag = replicate 256 0 }
 
 abbrev pub nothingYet : State
 nothingYet = record { table = noBindings; values = noValues; last = Last.Nothing; status = Status.Going }
@@ -64,18 +65,20 @@ abbrev pub isNone : Value → Bool
 isNone (Is n) = false
 isNone None = true
 
-pub record PutValue (t : Values) (i : ℕ) (v : Read) (r : Values) : Type 0 where
+-- of a binding with the name w
+pub record PutValue (t : Values) (i : ℕ) (v : Read) (w : List ℕ) (r : Values) : Type 0 where
   pub value : Set 0 (t .value) i (numberIn (v .value)) (r .value)
   pub none : Set false (t .none) i (isNone (v .value)) (r .none)
   pub len : Set 0 (t .len) i (v .len) (r .len)
+  pub tag : Set 0 (t .tag) i (tagOf w) (r .tag)
 
--- one binding more than a has
-pub record More (a : State) (name expr : Span) (v : Read) (r : State) : Type 0 where
+-- one binding more than a has, with the name w
+pub record More (a : State) (name expr : Span) (v : Read) (w : List ℕ) (r : State) : Type 0 where
   pub table : Put (a .table) name expr (v .k) (v .p) (r .table)
-  pub values : PutValue (a .values) (a .table .count) v (r .values)
+  pub values : PutValue (a .values) (a .table .count) v w (r .values)
   pub last : r .last ≡ a .last
   pub status : r .status ≡ a .status
 
-pub record Bound (a : State) (name expr : Span) (v : Read) (r : State) : Type 0 where
+pub record Bound (a : State) (name expr : Span) (v : Read) (w : List ℕ) (r : State) : Type 0 where
   pub full : 256 ≤ a .table .count → r ≡ refusedAs a TooManyBindings
-  pub more : a .table .count < 256 → More a name expr v r
+  pub more : a .table .count < 256 → More a name expr v w r

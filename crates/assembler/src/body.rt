@@ -87,7 +87,7 @@ pub fn read_body(contract: &[u8], start: usize, end: usize, a: State) -> State
                             };
                         }
                         table = put(table, name, expr, read.k, read.p);
-                        values = put_value(values, i, read);
+                        values = put_value(contract, name, values, i, read);
                     }
                 }
             }

@@ -84,7 +84,7 @@ pub fn bind_parameters(contract: &[u8], vector: &[u8], start: usize, end: usize,
             end: behind,
         };
         table = put(table, name, expr, read.k, read.p);
-        values = put_value(values, i, read);
+        values = put_value(contract, name, values, i, read);
         at = p.next;
         place += 1;
     }

@@ -1,6 +1,8 @@
 // The state as it is stored: the first one, a refused one, and one binding more in the table.
 ghost use mathlib.Core.Path.{_≡_};
-ghost use Prim.Native.Nat.{_<_};
+ghost use Prim.Native.Nat.{_<_, _≤_};
+ghost use lib.ListN.{length};
+ghost use Rattle.assembler.specs.Part.{part};
 ghost use Rattle.assembler.specs.Held.{isRefused};
 ghost use Rattle.assembler.specs.Stored.{nothingYet, Small, Placed, Put, PutValue, numberIn, isNone, refusedAs};
 use crate::refusal::Refusal;
@@ -11,6 +13,7 @@ use expression::Bindings;
 use expression::Values;
 use expression::figures::Read;
 use expression::figures::Value;
+use expression::names::tag_of;
 use source::parameters::Span;
 
 pub fn started() -> State
@@ -29,6 +32,7 @@ pub fn started() -> State
         value: [0; 256],
         none: [false; 256],
         len: [0; 256],
+        tag: [0; 256],
     };
     State {
         table,
@@ -81,16 +85,17 @@ pub fn put(table: Bindings, name: Span, expr: Span, k: u64, p: u64) -> Bindings
 }
 
 // The same beside the table, at the binding's number. The loops call it with the count that the table had, which is below 256, and with the
-// figures that they gave to `put`.
-pub fn put_value(values: Values, i: usize, read: Read) -> Values
-    requires { ⌜ (i < 256) × Small read ⌝ }
-    ensures { λ r. ⌜ PutValue values i read r ⌝ }
+// figures and the name that they gave to `put`.
+pub fn put_value(text: &[u8], name: Span, values: Values, i: usize, read: Read) -> Values
+    requires { ⌜ (i < 256) × (Small read × ((name .start ≤ name .end) × (name .end ≤ length (now text)))) ⌝ }
+    ensures { λ r. ⌜ PutValue values i read (part (now (text .entry)) (name .start) (name .end)) r ⌝ }
 {
     let mut v = values;
     let value = read.value;
     v.value[i] = number(value);
     v.none[i] = is_none(value);
     v.len[i] = read.len as u32;
+    v.tag[i] = tag_of(text, name.start, name.end - name.start);
     v
 }
 

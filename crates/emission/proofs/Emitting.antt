@@ -101,7 +101,7 @@ module _ {s : List ℕ} {c : Sources} {count end : ℕ} {whole out₀ : List ℕ
       }
 
   -- a factor
-  module _ (g : Going s c count end whole out₀ at out to waiting n i true) {next : FactorAt} (e : next ≡ factorAt s end i count (c .names) (c .lens)) where
+  module _ (g : Going s c count end whole out₀ at out to waiting n i true) {next : FactorAt} (e : next ≡ factorAt s end i count (c .names) (c .lens) (c .tags)) where
     behind : next .end ≡ tokenAt (take end s) i .end
     behind = ap (λ (y : FactorAt). y .end) e
 

@@ -40,15 +40,15 @@ literal-large w e =
     (λ h. clash (simp h at e))
     (λ h. sym (simp h))
 
-module _ (s : List ℕ) (end at count : ℕ) (names lens : List ℕ) (t : Token) (e : t ≡ tokenAt (take end s) at) where
+module _ (s : List ℕ) (end at count : ℕ) (names lens tags : List ℕ) (t : Token) (e : t ≡ tokenAt (take end s) at) where
   behind : t .end ≡ tokenAt (take end s) at .end
   behind = ap (λ (x : Token). x .end) e
 
-  same : {f : Factor} → f ≡ factorOf s count names lens (tokens (drop at (take end s))) → _≡_ {A = FactorAt} (record { factor = f; end = t .end }) (factorAt s end at count names lens)
+  same : {f : Factor} → f ≡ factorOf s count names lens tags (tokens (drop at (take end s))) → _≡_ {A = FactorAt} (record { factor = f; end = t .end }) (factorAt s end at count names lens tags)
   same p = cc (p, behind)
 
-  pub factor-none : t .start ≡ t .end → _≡_ {A = FactorAt} (record { factor = Nothing; end = t .end }) (factorAt s end at count names lens)
-  factor-none h = same (sym (ap (factorOf s count names lens) (none-of (take end s) at t e h)))
+  pub factor-none : t .start ≡ t .end → _≡_ {A = FactorAt} (record { factor = Nothing; end = t .end }) (factorAt s end at count names lens tags)
+  factor-none h = same (sym (ap (factorOf s count names lens tags) (none-of (take end s) at t e h)))
 
   module _ (h : t .start ≡ t .end → ⊥) (i : end ≤ length s) where
     pub token : Next (take end s) at (t .start) (t .end)
@@ -57,8 +57,8 @@ module _ (s : List ℕ) (end at count : ℕ) (names lens : List ℕ) (t : Token)
     abbrev w : List ℕ
     w = tokenFrom (take end s) (t .start)
 
-    by-token : {f : Factor} → f ≡ factorOf s count names lens (w ∷ tokens (drop (t .end) (take end s))) → _≡_ {A = FactorAt} (record { factor = f; end = t .end }) (factorAt s end at count names lens)
-    by-token p = same (p ∙ ap (factorOf s count names lens) (sym (token .list)))
+    by-token : {f : Factor} → f ≡ factorOf s count names lens tags (w ∷ tokens (drop (t .end) (take end s))) → _≡_ {A = FactorAt} (record { factor = f; end = t .end }) (factorAt s end at count names lens tags)
+    by-token p = same (p ∙ ap (factorOf s count names lens tags) (sym (token .list)))
 
     -- the token's bytes stand in the whole text too
     pub token-inside : t .end ≤ end
@@ -74,22 +74,22 @@ module _ (s : List ℕ) (end at count : ℕ) (names lens : List ℕ) (t : Token)
       sign : b ≡ lone w
       sign = l ∙ ap lone (token .bytes)
 
-      pub factor-open : b ≡ 40 → _≡_ {A = FactorAt} (record { factor = Open; end = t .end }) (factorAt s end at count names lens)
+      pub factor-open : b ≡ 40 → _≡_ {A = FactorAt} (record { factor = Open; end = t .end }) (factorAt s end at count names lens tags)
       factor-open q = by-token (sym (simp (eq-eqb (lone w) 40 (sym sign ∙ q))))
 
       module _ (q : b ≡ 40 → ⊥) where
         no-open : lone w ≡ 40 → ⊥
         no-open z = q (sign ∙ z)
 
-        pub factor-literal : digit (getD s (t .start) 0) ≡ true → _≡_ {A = FactorAt} (record { factor = literalOf (digits (drop (t .start) (take end s))); end = t .end }) (factorAt s end at count names lens)
+        pub factor-literal : digit (getD s (t .start) 0) ≡ true → _≡_ {A = FactorAt} (record { factor = literalOf (digits (drop (t .start) (take end s))); end = t .end }) (factorAt s end at count names lens tags)
         factor-literal d =
             let x = next (take end s) (t .start) (t .start + 1) (omega (arith, token .some, token .inside)) refl in
             let y : w ≡ digits (drop (t .start) (take end s)) = digit-token (getD (take end s) (t .start) 0) (ap digit first-byte ∙ d) (drop (t .start + 1) (take end s)) ∙ ap digits (sym x) in
             let a : allDigits w ≡ true = ap allDigits y ∙ digits-all (drop (t .start) (take end s)) in
             by-token (ap literalOf (sym y) ∙ sym (simp (ne-eqb (lone w) 40 no-open, a)))
 
-        pub factor-name : digit (getD s (t .start) 0) ≡ false → (f : Found) → f ≡ found count s names lens (take (t .end - t .start) (drop (t .start) s)) → _≡_ {A = FactorAt} (record { factor = namedBy f; end = t .end }) (factorAt s end at count names lens)
+        pub factor-name : digit (getD s (t .start) 0) ≡ false → (f : Found) → f ≡ found count s names lens tags (take (t .end - t .start) (drop (t .start) s)) → _≡_ {A = FactorAt} (record { factor = namedBy f; end = t .end }) (factorAt s end at count names lens tags)
         factor-name d f g =
             let x = next (take end s) (t .start) (t .start + 1) (omega (arith, token .some, token .inside)) refl in
             let a : allDigits w ≡ false = simp (ap digit first-byte ∙ d) in
-            by-token (ap namedBy (g ∙ ap (found count s names lens) bytes) ∙ sym (simp (ne-eqb (lone w) 40 no-open, a)))
+            by-token (ap namedBy (g ∙ ap (found count s names lens tags) bytes) ∙ sym (simp (ne-eqb (lone w) 40 no-open, a)))

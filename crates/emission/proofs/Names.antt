@@ -2,15 +2,19 @@
 use Prim.Native.Nat.{ℕ, zero, suc, _<_}
 use mathlib.Core.Path.{_≡_, refl, sym, subst, _∙_}
 use mathlib.Core.List.{List}
+use mathlib.Core.Bool.{_&&_}
 use mathlib.Core.Option.{some, none}
 use native.Mathlib.Omega.{arith}
 use borrow.Author.Tests.{le-leb}
+use lib.Dec.{eqb}
+use lib.ListN.{getD}
 use Rattle.byte.proofs.Tests.{by-bool}
 use Rattle.expression.specs.declared.names.Found.{Found}
 use Rattle.expression.specs.declared.names.Found.the-variants.{At, Nothing}
 use Rattle.expression.specs.Parse.{lookup, sameText}
-use Rattle.expression.specs.Table.{called, found}
+use Rattle.expression.specs.Table.{tagOf, called, found}
 use Rattle.expression.specs.Source.{Sources, nameOf, envOf, treeOf, AllStand}
+use Rattle.expression.proofs.Tags.{tag-same}
 
 module _ (s : List ℕ) (c : Sources) (w : List ℕ) where
   abbrev pub Looked : ℕ → Found → Type 0
@@ -21,16 +25,18 @@ module _ (s : List ℕ) (c : Sources) (w : List ℕ) where
   older n (At i) e (l, q) = (omega arith, e ∙ q)
   older n Nothing e q = e ∙ q
 
-  pub looked : (n : ℕ) → AllStand s c n → Looked n (found n s (c .names) (c .lens) w)
+  pub looked : (n : ℕ) → AllStand s c n → Looked n (found n s (c .names) (c .lens) (c .tags) w)
   unfolding found envOf
   looked zero a = refl
   looked (suc n) a =
       let more = looked n (λ i l. a i (omega arith)) in
-      let q : called s (c .names) (c .lens) n w ≡ sameText w (nameOf s c n) = simp (le-leb _ _ (a n (omega arith) .name)) in
+      let x = a n (omega arith) in
+      let l : called s (c .names) (c .lens) (c .tags) n w ≡ (eqb (getD (c .tags) n 0) (tagOf w) && sameText w (nameOf s c n)) = simp (le-leb _ _ (x .name)) in
+      let q : called s (c .names) (c .lens) (c .tags) n w ≡ sameText w (nameOf s c n) = l ∙ tag-same (getD (c .tags) n 0) w (nameOf s c n) (x .tag) in
       by-bool (sameText w (nameOf s c n))
       (λ e.
-      let f : found (suc n) s (c .names) (c .lens) w ≡ At n = rw (q ∙ e, found) in
+      let f : found (suc n) s (c .names) (c .lens) (c .tags) w ≡ At n = rw (q ∙ e, found) in
       subst (Looked (suc n)) (sym f) (omega arith, simp e))
       (λ e.
-      let f : found (suc n) s (c .names) (c .lens) w ≡ found n s (c .names) (c .lens) w = rw (q ∙ e, found) in
-      subst (Looked (suc n)) (sym f) (older n (found n s (c .names) (c .lens) w) (simp e) more))
+      let f : found (suc n) s (c .names) (c .lens) (c .tags) w ≡ found n s (c .names) (c .lens) (c .tags) w = rw (q ∙ e, found) in
+      subst (Looked (suc n)) (sym f) (older n (found n s (c .names) (c .lens) (c .tags) w) (simp e) more))

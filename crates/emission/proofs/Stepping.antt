@@ -62,16 +62,16 @@ module _ (s : List ℕ) (c : Sources) (count : ℕ) (a : AllStand s c count) (ne
       (l, (o', (e ∙ ap (λ (u : Tree). textOf u ++ o') y, g)))
   named w t q o' e g Found.Nothing r = absurd (let z : some t ≡ none = sym q ∙ r in let y : _≡_ {A = ℕ} 0 1 = cc in omega arith)
 
-  factored : (w : List ℕ) (ts : List (List ℕ)) → FactorStep (envOf s c count) next st w o → Factored s c count next st o (factorOf s count (c .names) (c .lens) (w ∷ ts))
+  factored : (w : List ℕ) (ts : List (List ℕ)) → FactorStep (envOf s c count) next st w o → Factored s c count next st o (factorOf s count (c .names) (c .lens) (c .tags) (w ∷ ts))
   factored w ts (opens e l g) =
-      let q : factorOf s count (c .names) (c .lens) (w ∷ ts) ≡ Open = simp (eq-eqb (lone w) 40 e) in
+      let q : factorOf s count (c .names) (c .lens) (c .tags) (w ∷ ts) ≡ Open = simp (eq-eqb (lone w) 40 e) in
       subst (Factored s c count next st o) (sym q) (l, g)
   factored w ts (number n d v o' e g) =
-      let q : factorOf s count (c .names) (c .lens) (w ∷ ts) ≡ Literal (value w) = simp (ne-eqb (lone w) 40 n, d, lt-ltb (value w) (2 ^ 64) v) in
+      let q : factorOf s count (c .names) (c .lens) (c .tags) (w ∷ ts) ≡ Literal (value w) = simp (ne-eqb (lone w) 40 n, d, lt-ltb (value w) (2 ^ 64) v) in
       subst (Factored s c count next st o) (sym q) (o', (e ∙ ap (λ (x : List ℕ). x ++ o') (text-num (value w)), g))
   factored w ts (name n d t l o' e g) =
-      let q : factorOf s count (c .names) (c .lens) (w ∷ ts) ≡ namedBy (found count s (c .names) (c .lens) w) = simp (ne-eqb (lone w) 40 n, d) in
-      subst (Factored s c count next st o) (sym q) (named w t l o' e g (found count s (c .names) (c .lens) w) (looked s c w count a))
+      let q : factorOf s count (c .names) (c .lens) (c .tags) (w ∷ ts) ≡ namedBy (found count s (c .names) (c .lens) (c .tags) w) = simp (ne-eqb (lone w) 40 n, d) in
+      subst (Factored s c count next st o) (sym q) (named w t l o' e g (found count s (c .names) (c .lens) (c .tags) w) (looked s c w count a))
 
 -- from a place of a text on
 module _ (s : List ℕ) (c : Sources) (count : ℕ) (x : List ℕ) (at : ℕ) (st o : List ℕ) where
@@ -87,7 +87,7 @@ module _ (s : List ℕ) (c : Sources) (count : ℕ) (x : List ℕ) (at : ℕ) (s
     pub mark : sign ≡ 41 → 0 < length (left (downTo sign) st)
 
 module _ (s : List ℕ) (c : Sources) (count : ℕ) (a : AllStand s c count) (x : List ℕ) (at : ℕ) (st o : List ℕ) where
-  pub factor-step : Walks (envOf s c count) true st (tokens (drop at x)) o → Factored s c count (onward s c count x at st o) st o (factorOf s count (c .names) (c .lens) (tokens (drop at x)))
+  pub factor-step : Walks (envOf s c count) true st (tokens (drop at x)) o → Factored s c count (onward s c count x at st o) st o (factorOf s count (c .names) (c .lens) (c .tags) (tokens (drop at x)))
   factor-step w =
       let t = tokenAt x at in
       by-leb (t .end) (t .start)

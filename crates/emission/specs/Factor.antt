@@ -22,10 +22,10 @@ namedBy (Found.At i) = Name i
 namedBy Found.Nothing = Nothing
 
 -- the names of the first count bindings stand in the text s
-abbrev pub factorOf : (s : List ℕ) (count : ℕ) (names lens : List ℕ) → List (List ℕ) → Factor
-factorOf s count names lens [] = Nothing
-factorOf s count names lens (w ∷ ts) = cond (eqb (lone w) 40) Open (cond (allDigits w) (literalOf w) (namedBy (found count s names lens w)))
+abbrev pub factorOf : (s : List ℕ) (count : ℕ) (names lens tags : List ℕ) → List (List ℕ) → Factor
+factorOf s count names lens tags [] = Nothing
+factorOf s count names lens tags (w ∷ ts) = cond (eqb (lone w) 40) Open (cond (allDigits w) (literalOf w) (namedBy (found count s names lens tags w)))
 
 -- from a place on, in an expression that ends at a place of the text
-abbrev pub factorAt : (s : List ℕ) (end at count : ℕ) (names lens : List ℕ) → FactorAt
-factorAt s end at count names lens = record { factor = factorOf s count names lens (tokens (drop at (take end s))); end = tokenAt (take end s) at .end }
+abbrev pub factorAt : (s : List ℕ) (end at count : ℕ) (names lens tags : List ℕ) → FactorAt
+factorAt s end at count names lens tags = record { factor = factorOf s count names lens tags (tokens (drop at (take end s))); end = tokenAt (take end s) at .end }

@@ -34,9 +34,10 @@ pub fn factor_at<'a>(
     count: usize,
     names: &'a [u16; 256],
     lens: &'a [u16; 256],
+    tags: &'a [u8; 256],
 ) -> FactorAt
     requires { ⌜ (end ≤ length (now text)) × (count ≤ 256) ⌝ }
-    ensures { λ r. ⌜ r ≡ factorAt (now (text .entry)) end at count (now (names .entry)) (now (lens .entry)) ⌝ }
+    ensures { λ r. ⌜ r ≡ factorAt (now (text .entry)) end at count (now (names .entry)) (now (lens .entry)) (now (tags .entry)) ⌝ }
 {
     let expression = &text[..end];
     let token = token_at(expression, at);
@@ -60,7 +61,7 @@ pub fn factor_at<'a>(
             end: behind,
         };
     }
-    let found = lookup(text, first, behind - first, count, names, lens);
+    let found = lookup(text, first, behind - first, count, names, lens, tags);
     FactorAt {
         factor: named(found),
         end: behind,

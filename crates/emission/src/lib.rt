@@ -47,6 +47,7 @@ pub fn emit(
         count,
         &table.name_start,
         &table.name_len,
+        &values.tag,
         &table.expr_start,
         &table.expr_len,
         &values.value,
@@ -65,6 +66,7 @@ fn expression<'a>(
     count: usize,
     names: &'a [u16; 256],
     lens: &'a [u16; 256],
+    tags: &'a [u8; 256],
     starts: &'a [u16; 256],
     sizes: &'a [u16; 256],
     values: &'a [u64; 256],
@@ -73,11 +75,11 @@ fn expression<'a>(
     places: &mut [usize; 256],
     lengths: &mut [usize; 256],
 ) -> usize
-    requires { ⌜ Means (now text) (sourcesOf (now names) (now lens) (now starts) (now sizes) (now values)) count start end ⌝ }
-    requires { ⌜ at + length (textOf (treeBetween (now text) (sourcesOf (now names) (now lens) (now starts) (now sizes) (now values)) count start end)) ≤ length (now out) ⌝ }
-    requires { ⌜ Kept (now text) (sourcesOf (now names) (now lens) (now starts) (now sizes) (now values)) (now out) at (now places) (now lengths) ⌝ }
-    ensures wrote { λ r. ⌜ Put (now (out .entry)) at (textOf (treeBetween (now (text .entry)) (sourcesOf (now (names .entry)) (now (lens .entry)) (now (starts .entry)) (now (sizes .entry)) (now (values .entry))) count start end)) (now (out .exit)) r ⌝ }
-    ensures keeps { λ r. ⌜ Kept (now (text .entry)) (sourcesOf (now (names .entry)) (now (lens .entry)) (now (starts .entry)) (now (sizes .entry)) (now (values .entry))) (now (out .exit)) r (now (places .exit)) (now (lengths .exit)) ⌝ }
+    requires { ⌜ Means (now text) (sourcesOf (now names) (now lens) (now tags) (now starts) (now sizes) (now values)) count start end ⌝ }
+    requires { ⌜ at + length (textOf (treeBetween (now text) (sourcesOf (now names) (now lens) (now tags) (now starts) (now sizes) (now values)) count start end)) ≤ length (now out) ⌝ }
+    requires { ⌜ Kept (now text) (sourcesOf (now names) (now lens) (now tags) (now starts) (now sizes) (now values)) (now out) at (now places) (now lengths) ⌝ }
+    ensures wrote { λ r. ⌜ Put (now (out .entry)) at (textOf (treeBetween (now (text .entry)) (sourcesOf (now (names .entry)) (now (lens .entry)) (now (tags .entry)) (now (starts .entry)) (now (sizes .entry)) (now (values .entry))) count start end)) (now (out .exit)) r ⌝ }
+    ensures keeps { λ r. ⌜ Kept (now (text .entry)) (sourcesOf (now (names .entry)) (now (lens .entry)) (now (tags .entry)) (now (starts .entry)) (now (sizes .entry)) (now (values .entry))) (now (out .exit)) r (now (places .exit)) (now (lengths .exit)) ⌝ }
 {
     let mut waiting = [0u8; 194];
     let mut n: usize = 0;
@@ -86,7 +88,7 @@ fn expression<'a>(
     let mut to = at;
     while i < end {
         if due {
-            let next = factor_at(text, end, i, count, names, lens);
+            let next = factor_at(text, end, i, count, names, lens, tags);
             let factor = next.factor;
             i = next.end;
             match factor {
@@ -104,6 +106,7 @@ fn expression<'a>(
                         b,
                         names,
                         lens,
+                        tags,
                         starts,
                         sizes,
                         values,
@@ -136,6 +139,7 @@ fn binding<'a>(
     b: usize,
     names: &'a [u16; 256],
     lens: &'a [u16; 256],
+    tags: &'a [u8; 256],
     starts: &'a [u16; 256],
     sizes: &'a [u16; 256],
     values: &'a [u64; 256],
@@ -144,11 +148,11 @@ fn binding<'a>(
     places: &mut [usize; 256],
     lengths: &mut [usize; 256],
 ) -> usize
-    requires { ⌜ (b < 256) × AllStand (now text) (sourcesOf (now names) (now lens) (now starts) (now sizes) (now values)) (b + 1) ⌝ }
-    requires { ⌜ at + length (textOf (treeOf (now text) (sourcesOf (now names) (now lens) (now starts) (now sizes) (now values)) b)) ≤ length (now out) ⌝ }
-    requires { ⌜ Kept (now text) (sourcesOf (now names) (now lens) (now starts) (now sizes) (now values)) (now out) at (now places) (now lengths) ⌝ }
-    ensures wrote { λ r. ⌜ Put (now (out .entry)) at (textOf (treeOf (now (text .entry)) (sourcesOf (now (names .entry)) (now (lens .entry)) (now (starts .entry)) (now (sizes .entry)) (now (values .entry))) b)) (now (out .exit)) r ⌝ }
-    ensures keeps { λ r. ⌜ Kept (now (text .entry)) (sourcesOf (now (names .entry)) (now (lens .entry)) (now (starts .entry)) (now (sizes .entry)) (now (values .entry))) (now (out .exit)) r (now (places .exit)) (now (lengths .exit)) ⌝ }
+    requires { ⌜ (b < 256) × AllStand (now text) (sourcesOf (now names) (now lens) (now tags) (now starts) (now sizes) (now values)) (b + 1) ⌝ }
+    requires { ⌜ at + length (textOf (treeOf (now text) (sourcesOf (now names) (now lens) (now tags) (now starts) (now sizes) (now values)) b)) ≤ length (now out) ⌝ }
+    requires { ⌜ Kept (now text) (sourcesOf (now names) (now lens) (now tags) (now starts) (now sizes) (now values)) (now out) at (now places) (now lengths) ⌝ }
+    ensures wrote { λ r. ⌜ Put (now (out .entry)) at (textOf (treeOf (now (text .entry)) (sourcesOf (now (names .entry)) (now (lens .entry)) (now (tags .entry)) (now (starts .entry)) (now (sizes .entry)) (now (values .entry))) b)) (now (out .exit)) r ⌝ }
+    ensures keeps { λ r. ⌜ Kept (now (text .entry)) (sourcesOf (now (names .entry)) (now (lens .entry)) (now (tags .entry)) (now (starts .entry)) (now (sizes .entry)) (now (values .entry))) (now (out .exit)) r (now (places .exit)) (now (lengths .exit)) ⌝ }
 {
     let length = lengths[b];
     if 0 < length {
@@ -166,6 +170,7 @@ fn binding<'a>(
         b,
         names,
         lens,
+        tags,
         starts,
         sizes,
         values,

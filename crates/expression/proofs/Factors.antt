@@ -157,7 +157,7 @@ module _ {s : List ℕ} {at : ℕ} (c : Columns) {start end : ℕ} (n : Next s a
         let q : tokenFrom s start ≡ digits (drop start s) = digit-token (getD s start 0) e (drop (start + 1) s) ∙ ap digits (sym x) in
         subst (λ (w : List ℕ). Meets s at c factor d (literalRead w start)) q (literal-token (ap allDigits q ∙ digits-all (drop start s)))
 
-    pub name-meets : digit (getD s start 0) ≡ false → (f : Found) → found (c .count) s (c .names) (c .lens) (take (end - start) (drop start s)) ≡ f → AllFit (nameRead c end f) → Meets s at c factor d (nameRead c end f)
+    pub name-meets : digit (getD s start 0) ≡ false → (f : Found) → found (c .count) s (c .names) (c .lens) (c .tags) (take (end - start) (drop start s)) ≡ f → AllFit (nameRead c end f) → Meets s at c factor d (nameRead c end f)
     name-meets e Nothing q a = record {
       fine = tt;
       means = λ env h.

@@ -1,5 +1,6 @@
 pub mod Steps
 pub mod Grammar
+pub mod Tags
 pub mod Lookup
 pub mod Signs
 pub mod Atoms

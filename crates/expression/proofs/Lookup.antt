@@ -14,7 +14,8 @@ use Rattle.byte.proofs.Parts.{next}
 use Rattle.expression.specs.declared.names.Found.{Found}
 use Rattle.expression.specs.declared.names.Found.the-variants.{At, Nothing}
 use Rattle.expression.specs.Parse.{Binding, Env, sameText, lookup}
-use Rattle.expression.specs.Table.{Columns, entryAt, Tells, Told, called, found}
+use Rattle.expression.specs.Table.{Columns, entryAt, Tells, Told, tagOf, called, found}
+use Rattle.expression.proofs.Tags.{tag-same}
 
 part : (s : List ℕ) (a n i : ℕ) → i < n → a + n ≤ length s → take (n - i) (drop (a + i) s) ≡ getD s (a + i) 0 ∷ take (n - (i + 1)) (drop (a + (i + 1)) s)
 part s a n i h g =
@@ -69,32 +70,39 @@ module _ (s : List ℕ) (start len a n : ℕ) where
   pub name-same : a + n ≤ length s → n ≡ len → sameText (take len (drop start s)) (take len (drop a s)) ≡ isName s start len a n
   name-same h e = sym (simp (le-leb (a + n) (length s) h) (ap (λ (m : ℕ). sameText (take len (drop start s)) (take m (drop a s))) e))
 
-pub called-by : (s names lens : List ℕ) (start len i : ℕ) {a n : ℕ} {r : Bool} → a ≡ getD names i 0 → n ≡ getD lens i 0 → r ≡ isName s start len a n → called s names lens i (take len (drop start s)) ≡ r
-called-by s names lens start len i p q e = cc
+-- binding i by its tag, and by its name where it has the tag
+module _ (s names lens tags : List ℕ) (start len i : ℕ) {t : ℕ} (g : t ≡ tagOf (take len (drop start s))) where
+  pub called-other : (getD tags i 0 ≡ t → ⊥) → false ≡ called s names lens tags i (take len (drop start s))
+  called-other h = sym (simp (ne-eqb (getD tags i 0) (tagOf (take len (drop start s))) (λ x. h (x ∙ sym g))))
+
+  pub called-by : {a n : ℕ} {r : Bool} → getD tags i 0 ≡ t → a ≡ getD names i 0 → n ≡ getD lens i 0 → r ≡ isName s start len a n → r ≡ called s names lens tags i (take len (drop start s))
+  called-by {a} {n} {r} h p q e =
+      let x : r ≡ isName s start len (getD names i 0) (getD lens i 0) = cc in
+      x ∙ sym (simp (eq-eqb (getD tags i 0) (tagOf (take len (drop start s))) (h ∙ g)))
 
 -- the newest binding, from the last on
-module _ (s names lens w : List ℕ) (n : ℕ) (h : 0 < n) where
+module _ (s names lens tags w : List ℕ) (n : ℕ) (h : 0 < n) where
   one-less : n ≡ suc (n - 1)
   one-less = omega arith
 
-  pub found-here : called s names lens (n - 1) w ≡ true → found n s names lens w ≡ At (n - 1)
+  pub found-here : called s names lens tags (n - 1) w ≡ true → found n s names lens tags w ≡ At (n - 1)
   unfolding found
-  found-here e = ap (λ (x : ℕ). found x s names lens w) one-less ∙ rw (e, found)
+  found-here e = ap (λ (x : ℕ). found x s names lens tags w) one-less ∙ rw (e, found)
 
-  pub found-older : called s names lens (n - 1) w ≡ false → found n s names lens w ≡ found (n - 1) s names lens w
+  pub found-older : called s names lens tags (n - 1) w ≡ false → found n s names lens tags w ≡ found (n - 1) s names lens tags w
   unfolding found
-  found-older e = ap (λ (x : ℕ). found x s names lens w) one-less ∙ rw (e, found)
+  found-older e = ap (λ (x : ℕ). found x s names lens tags w) one-less ∙ rw (e, found)
 
-pub found-none : (s names lens w : List ℕ) (n : ℕ) → n ≤ 0 → found n s names lens w ≡ Nothing
+pub found-none : (s names lens tags w : List ℕ) (n : ℕ) → n ≤ 0 → found n s names lens tags w ≡ Nothing
 unfolding found
-found-none s names lens w n h = let e : n ≡ 0 = omega arith in ap (λ (x : ℕ). found x s names lens w) e
+found-none s names lens tags w n h = let e : n ≡ 0 = omega arith in ap (λ (x : ℕ). found x s names lens tags w) e
 
-pub found-below : (s names lens w : List ℕ) (n i : ℕ) → found n s names lens w ≡ At i → i < n
+pub found-below : (s names lens tags w : List ℕ) (n i : ℕ) → found n s names lens tags w ≡ At i → i < n
 unfolding found
-found-below s names lens w zero i e = absurd (let z : _≡_ {A = ℕ} 0 1 = cc in omega arith)
-found-below s names lens w (suc n) i e =
-    let more = found-below s names lens w n i in
-    by-bool (called s names lens n w)
+found-below s names lens tags w zero i e = absurd (let z : _≡_ {A = ℕ} 0 1 = cc in omega arith)
+found-below s names lens tags w (suc n) i e =
+    let more = found-below s names lens tags w n i in
+    by-bool (called s names lens tags n w)
     (λ t. let p : At n ≡ At i = sym (rw (t, found)) ∙ e in let q : n ≡ i = cc in omega arith)
     (λ t. let m = more (sym (rw (t, found)) ∙ e) in omega arith)
 
@@ -103,14 +111,16 @@ abbrev pub Looked : List ℕ → Columns → Env → List ℕ → Found → Type
 Looked s c env w (At i) = (b : Binding) × (Tells s (entryAt c i) b × (lookup w env ≡ some (b .tree)))
 Looked s c env w Nothing = lookup w env ≡ none
 
-called-as : (s : List ℕ) (c : Columns) (i : ℕ) (b : Binding) (w : List ℕ) → Tells s (entryAt c i) b → called s (c .names) (c .lens) i w ≡ sameText w (b .name)
-called-as s c i b w t = simp (le-leb _ _ (t .inside)) (ap (sameText w) (sym (t .name)))
+called-as : (s : List ℕ) (c : Columns) (i : ℕ) (b : Binding) (w : List ℕ) → Tells s (entryAt c i) b → called s (c .names) (c .lens) (c .tags) i w ≡ sameText w (b .name)
+called-as s c i b w t =
+    let l : called s (c .names) (c .lens) (c .tags) i w ≡ (eqb (getD (c .tags) i 0) (tagOf w) && sameText w (take (getD (c .lens) i 0) (drop (getD (c .names) i 0) s))) = ap (λ (x : Bool). eqb (getD (c .tags) i 0) (tagOf w) && (x && sameText w (take (getD (c .lens) i 0) (drop (getD (c .names) i 0) s)))) (le-leb _ _ (t .inside)) in
+    l ∙ ap (λ (n : List ℕ). eqb (getD (c .tags) i 0) (tagOf w) && sameText w n) (sym (t .name)) ∙ tag-same (getD (c .tags) i 0) w (b .name) (t .tag)
 
 older : (s : List ℕ) (c : Columns) (env env′ : Env) (w : List ℕ) (r : Found) → lookup w env′ ≡ lookup w env → Looked s c env w r → Looked s c env′ w r
 older s c env env′ w (At i) e (b, (t, q)) = (b, (t, e ∙ q))
 older s c env env′ w Nothing e q = e ∙ q
 
-pub looked : (s : List ℕ) (c : Columns) (n : ℕ) (env : Env) (w : List ℕ) → Told s c n env → Looked s c env w (found n s (c .names) (c .lens) w)
+pub looked : (s : List ℕ) (c : Columns) (n : ℕ) (env : Env) (w : List ℕ) → Told s c n env → Looked s c env w (found n s (c .names) (c .lens) (c .tags) w)
 unfolding found
 looked s c zero [] w t = refl
 looked s c zero (b ∷ env) w t = absurd t
@@ -119,7 +129,7 @@ looked s c (suc n) (b ∷ env) w (tells, told) =
     let more = looked s c n env w told in
     let q = called-as s c n b w tells in
     by-bool (sameText w (b .name))
-    (λ e. let f : found (suc n) s (c .names) (c .lens) w ≡ At n = rw (q ∙ e, found) in
+    (λ e. let f : found (suc n) s (c .names) (c .lens) (c .tags) w ≡ At n = rw (q ∙ e, found) in
     subst (Looked s c (b ∷ env) w) (sym f) (b, (tells, simp e)))
-    (λ e. let f : found (suc n) s (c .names) (c .lens) w ≡ found n s (c .names) (c .lens) w = rw (q ∙ e, found) in
-    subst (Looked s c (b ∷ env) w) (sym f) (older s c env (b ∷ env) w (found n s (c .names) (c .lens) w) (simp e) more))
+    (λ e. let f : found (suc n) s (c .names) (c .lens) (c .tags) w ≡ found n s (c .names) (c .lens) (c .tags) w = rw (q ∙ e, found) in
+    subst (Looked s c (b ∷ env) w) (sym f) (older s c env (b ∷ env) w (found n s (c .names) (c .lens) (c .tags) w) (simp e) more))

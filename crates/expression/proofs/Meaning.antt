@@ -39,7 +39,7 @@ figures-said f = cc (f .k, f .p, f .value, f .len)
 
 -- the same columns with another count
 abbrev recount : ℕ → Columns → Columns
-recount n c = columnsOf n (c .names) (c .lens) (c .ks) (c .ps) (c .values) (c .nones) (c .sizes)
+recount n c = columnsOf n (c .names) (c .lens) (c .tags) (c .ks) (c .ps) (c .values) (c .nones) (c .sizes)
 
 told-recount : (s : List ℕ) (c : Columns) (n m : ℕ) (env : Env) → Told s c m env → Told s (recount n c) m env
 told-recount s c n zero [] h = tt

@@ -8,21 +8,23 @@ use lib.ListN.{length, getD, take, drop}
 use Rattle.expression.specs.declared.Bindings.{Bindings}
 use Rattle.expression.specs.declared.Values.{Values}
 use Rattle.expression.specs.Tree.{Tree, num}
+use Rattle.expression.specs.Table.{tagOf}
 use Rattle.expression.specs.Parse.{Env, Meaning, tree, wrong, meaning}
 
--- where names start and their lengths, where expressions start and their lengths, the values; oldest first
+-- where names start, their lengths and tags, where expressions start and their lengths, the values; oldest first
 pub record Sources : Type 0 where
   pub names : List ℕ
   pub lens : List ℕ
+  pub tags : List ℕ
   pub starts : List ℕ
   pub sizes : List ℕ
   pub values : List ℕ
 
-abbrev pub sourcesOf : List ℕ → List ℕ → List ℕ → List ℕ → List ℕ → Sources
-sourcesOf names lens starts sizes values = record { names = names; lens = lens; starts = starts; sizes = sizes; values = values }
+abbrev pub sourcesOf : List ℕ → List ℕ → List ℕ → List ℕ → List ℕ → List ℕ → Sources
+sourcesOf names lens tags starts sizes values = record { names = names; lens = lens; tags = tags; starts = starts; sizes = sizes; values = values }
 
 abbrev pub sources : Bindings → Values → Sources
-sources b v = sourcesOf (b .«name_start») (b .«name_len») (b .«expr_start») (b .«expr_len») (v .value)
+sources b v = sourcesOf (b .«name_start») (b .«name_len») (v .tag) (b .«expr_start») (b .«expr_len») (v .value)
 
 -- the tree of what means one
 abbrev pub treeIn : Meaning → Tree
@@ -51,6 +53,7 @@ module _ (s : List ℕ) (c : Sources) where
   -- binding i stands in the text, and its expression, if it has one, means a tree
   pub record Stands (i : ℕ) : Type 0 where
     pub name : getD (c .names) i 0 + getD (c .lens) i 0 ≤ length s
+    pub tag : getD (c .tags) i 0 ≡ tagOf (nameOf i)
     pub inside : getD (c .starts) i 0 + getD (c .sizes) i 0 ≤ length s
     pub means : 0 < getD (c .sizes) i 0 → meaning (envOf i) (expressionOf i) ≡ tree (treeOf i)
 

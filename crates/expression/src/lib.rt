@@ -44,6 +44,7 @@ pub struct Values {
     pub value: [u64; 256],
     pub none: [bool; 256],
     pub len: [u32; 256],
+    pub tag: [u8; 256],
 }
 
 pub enum ExprError {
@@ -99,6 +100,7 @@ pub fn parse(text: &[u8], at: usize, table: Bindings, values: Values) -> Parsed
         count,
         &table.name_start,
         &table.name_len,
+        &values.tag,
         &table.k,
         &table.p,
         &values.value,
@@ -124,6 +126,7 @@ fn expression<'a>(
     count: usize,
     names: &'a [u16; 256],
     lens: &'a [u16; 256],
+    tags: &'a [u8; 256],
     ks: &'a [u16; 256],
     ps: &'a [u16; 256],
     values: &'a [u64; 256],
@@ -131,7 +134,7 @@ fn expression<'a>(
     sizes: &'a [u32; 256],
 ) -> Parsed
     requires { ⌜ Ready (now text) count ⌝ }
-    ensures { λ r. ⌜ Meets (now (text .entry)) at (columnsOf count (now (names .entry)) (now (lens .entry)) (now (ks .entry)) (now (ps .entry)) (now (values .entry)) (now (nones .entry)) (now (sizes .entry))) expression room r ⌝ }
+    ensures { λ r. ⌜ Meets (now (text .entry)) at (columnsOf count (now (names .entry)) (now (lens .entry)) (now (tags .entry)) (now (ks .entry)) (now (ps .entry)) (now (values .entry)) (now (nones .entry)) (now (sizes .entry))) expression room r ⌝ }
 {
     match term(
         text,
@@ -140,6 +143,7 @@ fn expression<'a>(
         count,
         names,
         lens,
+        tags,
         ks,
         ps,
         values,
@@ -158,6 +162,7 @@ fn expression<'a>(
                     count,
                     names,
                     lens,
+                    tags,
                     ks,
                     ps,
                     values,
@@ -186,6 +191,7 @@ fn term<'a>(
     count: usize,
     names: &'a [u16; 256],
     lens: &'a [u16; 256],
+    tags: &'a [u8; 256],
     ks: &'a [u16; 256],
     ps: &'a [u16; 256],
     values: &'a [u64; 256],
@@ -193,7 +199,7 @@ fn term<'a>(
     sizes: &'a [u32; 256],
 ) -> Parsed
     requires { ⌜ Ready (now text) count ⌝ }
-    ensures { λ r. ⌜ Meets (now (text .entry)) at (columnsOf count (now (names .entry)) (now (lens .entry)) (now (ks .entry)) (now (ps .entry)) (now (values .entry)) (now (nones .entry)) (now (sizes .entry))) term room r ⌝ }
+    ensures { λ r. ⌜ Meets (now (text .entry)) at (columnsOf count (now (names .entry)) (now (lens .entry)) (now (tags .entry)) (now (ks .entry)) (now (ps .entry)) (now (values .entry)) (now (nones .entry)) (now (sizes .entry))) term room r ⌝ }
 {
     match factor(
         text,
@@ -202,6 +208,7 @@ fn term<'a>(
         count,
         names,
         lens,
+        tags,
         ks,
         ps,
         values,
@@ -220,6 +227,7 @@ fn term<'a>(
                     count,
                     names,
                     lens,
+                    tags,
                     ks,
                     ps,
                     values,
@@ -248,6 +256,7 @@ fn factor<'a>(
     count: usize,
     names: &'a [u16; 256],
     lens: &'a [u16; 256],
+    tags: &'a [u8; 256],
     ks: &'a [u16; 256],
     ps: &'a [u16; 256],
     values: &'a [u64; 256],
@@ -255,7 +264,7 @@ fn factor<'a>(
     sizes: &'a [u32; 256],
 ) -> Parsed
     requires { ⌜ Ready (now text) count ⌝ }
-    ensures { λ r. ⌜ Meets (now (text .entry)) at (columnsOf count (now (names .entry)) (now (lens .entry)) (now (ks .entry)) (now (ps .entry)) (now (values .entry)) (now (nones .entry)) (now (sizes .entry))) factor room r ⌝ }
+    ensures { λ r. ⌜ Meets (now (text .entry)) at (columnsOf count (now (names .entry)) (now (lens .entry)) (now (tags .entry)) (now (ks .entry)) (now (ps .entry)) (now (values .entry)) (now (nones .entry)) (now (sizes .entry))) factor room r ⌝ }
 {
     let token = token_at(text, at);
     let start = token.start;
@@ -274,6 +283,7 @@ fn factor<'a>(
             count,
             names,
             lens,
+            tags,
             ks,
             ps,
             values,
@@ -294,6 +304,7 @@ fn factor<'a>(
         count,
         names,
         lens,
+        tags,
         ks,
         ps,
         values,

@@ -45,6 +45,7 @@ pub fn name<'a>(
     count: usize,
     names: &'a [u16; 256],
     lens: &'a [u16; 256],
+    tags: &'a [u8; 256],
     ks: &'a [u16; 256],
     ps: &'a [u16; 256],
     values: &'a [u64; 256],
@@ -53,9 +54,9 @@ pub fn name<'a>(
 ) -> Parsed
     requires { ⌜ (count ≤ 256) × ((start < end) × (end ≤ length (now text))) ⌝ }
     ensures fits { λ r. ⌜ AllFit r ⌝ }
-    ensures same { λ r. ⌜ r ≡ nameRead (columnsOf count (now (names .entry)) (now (lens .entry)) (now (ks .entry)) (now (ps .entry)) (now (values .entry)) (now (nones .entry)) (now (sizes .entry))) end (found count (now (text .entry)) (now (names .entry)) (now (lens .entry)) (take (end - start) (drop start (now (text .entry))))) ⌝ }
+    ensures same { λ r. ⌜ r ≡ nameRead (columnsOf count (now (names .entry)) (now (lens .entry)) (now (tags .entry)) (now (ks .entry)) (now (ps .entry)) (now (values .entry)) (now (nones .entry)) (now (sizes .entry))) end (found count (now (text .entry)) (now (names .entry)) (now (lens .entry)) (now (tags .entry)) (take (end - start) (drop start (now (text .entry))))) ⌝ }
 {
-    match lookup(text, start, end - start, count, names, lens) {
+    match lookup(text, start, end - start, count, names, lens, tags) {
         Found::Nothing => Parsed::Refused(ExprError::UnknownIdentifier),
         Found::At(i) => Parsed::Done(bound(i, end, ks, ps, values, nones, sizes)),
     }
@@ -73,7 +74,7 @@ fn bound<'a>(
 ) -> Read
     requires { ⌜ i < 256 ⌝ }
     ensures fits { λ r. ⌜ Fits r ⌝ }
-    ensures same { λ r. ⌜ r ≡ boundRead (entryAt (columnsOf 256 [] [] (now (ks .entry)) (now (ps .entry)) (now (values .entry)) (now (nones .entry)) (now (sizes .entry))) i) end ⌝ }
+    ensures same { λ r. ⌜ r ≡ boundRead (entryAt (columnsOf 256 [] [] [] (now (ks .entry)) (now (ps .entry)) (now (values .entry)) (now (nones .entry)) (now (sizes .entry))) i) end ⌝ }
 {
     Read {
         next: end,

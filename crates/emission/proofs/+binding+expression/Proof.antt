@@ -159,11 +159,11 @@ binding-returns-3 t c =
     (p, kept-mark _ (e .1) p (q .1 .0) (q .0 .0))
 
 abbrev expression-Inv-loop : expression-lts.InvT-loop
-expression-Inv-loop text start end count names lens starts sizes values out₀ at places₀ lengths₀ waiting₀ n₀ due₀ i₀ to₀ out places lengths waiting n due i to =
-    Running text (sourcesOf names lens starts sizes values) count start end out₀ at out to waiting n i due places lengths
+expression-Inv-loop text start end count names lens tags starts sizes values out₀ at places₀ lengths₀ waiting₀ n₀ due₀ i₀ to₀ out places lengths waiting n due i to =
+    Running text (sourcesOf names lens tags starts sizes values) count start end out₀ at out to waiting n i due places lengths
 
 abbrev expression-μ-loop : expression-lts.MeasureT-loop
-expression-μ-loop text start end count names lens starts sizes values out₀ at places₀ lengths₀ waiting₀ n₀ due₀ i₀ to₀ out places lengths waiting n due i to = end - i
+expression-μ-loop text start end count names lens tags starts sizes values out₀ at places₀ lengths₀ waiting₀ n₀ due₀ i₀ to₀ out places lengths waiting n due i to = end - i
 
 expression-loop-holds : (t : ℕ) → expression-lts.Need-loop-holds (E t) (expression-at t) expression.Post expression-Inv-loop expression-μ-loop
 expression-loop-holds t c =

@@ -7,8 +7,8 @@ use Rattle.emission.proofs.emit.Tie as tie
 
 expression-requires : tie.Need-expression-requires
 expression-requires c κs =
-    let a = c .before .before .before .before .before .before .before .before .before .before .before .before .args in
-    let q = c .before .before .before .before .before .before .before .before .before .before .before .before .pre in
+    let a = c .before .before .before .before .before .before .before .before .before .before .before .before .before .args in
+    let q = c .before .before .before .before .before .before .before .before .before .before .before .before .before .pre in
     (q .0, (q .1, kept-none (a .text .now) _ (a .out .now) (a .at) _ refl))
 
 same-length : tie.Need-same-length

@@ -74,10 +74,10 @@ abbrev T : ℕ → term-lts.Claims
 T t = (factor-below t, factor.Post, sign-at-reads.Asked, sign-at-reads.Learnt, is-product-reads.Asked, is-product-reads.Learnt, join-reads.Asked, join-reads.Learnt)
 
 abbrev expression-Inv-loop : expression-lts.InvT-loop
-expression-Inv-loop text at room count names lens ks ps values nones sizes left₀ sign₀ left sign = Going text at (columnsOf count names lens ks ps values nones sizes) 1 room left × (sign ≡ signAt text (left .next))
+expression-Inv-loop text at room count names lens tags ks ps values nones sizes left₀ sign₀ left sign = Going text at (columnsOf count names lens tags ks ps values nones sizes) 1 room left × (sign ≡ signAt text (left .next))
 
 abbrev expression-μ-loop : expression-lts.MeasureT-loop
-expression-μ-loop text at room count names lens ks ps values nones sizes left₀ sign₀ left sign = length text - left .next
+expression-μ-loop text at room count names lens tags ks ps values nones sizes left₀ sign₀ left sign = length text - left .next
 
 expression-term-requires : (t : ℕ) → expression-lts.Need-term-requires (E t) (expression-at t) expression.Post expression-Inv-loop expression-μ-loop
 expression-term-requires t c κs = search needs
@@ -196,10 +196,10 @@ factor-returns-6 : (t : ℕ) → factor-lts.Need-returns-6 (F t) (factor-at t) f
 factor-returns-6 t c = let e = c .name .ensures in carry (sym (e .1)) (name-meets _ (factor-token t (c .before .before .before .before .before .before)) _ (factor-no-opens t (c .before .before .before .before)) (sym (c .before .before .is-digit .ensures) ∙ c .before .if4 .left) _ refl (subst AllFit (e .1) (e .0)))
 
 abbrev term-Inv-loop : term-lts.InvT-loop
-term-Inv-loop text at room count names lens ks ps values nones sizes left₀ sign₀ left sign = Going text at (columnsOf count names lens ks ps values nones sizes) 0 room left × (sign ≡ signAt text (left .next))
+term-Inv-loop text at room count names lens tags ks ps values nones sizes left₀ sign₀ left sign = Going text at (columnsOf count names lens tags ks ps values nones sizes) 0 room left × (sign ≡ signAt text (left .next))
 
 abbrev term-μ-loop : term-lts.MeasureT-loop
-term-μ-loop text at room count names lens ks ps values nones sizes left₀ sign₀ left sign = length text - left .next
+term-μ-loop text at room count names lens tags ks ps values nones sizes left₀ sign₀ left sign = length text - left .next
 
 term-factor-requires : (t : ℕ) → term-lts.Need-factor-requires (T t) (term-at t) term.Post term-Inv-loop term-μ-loop
 term-factor-requires t c κs = search needs

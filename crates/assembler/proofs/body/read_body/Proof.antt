@@ -10,7 +10,7 @@ use Rattle.assembler.specs.Part.{part}
 use Rattle.assembler.specs.Body.{lineRead}
 use Rattle.assembler.proofs.Coming.{turn-first, turn-done}
 use Rattle.assembler.proofs.BodyLines.{linesFrom, all-lines, lines-done, lines-end}
-use Rattle.assembler.proofs.Reading.{Lines, line-within, line-less, skipped-next, no-equals-off, let-part, let-off, let-fit, let-next, let-full, return-part, return-off, return-next}
+use Rattle.assembler.proofs.Reading.{Lines, line-within, line-less, skipped-next, no-equals-off, let-part, let-off, let-name, let-fit, let-next, let-full, return-part, return-off, return-next}
 use Rattle.assembler.proofs.Meeting.{Meeting, met-first, met-done, met-next, met-let, met-return, met-off}
 use borrow.Author.Needs.{needs}
 use Rattle.assembler.proofs.body.read_body.Statement.{statement}
@@ -114,7 +114,7 @@ put-requires c κs =
 put-value-requires : tie.Need-put-value-requires Inv-loop μ-loop
 put-value-requires c κs =
     let a = c .before .before .before .before .before .before .before .before .before .before .before .before .before .before .before .before .before .before .before .before in
-    (omega arith, let-fit (a .pre .0) (a .pre .1) (c .before .before .before .before .before .before .before .before .before .before .before .before .before .before .before .before .loop .inv .0) (sym (c .before .before .before .before .before .before .before .before .before .before .before .before .before .line-at .ensures) ∙ c .before .before .before .before .before .before .before .before .before .before .before .step .given .1) (sym (c .before .before .before .before .before .before .before .statement .given .1) ∙ c .before .before .before .before .before .before .before .before .before .statement-at .ensures) (c .before .before .before .before .before .check .ensures .0) (c .before .before .before .checked2 .given .1) .1 .1)
+    (omega arith, (let-fit (a .pre .0) (a .pre .1) (c .before .before .before .before .before .before .before .before .before .before .before .before .before .before .before .before .loop .inv .0) (sym (c .before .before .before .before .before .before .before .before .before .before .before .before .before .line-at .ensures) ∙ c .before .before .before .before .before .before .before .before .before .before .before .step .given .1) (sym (c .before .before .before .before .before .before .before .statement .given .1) ∙ c .before .before .before .before .before .before .before .before .before .statement-at .ensures) (c .before .before .before .before .before .check .ensures .0) (c .before .before .before .checked2 .given .1) .1 .1, let-name (a .pre .0) (a .pre .1) (c .before .before .before .before .before .before .before .before .before .before .before .before .before .before .before .before .loop .inv .0) (sym (c .before .before .before .before .before .before .before .before .before .before .before .before .before .line-at .ensures) ∙ c .before .before .before .before .before .before .before .before .before .before .before .step .given .1) (sym (c .before .before .before .before .before .before .before .statement .given .1) ∙ c .before .before .before .before .before .before .before .before .before .statement-at .ensures)))
 
 loop-less-2 : tie.Need-loop-less-2 Inv-loop μ-loop
 loop-less-2 c =

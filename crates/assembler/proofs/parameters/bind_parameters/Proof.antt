@@ -104,7 +104,10 @@ put-requires c κs =
 
 put-value-requires : tie.Need-put-value-requires Inv-loop μ-loop
 put-value-requires c κs =
-    (omega arith, c .before .before .literal .ensures .1)
+    let a = c .before .before .before .before .before .before .before .before .before .before .before .before .before .before .before .before .before .before in
+    let s = now (a .args .contract) in
+    let w = item-within (a .pre) (name-item s (a .args .start) (a .args .end) (a .pre) (c .before .before .before .before .before .before .before .before .before .before .before .before .before .loop .at) _ (sym (c .before .before .before .before .before .before .before .before .before .before .before .next-parameter .ensures) ∙ c .before .before .before .before .before .before .before .before .before .next .given .1)) in
+    (omega arith, (c .before .before .literal .ensures .1, (w .ordered, w .inside)))
 
 add-place : tie.Need-add-place Inv-loop μ-loop
 add-place c =

@@ -31,8 +31,17 @@ mul-v-2 c = search needs
 element-write-v-3 : tie.Need-element-write-v-3
 element-write-v-3 c = search needs
 
+sub-tag-of : tie.Need-sub-tag-of
+sub-tag-of c = search needs
+
+tag-of-requires : tie.Need-tag-of-requires
+tag-of-requires c κs = search needs
+
+element-write-v-4 : tie.Need-element-write-v-4
+element-write-v-4 c = search needs
+
 returns : tie.Need-returns
-returns c = record { value = set-one 0 _ _ (c .before .before .number .ensures) (search needs); none = set-one false _ _ (c .before .is-none .ensures) (search needs); len = set-one 0 _ _ refl (search needs) }
+returns c = record { value = set-one 0 _ _ (c .before .before .before .before .number .ensures) (search needs); none = set-one false _ _ (c .before .before .before .is-none .ensures) (search needs); len = set-one 0 _ _ refl (search needs); tag = set-one 0 _ _ (c .tag-of .ensures) (search needs) }
 
 pub put-value-spec : {M : Type 1} → statement M
 put-value-spec =
@@ -46,4 +55,7 @@ put-value-spec =
     cast-v
     mul-v-2
     element-write-v-3
+    sub-tag-of
+    tag-of-requires
+    element-write-v-4
     returns)

@@ -24,27 +24,27 @@ returns : tie.Need-returns
 returns c =
     let a = c .before .before .before .before .args in
     let q = c .before .before .before .before .pre in
-    factor-none (now (a .text)) (a .end) (a .at) (a .count) (now (a .names)) (now (a .lens)) (c .before .token-at .result) (c .before .token-at .ensures) (c .if1 .taken)
+    factor-none (now (a .text)) (a .end) (a .at) (a .count) (now (a .names)) (now (a .lens)) (now (a .tags)) (c .before .token-at .result) (c .before .token-at .ensures) (c .if1 .taken)
 
 lone-byte-requires : tie.Need-lone-byte-requires
 lone-byte-requires c κs =
     let a = c .before .before .before .before .args in
     let q = c .before .before .before .before .pre in
-    let n = token (now (a .text)) (a .end) (a .at) (a .count) (now (a .names)) (now (a .lens)) (c .before .token-at .result) (c .before .token-at .ensures) (c .if1 .left) (q .0) in
+    let n = token (now (a .text)) (a .end) (a .at) (a .count) (now (a .names)) (now (a .lens)) (now (a .tags)) (c .before .token-at .result) (c .before .token-at .ensures) (c .if1 .left) (q .0) in
     (n .some, n .inside)
 
 returns-2 : tie.Need-returns-2
 returns-2 c =
     let a = c .before .before .before .before .before .before .args in
     let q = c .before .before .before .before .before .before .pre in
-    factor-open (now (a .text)) (a .end) (a .at) (a .count) (now (a .names)) (now (a .lens)) (c .before .before .before .token-at .result) (c .before .before .before .token-at .ensures) (c .before .before .if1 .left) (q .0) (c .before .lone-byte .ensures) (c .if2 .taken)
+    factor-open (now (a .text)) (a .end) (a .at) (a .count) (now (a .names)) (now (a .lens)) (now (a .tags)) (c .before .before .before .token-at .result) (c .before .before .before .token-at .ensures) (c .before .before .if1 .left) (q .0) (c .before .lone-byte .ensures) (c .if2 .taken)
 
 shared-slice-read-is-digit : tie.Need-shared-slice-read-is-digit
 shared-slice-read-is-digit c =
     let a = c .before .before .before .before .before .before .before .args in
     let q = c .before .before .before .before .before .before .before .pre in
-    let n = token (now (a .text)) (a .end) (a .at) (a .count) (now (a .names)) (now (a .lens)) (c .before .before .before .before .token-at .result) (c .before .before .before .before .token-at .ensures) (c .before .before .before .if1 .left) (q .0) in
-    omega (arith, n .some, n .inside, token-inside (now (a .text)) (a .end) (a .at) (a .count) (now (a .names)) (now (a .lens)) (c .before .before .before .before .token-at .result) (c .before .before .before .before .token-at .ensures) (c .before .before .before .if1 .left) (q .0), q .0)
+    let n = token (now (a .text)) (a .end) (a .at) (a .count) (now (a .names)) (now (a .lens)) (now (a .tags)) (c .before .before .before .before .token-at .result) (c .before .before .before .before .token-at .ensures) (c .before .before .before .if1 .left) (q .0) in
+    omega (arith, n .some, n .inside, token-inside (now (a .text)) (a .end) (a .at) (a .count) (now (a .names)) (now (a .lens)) (now (a .tags)) (c .before .before .before .before .token-at .result) (c .before .before .before .before .token-at .ensures) (c .before .before .before .if1 .left) (q .0), q .0)
 
 is-digit-requires : tie.Need-is-digit-requires
 is-digit-requires c κs = search needs
@@ -57,21 +57,21 @@ returns-3 c =
     let a = c .before .before .before .before .before .before .before .before .before .before .args in
     let q = c .before .before .before .before .before .before .before .before .before .before .pre in
     let t = c .before .before .before .before .before .before .before .token-at in
-    with-factor (t .result .end) (c .literal .ensures) (factor-literal (now (a .text)) (a .end) (a .at) (a .count) (now (a .names)) (now (a .lens)) (c .before .before .before .before .before .before .before .token-at .result) (c .before .before .before .before .before .before .before .token-at .ensures) (c .before .before .before .before .before .before .if1 .left) (q .0) (c .before .before .before .before .before .lone-byte .ensures) (c .before .before .before .before .if2 .left) (sym (c .before .before .is-digit .ensures) ∙ c .before .if3 .taken))
+    with-factor (t .result .end) (c .literal .ensures) (factor-literal (now (a .text)) (a .end) (a .at) (a .count) (now (a .names)) (now (a .lens)) (now (a .tags)) (c .before .before .before .before .before .before .before .token-at .result) (c .before .before .before .before .before .before .before .token-at .ensures) (c .before .before .before .before .before .before .if1 .left) (q .0) (c .before .before .before .before .before .lone-byte .ensures) (c .before .before .before .before .if2 .left) (sym (c .before .before .is-digit .ensures) ∙ c .before .if3 .taken))
 
 sub-lookup : tie.Need-sub-lookup
 sub-lookup c =
     let a = c .before .before .before .before .before .before .before .before .before .args in
     let q = c .before .before .before .before .before .before .before .before .before .pre in
-    let n = token (now (a .text)) (a .end) (a .at) (a .count) (now (a .names)) (now (a .lens)) (c .before .before .before .before .before .before .token-at .result) (c .before .before .before .before .before .before .token-at .ensures) (c .before .before .before .before .before .if1 .left) (q .0) in
+    let n = token (now (a .text)) (a .end) (a .at) (a .count) (now (a .names)) (now (a .lens)) (now (a .tags)) (c .before .before .before .before .before .before .token-at .result) (c .before .before .before .before .before .before .token-at .ensures) (c .before .before .before .before .before .if1 .left) (q .0) in
     omega (arith, n .some)
 
 lookup-requires : tie.Need-lookup-requires
 lookup-requires c κs =
     let a = c .before .before .before .before .before .before .before .before .before .args in
     let q = c .before .before .before .before .before .before .before .before .before .pre in
-    let n = token (now (a .text)) (a .end) (a .at) (a .count) (now (a .names)) (now (a .lens)) (c .before .before .before .before .before .before .token-at .result) (c .before .before .before .before .before .before .token-at .ensures) (c .before .before .before .before .before .if1 .left) (q .0) in
-    (q .1, omega (arith, n .some, n .inside, token-inside (now (a .text)) (a .end) (a .at) (a .count) (now (a .names)) (now (a .lens)) (c .before .before .before .before .before .before .token-at .result) (c .before .before .before .before .before .before .token-at .ensures) (c .before .before .before .before .before .if1 .left) (q .0), q .0))
+    let n = token (now (a .text)) (a .end) (a .at) (a .count) (now (a .names)) (now (a .lens)) (now (a .tags)) (c .before .before .before .before .before .before .token-at .result) (c .before .before .before .before .before .before .token-at .ensures) (c .before .before .before .before .before .if1 .left) (q .0) in
+    (q .1, omega (arith, n .some, n .inside, token-inside (now (a .text)) (a .end) (a .at) (a .count) (now (a .names)) (now (a .lens)) (now (a .tags)) (c .before .before .before .before .before .before .token-at .result) (c .before .before .before .before .before .before .token-at .ensures) (c .before .before .before .before .before .if1 .left) (q .0), q .0))
 
 named-requires : tie.Need-named-requires
 named-requires c κs = search needs
@@ -81,7 +81,7 @@ returns-4 c =
     let a = c .before .before .before .before .before .before .before .before .before .before .before .args in
     let q = c .before .before .before .before .before .before .before .before .before .before .before .pre in
     let t = c .before .before .before .before .before .before .before .before .token-at in
-    with-factor (t .result .end) (c .named .ensures) (factor-name (now (a .text)) (a .end) (a .at) (a .count) (now (a .names)) (now (a .lens)) (c .before .before .before .before .before .before .before .before .token-at .result) (c .before .before .before .before .before .before .before .before .token-at .ensures) (c .before .before .before .before .before .before .before .if1 .left) (q .0) (c .before .before .before .before .before .before .lone-byte .ensures) (c .before .before .before .before .before .if2 .left) (sym (c .before .before .before .is-digit .ensures) ∙ c .before .before .if3 .left) _ (c .before .lookup .ensures))
+    with-factor (t .result .end) (c .named .ensures) (factor-name (now (a .text)) (a .end) (a .at) (a .count) (now (a .names)) (now (a .lens)) (now (a .tags)) (c .before .before .before .before .before .before .before .before .token-at .result) (c .before .before .before .before .before .before .before .before .token-at .ensures) (c .before .before .before .before .before .before .before .if1 .left) (q .0) (c .before .before .before .before .before .before .lone-byte .ensures) (c .before .before .before .before .before .if2 .left) (sym (c .before .before .before .is-digit .ensures) ∙ c .before .before .if3 .left) _ (c .before .lookup .ensures))
 
 pub factor-at-spec : {M : Type 1} → statement M
 factor-at-spec =

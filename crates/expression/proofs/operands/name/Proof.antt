@@ -25,7 +25,7 @@ bound-requires : tie.Need-bound-requires
 bound-requires c κs =
     let a = c .before .before .before .before .before .args in
     let w = take (a .end - a .start) (drop (a .start) (a .text .now)) in
-    let h = found-below (a .text .now) (a .names .now) (a .lens .now) w (a .count) _ (sym (c .before .before .before .lookup .ensures) ∙ c .before .i .given .1) in
+    let h = found-below (a .text .now) (a .names .now) (a .lens .now) (a .tags .now) w (a .count) _ (sym (c .before .before .before .lookup .ensures) ∙ c .before .i .given .1) in
     omega arith
 
 returns : tie.Need-returns
