@@ -23,8 +23,8 @@ pub enum Status {
 }
 
 pub struct State {
-    pub table: Bindings,
     pub values: Values,
+    pub table: Bindings,
     pub last: Last,
     pub status: Status,
 }
