@@ -1,2 +1,5 @@
+pub mod Ascii
+pub mod Equal
+pub mod Need
 pub mod Range
 pub mod Part

@@ -8,11 +8,12 @@ use mathlib.Core.Option.{Option, some, none}
 use mathlib.Core.List.{List, [], _∷_}
 use lib.ListN.{length, getD}
 use lib.Dec.{ltb, eqb}
-use Rattle.word.specs.Apply.{apply}
-use Rattle.machine.specs.declared.Refusal.the-variants.{StackLimitExceeded, OutsideStorage}
-use Rattle.machine.specs.Operation.{Op, push, binary, dup, swap, jump, jumpIfNotZero, load, store, caller, jumpIfZero, halt, priceOf}
-use Rattle.machine.specs.Machine.{Frame, Effect, moves, jumps, ends, fails, Act, over, costs, Outcome, next, done, stop, storeAt, pushOf, valueOf, effectOf, settle, pay, actOf, machine, follow, runOf, start, whole}
+use Rattle.word.specs.Apply.{Binary, add, sub, mul, div, eq, lt, apply}
+use Rattle.kinds.specs.Kinds.{Operation, operation}
+use Rattle.kinds.proofs.ByKind.{Span, end, _&_, span}
+use Rattle.machine.specs.Machine.{stackLimitExceeded, outsideStorage, Frame, Effect, moves, jumps, ends, fails, Act, over, costs, Outcome, next, done, stop, storeAt, pushOf, valueOf, twoOf, dupOf, swapOf, jumpIfZeroOf, jumpIfNotZeroOf, storeOf, effectOf, priceOf, halt, settle, pay, actOf, machine, follow, runOf, start, whole}
 use Rattle.machine.specs.Alike.{holding, AlikeBut}
+use Rattle.machine.proofs.Program.{effect-high}
 use Rattle.machine.proofs.Runs.{unpaid, afforded}
 
 module _ (R : List ℕ → List ℕ → Type 0) where
@@ -22,23 +23,11 @@ module _ (R : List ℕ → List ℕ → Type 0) where
   SameEffect ends e′ = e′ ≡ ends
   SameEffect (fails f) e′ = e′ ≡ fails f
 
-  -- what an operation that looks at the storage asks of the relation
-  abbrev pub Touches : Op → Type 0
-  Touches (push v) = Unit {0}
-  Touches (binary o) = Unit {0}
-  Touches dup = Unit {0}
-  Touches swap = Unit {0}
-  Touches (jump t) = Unit {0}
-  Touches (jumpIfNotZero t) = Unit {0}
-  Touches (load i) = (m m′ : List ℕ) → R m m′ → getD m i 0 ≡ getD m′ i 0
-  Touches (store i) = (v : ℕ) (m m′ : List ℕ) → R m m′ → R (storeAt m i v) (storeAt m′ i v)
-  Touches caller = Unit {0}
-  Touches (jumpIfZero t) = Unit {0}
-  Touches halt = Unit {0}
-
-  pub record Respects (op : Op) : Type 0 where
-    pub touches : Touches op
-    pub price : (m m′ : List ℕ) → R m m′ → priceOf op (length m) ≡ priceOf op (length m′)
+  -- what an operation that looks at the storage, a Load or a Store, asks of the relation
+  pub record Respects (o : Operation) : Type 0 where
+    pub loads : o .kind ≡ 11 → (m m′ : List ℕ) → R m m′ → getD m (o .operand) 0 ≡ getD m′ (o .operand) 0
+    pub stores : o .kind ≡ 12 → (v : ℕ) (m m′ : List ℕ) → R m m′ → R (storeAt m (o .operand) v) (storeAt m′ (o .operand) v)
+    pub price : (m m′ : List ℕ) → R m m′ → priceOf o (length m) ≡ priceOf o (length m′)
 
   same-cond : (b : Bool) (e f e′ f′ : Effect) → SameEffect e e′ → SameEffect f f′ → SameEffect (cond b e f) (cond b e′ f′)
   same-cond true e f e′ f′ p q = p
@@ -46,35 +35,75 @@ module _ (R : List ℕ → List ℕ → Type 0) where
 
   module _ (m m′ : List ℕ) (r : R m m′) where
     same-push : (v : ℕ) (s : List ℕ) → SameEffect (pushOf v s m) (pushOf v s m′)
-    same-push v s = same-cond (ltb (length s) 4096) (moves (v ∷ s) m) (fails StackLimitExceeded) (moves (v ∷ s) m′) (fails StackLimitExceeded) (m′, refl, r) refl
+    same-push v s = same-cond (ltb (length s) 4096) (moves (v ∷ s) m) (fails stackLimitExceeded) (moves (v ∷ s) m′) (fails stackLimitExceeded) (m′, refl, r) refl
 
     same-value : (o : Option ℕ) (s : List ℕ) → SameEffect (valueOf o s m) (valueOf o s m′)
     same-value none s = refl
     same-value (some v) s = (m′, refl, r)
 
-    same-effect : (c room : ℕ) (op : Op) (s : List ℕ) → Touches op → SameEffect (effectOf c room op s m) (effectOf c room op s m′)
-    same-effect c room (push v) s h = same-push v s
-    same-effect c room (binary o) [] h = refl
-    same-effect c room (binary o) (b ∷ []) h = refl
-    same-effect c room (binary o) (b ∷ a ∷ s) h = same-value (apply o a b) s
-    same-effect c room dup [] h = refl
-    same-effect c room dup (a ∷ s) h = same-push a (a ∷ s)
-    same-effect c room swap [] h = refl
-    same-effect c room swap (b ∷ []) h = refl
-    same-effect c room swap (b ∷ a ∷ s) h = (m′, refl, r)
-    same-effect c room (jump t) s h = (m′, refl, r)
-    same-effect c room (jumpIfNotZero t) [] h = refl
-    same-effect c room (jumpIfNotZero t) (v ∷ s) h = same-cond (eqb v 0) (moves s m) (jumps t s m) (moves s m′) (jumps t s m′) (m′, refl, r) (m′, refl, r)
-    same-effect c room (load i) s h = rw (h m m′ r) (same-push (getD m′ i 0) s)
-    same-effect c room (store i) [] h = refl
-    same-effect c room (store i) (v ∷ s) h =
+    same-two : (o : Binary) (s : List ℕ) → SameEffect (twoOf o s m) (twoOf o s m′)
+    same-two o [] = refl
+    same-two o (b ∷ []) = refl
+    same-two o (b ∷ a ∷ s) = same-value (apply o a b) s
+
+    same-dup : (s : List ℕ) → SameEffect (dupOf s m) (dupOf s m′)
+    same-dup [] = refl
+    same-dup (a ∷ s) = same-push a (a ∷ s)
+
+    same-swap : (s : List ℕ) → SameEffect (swapOf s m) (swapOf s m′)
+    same-swap [] = refl
+    same-swap (b ∷ []) = refl
+    same-swap (b ∷ a ∷ s) = (m′, refl, r)
+
+    same-jump : (t : ℕ) (s : List ℕ) → SameEffect (jumps t s m) (jumps t s m′)
+    same-jump t s = (m′, refl, r)
+
+    same-jump-if-not-zero : (t : ℕ) (s : List ℕ) → SameEffect (jumpIfNotZeroOf t s m) (jumpIfNotZeroOf t s m′)
+    same-jump-if-not-zero t [] = refl
+    same-jump-if-not-zero t (v ∷ s) = same-cond (eqb v 0) (moves s m) (jumps t s m) (moves s m′) (jumps t s m′) (m′, refl, r) (m′, refl, r)
+
+    same-jump-if-zero : (t : ℕ) (s : List ℕ) → SameEffect (jumpIfZeroOf t s m) (jumpIfZeroOf t s m′)
+    same-jump-if-zero t [] = refl
+    same-jump-if-zero t (v ∷ s) = same-cond (eqb v 0) (jumps t s m) (moves s m) (jumps t s m′) (moves s m′) (m′, refl, r) (m′, refl, r)
+
+    same-store : (room i : ℕ) (s : List ℕ) → ((v : ℕ) → R (storeAt m i v) (storeAt m′ i v)) → SameEffect (storeOf room i s m) (storeOf room i s m′)
+    same-store room i [] h = refl
+    same-store room i (v ∷ s) h =
         same-cond (ltb i 65536) _ _ _ _
-        (same-cond (ltb i room) (moves s (storeAt m i v)) (fails OutsideStorage) (moves s (storeAt m′ i v)) (fails OutsideStorage) (storeAt m′ i v, refl, h v m m′ r) refl)
+        (same-cond (ltb i room) (moves s (storeAt m i v)) (fails outsideStorage) (moves s (storeAt m′ i v)) (fails outsideStorage) (storeAt m′ i v, refl, h v) refl)
         refl
-    same-effect c room caller s h = same-push c s
-    same-effect c room (jumpIfZero t) [] h = refl
-    same-effect c room (jumpIfZero t) (v ∷ s) h = same-cond (eqb v 0) (jumps t s m) (moves s m) (jumps t s m′) (moves s m′) (m′, refl, r) (m′, refl, r)
-    same-effect c room halt s h = refl
+
+    same-effect : (c room : ℕ) (o : Operation) (s : List ℕ) → Respects o → SameEffect (effectOf c room o s m) (effectOf c room o s m′)
+    same-effect c room o s h = go (decLt (o .kind) 15)
+      where
+        v : ℕ
+        v = o .operand
+
+        Same : ℕ → Type 0
+        Same k = (k ≡ 11 → getD m v 0 ≡ getD m′ v 0) → (k ≡ 12 → (x : ℕ) → R (storeAt m v x) (storeAt m′ v x)) → SameEffect (effectOf c room (operation k v) s m) (effectOf c room (operation k v) s m′)
+
+        each : Span Same 0 15
+        each =
+            (λ _ _. same-push v s)
+            & (λ _ _. same-two add s)
+            & (λ _ _. same-two sub s)
+            & (λ _ _. same-two mul s)
+            & (λ _ _. same-two div s)
+            & (λ _ _. same-dup s)
+            & (λ _ _. same-swap s)
+            & (λ _ _. same-jump v s)
+            & (λ _ _. same-jump-if-not-zero v s)
+            & (λ _ _. same-two eq s)
+            & (λ _ _. same-two lt s)
+            & (λ loads _. rw (loads refl) (same-push (getD m′ v 0) s))
+            & (λ _ stores. same-store room v s (stores refl))
+            & (λ _ _. same-push c s)
+            & (λ _ _. same-jump-if-zero v s)
+            & end
+
+        go : Dec (o .kind < 15) → SameEffect (effectOf c room o s m) (effectOf c room o s m′)
+        go (yes l) = span 0 15 (o .kind) each (omega arith) l (λ e. h .loads e m m′ r) (λ e x. h .stores e x m m′ r)
+        go (no l) = rw (effect-high c room (o .kind) v (omega arith)) refl
 
   same-settle : (g : ℕ) (fr : Frame) (m′ : List ℕ) (e e′ : Effect) → R (fr .storage) m′ → SameEffect e e′ → AlikeBut R (settle g fr e) (settle g (holding m′ fr) e′)
   same-settle g fr m′ (moves s m) e′ r h = rw (h .1) (h .0, refl, h .2)
@@ -89,11 +118,11 @@ module _ (R : List ℕ → List ℕ → Type 0) where
       go (yes l) = rw (unpaid g p fr e l, unpaid g p (holding m′ fr) e′ l)
       go (no l) = let k : p ≤ g = omega arith in rw (afforded g p fr e k, afforded g p (holding m′ fr) e′ k) (same-settle (g - p) fr m′ e e′ r h)
 
-  module _ (program : List Op) (c room : ℕ) (respects : (i : ℕ) → Respects (getD program i halt)) where
+  module _ (program : List Operation) (c room : ℕ) (respects : (i : ℕ) → Respects (getD program i halt)) where
     same-step : (g : ℕ) (fr : Frame) (m′ : List ℕ) → R (fr .storage) m′ → AlikeBut R (pay g fr (machine program c room fr)) (pay g (holding m′ fr) (machine program c room (holding m′ fr)))
     same-step g fr m′ r = go (ltb (fr .pos) (length program))
       where
-        op : Op
+        op : Operation
         op = getD program (fr .pos) halt
 
         go : (b : Bool) → AlikeBut R (pay g fr (cond b (actOf c room op fr) over)) (pay g (holding m′ fr) (cond b (actOf c room op (holding m′ fr)) over))
@@ -101,7 +130,7 @@ module _ (R : List ℕ → List ℕ → Type 0) where
             let e = effectOf c room op (fr .stack) (fr .storage) in
             let e′ = effectOf c room op (fr .stack) m′ in
             subst (λ (p : ℕ). AlikeBut R (pay g fr (costs (priceOf op (length (fr .storage))) e)) (pay g (holding m′ fr) (costs p e′))) (respects (fr .pos) .price (fr .storage) m′ r)
-            (same-pay (priceOf op (length (fr .storage))) g fr m′ e e′ r (same-effect (fr .storage) m′ r c room op (fr .stack) (respects (fr .pos) .touches)))
+            (same-pay (priceOf op (length (fr .storage))) g fr m′ e e′ r (same-effect (fr .storage) m′ r c room op (fr .stack) (respects (fr .pos))))
         go false = (m′, refl, r)
 
     pub same-run : (n g : ℕ) (fr : Frame) (m′ : List ℕ) → R (fr .storage) m′ → AlikeBut R (runOf (machine program c room) n g fr) (runOf (machine program c room) n g (holding m′ fr))

@@ -6,17 +6,17 @@ use mathlib.Core.List.{List}
 use lib.ListN.{length, take}
 use Rattle.machine.specs.declared.Regs.{Regs}
 use Rattle.machine.specs.Machine.{Frame, Effect, moves, jumps, fails, stop}
-use Rattle.machine.specs.Registers.{down, frameOf, refusalOf, byCode, goneOn, stopped, Did}
+use Rattle.machine.specs.Registers.{down, frameOf, faultOf, byCode, goneOn, stopped, Did}
 
 -- any code but 0 and 1 is a refusal
-pub refused : (code note g : ℕ) (fr : Frame) → 2 ≤ code → byCode code note g fr ≡ stop (refusalOf code note g)
+pub refused : (code note g : ℕ) (fr : Frame) → 2 ≤ code → byCode code note g fr ≡ stop (faultOf code note g)
 refused zero note g fr h = absurd (omega arith)
 refused (suc zero) note g fr h = absurd (omega arith)
 refused (suc (suc n)) note g fr h = refl
 
 module _ {lo : ℕ} {effect : List ℕ → List ℕ → Effect} {r q : Regs} {s w : List ℕ} where
   pub fails-by : (code note : ℕ) → q ≡ stopped r code note → 2 ≤ code → lo ≤ r .pos + 1 → r .items ≤ 4096 → r .used ≤ length w
-      → effect (down (r .items) s) (take (r .used) w) ≡ fails (refusalOf code note (r .gas)) → Did lo effect r q s w s w
+      → effect (down (r .items) s) (take (r .used) w) ≡ fails (faultOf code note (r .gas)) → Did lo effect r q s w s w
   fails-by code note e two pos items used f =
       rw e (record { outcome = refused code note (r .gas) (frameOf s w r) two ∙ rw f; kept = omega arith })
 

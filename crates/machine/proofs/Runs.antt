@@ -9,9 +9,10 @@ use mathlib.Core.List.{List}
 use lib.ListN.{length, getD}
 use lib.Dec.{ltb}
 use borrow.Author.Tests.{lt-ltb, le-ltb}
-use Rattle.machine.specs.declared.Refusal.the-variants.{OutOfGas}
-use Rattle.machine.specs.Operation.{Op, push, binary, dup, swap, jump, jumpIfNotZero, load, store, caller, jumpIfZero, halt}
-use Rattle.machine.specs.Machine.{Frame, Effect, moves, jumps, ends, fails, Act, over, costs, Outcome, next, done, stop, effectOf, settle, pay, actOf, machine, follow, runOf, start, whole}
+use Rattle.kinds.specs.Kinds.{Operation, kindOf}
+use Rattle.kinds.proofs.ByKind.{priced as kind-priced}
+use Rattle.machine.specs.Machine.{outOfGas, Frame, Effect, moves, jumps, ends, fails, Act, over, costs, Outcome, next, done, stop, effectOf, halt, settle, pay, actOf, machine, follow, runOf, start, whole}
+use Rattle.machine.proofs.Program.{effect-high}
 
 -- an operation that goes on costs at least 1
 abbrev pub PricedAct : Act → Type 0
@@ -30,20 +31,14 @@ priced-effect p (jumps t s m) h = h
 priced-effect p ends h = tt
 priced-effect p (fails f) h = tt
 
-priced-op : (c room : ℕ) (op : Op) (fr : Frame) → PricedAct (actOf c room op fr)
-priced-op c room (push v) fr = priced-effect 1 (effectOf c room (push v) (fr .stack) (fr .storage)) (omega arith)
-priced-op c room (binary o) fr = priced-effect 2 (effectOf c room (binary o) (fr .stack) (fr .storage)) (omega arith)
-priced-op c room dup fr = priced-effect 1 (effectOf c room dup (fr .stack) (fr .storage)) (omega arith)
-priced-op c room swap fr = priced-effect 1 (effectOf c room swap (fr .stack) (fr .storage)) (omega arith)
-priced-op c room (jump t) fr = priced-effect 2 (effectOf c room (jump t) (fr .stack) (fr .storage)) (omega arith)
-priced-op c room (jumpIfNotZero t) fr = priced-effect 2 (effectOf c room (jumpIfNotZero t) (fr .stack) (fr .storage)) (omega arith)
-priced-op c room (load i) fr = priced-effect 3 (effectOf c room (load i) (fr .stack) (fr .storage)) (omega arith)
-priced-op c room (store i) fr = priced-effect 3 (effectOf c room (store i) (fr .stack) (fr .storage)) (omega arith)
-priced-op c room caller fr = priced-effect 1 (effectOf c room caller (fr .stack) (fr .storage)) (omega arith)
-priced-op c room (jumpIfZero t) fr = priced-effect 2 (effectOf c room (jumpIfZero t) (fr .stack) (fr .storage)) (omega arith)
-priced-op c room halt fr = tt
+priced-op : (c room : ℕ) (o : Operation) (fr : Frame) → PricedAct (actOf c room o fr)
+priced-op c room o fr = go (decLt (o .kind) 15)
+  where
+    go : Dec (o .kind < 15) → PricedAct (actOf c room o fr)
+    go (yes h) = priced-effect (kindOf (o .kind) .price) (effectOf c room o (fr .stack) (fr .storage)) (kind-priced (o .kind) h)
+    go (no h) = rw (effect-high c room (o .kind) (o .operand) (omega arith)) tt
 
-pub priced : (program : List Op) (c room : ℕ) → Priced (machine program c room)
+pub priced : (program : List Operation) (c room : ℕ) → Priced (machine program c room)
 priced program c room fr = go (ltb (fr .pos) (length program))
   where
     go : (b : Bool) → PricedAct (cond b (actOf c room (getD program (fr .pos) halt) fr) over)
@@ -51,7 +46,7 @@ priced program c room fr = go (ltb (fr .pos) (length program))
     go false = tt
 
 -- a price above the gas left refuses, whatever the operation would do; any other is taken
-pub unpaid : (g p : ℕ) (fr : Frame) (e : Effect) → g < p → pay g fr (costs p e) ≡ stop (OutOfGas p g)
+pub unpaid : (g p : ℕ) (fr : Frame) (e : Effect) → g < p → pay g fr (costs p e) ≡ stop (outOfGas p g)
 unpaid g p fr e h = rw (lt-ltb g p h)
 
 pub afforded : (g p : ℕ) (fr : Frame) (e : Effect) → p ≤ g → pay g fr (costs p e) ≡ settle (g - p) fr e
@@ -126,10 +121,10 @@ ended act pr (suc n) g fr h = go (act fr) (pr fr) (λ g₁ f. ended act pr n g�
     go (costs p e) one ih = paid p e one ih (decLt g p)
 
 -- a whole run ends, and its operations are at most one more than the gas it spends
-pub whole-ends : (program : List Op) (c room g : ℕ) (m : List ℕ) → Ended (whole program c room g m)
+pub whole-ends : (program : List Operation) (c room g : ℕ) (m : List ℕ) → Ended (whole program c room g m)
 unfolding whole
 whole-ends program c room g m = ended (machine program c room) (priced program c room) (g + 1) g (start m) (omega arith)
 
-pub whole-counted : (program : List Op) (c room g : ℕ) (m : List ℕ) → Counted g (whole program c room g m)
+pub whole-counted : (program : List Operation) (c room g : ℕ) (m : List ℕ) → Counted g (whole program c room g m)
 unfolding whole
 whole-counted program c room g m = rw zero-add at (counted (machine program c room) (priced program c room) (g + 1) g (start m))

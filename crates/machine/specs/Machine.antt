@@ -6,10 +6,17 @@ use mathlib.Core.Bool.{cond}
 use mathlib.Core.Option.{Option, some, none}
 use lib.ListN.{length, getD, set, replicate}
 use lib.Dec.{ltb, eqb}
-use Rattle.word.specs.Apply.{Binary, apply}
-use Rattle.machine.specs.declared.Refusal.{Refusal}
-use Rattle.machine.specs.declared.Refusal.the-variants.{OutOfGas, StackUnderflow, StackLimitExceeded, DivisionByZero, StorageLimitExceeded, OutsideStorage}
-use Rattle.machine.specs.Operation.{Op, push, binary, dup, swap, jump, jumpIfNotZero, load, store, caller, jumpIfZero, halt, priceOf}
+use Rattle.word.specs.Apply.{Binary, add, sub, mul, div, eq, lt, apply}
+use Rattle.kinds.specs.Kinds.{Operation, operation, kindOf}
+
+-- how a run is refused: refusals 46 to 51 of document 01, in its order, with what each carries
+pub data Fault : Type 0 where
+  outOfGas : (price left : ℕ) → Fault
+  stackUnderflow : Fault
+  stackLimitExceeded : Fault
+  divisionByZero : Fault
+  storageLimitExceeded : (slots : ℕ) → Fault
+  outsideStorage : Fault
 
 -- all of a state but its gas: the stack's top comes first, the storage is the used slots, and ops counts the operations executed
 pub record Frame : Type 0 where
@@ -23,7 +30,7 @@ pub data Effect : Type 0 where
   moves : List ℕ → List ℕ → Effect
   jumps : ℕ → List ℕ → List ℕ → Effect
   ends : Effect
-  fails : Refusal → Effect
+  fails : Fault → Effect
 
 -- at a frame the program is over, or an operation with its price is due
 pub data Act : Type 0 where
@@ -34,7 +41,7 @@ pub data Act : Type 0 where
 pub data Outcome : Type 0 where
   next : ℕ → Frame → Outcome
   done : ℕ → Frame → Outcome
-  stop : Refusal → Outcome
+  stop : Fault → Outcome
 
 -- what comes after an outcome that goes on
 abbrev pub follow : Outcome → (ℕ → Frame → Outcome) → Outcome
@@ -51,32 +58,32 @@ storeAt m i v = cond (ltb i (length m)) (set m i v) (m ++ (replicate (i - length
 
 -- the effects, from the stack s and the storage m
 abbrev pub pushOf : ℕ → List ℕ → List ℕ → Effect
-pushOf v s m = cond (ltb (length s) 4096) (moves (v ∷ s) m) (fails StackLimitExceeded)
+pushOf v s m = cond (ltb (length s) 4096) (moves (v ∷ s) m) (fails stackLimitExceeded)
 
 abbrev pub valueOf : Option ℕ → List ℕ → List ℕ → Effect
-valueOf none s m = fails DivisionByZero
+valueOf none s m = fails divisionByZero
 valueOf (some v) s m = moves (v ∷ s) m
 
 abbrev pub twoOf : Binary → List ℕ → List ℕ → Effect
-twoOf o [] m = fails StackUnderflow
-twoOf o (b ∷ []) m = fails StackUnderflow
+twoOf o [] m = fails stackUnderflow
+twoOf o (b ∷ []) m = fails stackUnderflow
 twoOf o (b ∷ a ∷ s) m = valueOf (apply o a b) s m
 
 abbrev pub dupOf : List ℕ → List ℕ → Effect
-dupOf [] m = fails StackUnderflow
+dupOf [] m = fails stackUnderflow
 dupOf (a ∷ s) m = pushOf a (a ∷ s) m
 
 abbrev pub swapOf : List ℕ → List ℕ → Effect
-swapOf [] m = fails StackUnderflow
-swapOf (b ∷ []) m = fails StackUnderflow
+swapOf [] m = fails stackUnderflow
+swapOf (b ∷ []) m = fails stackUnderflow
 swapOf (b ∷ a ∷ s) m = moves (a ∷ b ∷ s) m
 
 abbrev pub jumpIfZeroOf : ℕ → List ℕ → List ℕ → Effect
-jumpIfZeroOf t [] m = fails StackUnderflow
+jumpIfZeroOf t [] m = fails stackUnderflow
 jumpIfZeroOf t (v ∷ s) m = cond (eqb v 0) (jumps t s m) (moves s m)
 
 abbrev pub jumpIfNotZeroOf : ℕ → List ℕ → List ℕ → Effect
-jumpIfNotZeroOf t [] m = fails StackUnderflow
+jumpIfNotZeroOf t [] m = fails stackUnderflow
 jumpIfNotZeroOf t (v ∷ s) m = cond (eqb v 0) (moves s m) (jumps t s m)
 
 abbrev pub loadOf : ℕ → List ℕ → List ℕ → Effect
@@ -88,25 +95,43 @@ requested i = cond (ltb i 18446744073709551615) (i + 1) i
 
 -- room is the length of the lent storage
 abbrev pub storeOf : ℕ → ℕ → List ℕ → List ℕ → Effect
-storeOf room i [] m = fails StackUnderflow
+storeOf room i [] m = fails stackUnderflow
 storeOf room i (v ∷ s) m =
     cond (ltb i 65536)
-    (cond (ltb i room) (moves s (storeAt m i v)) (fails OutsideStorage))
-    (fails (StorageLimitExceeded (requested i)))
+    (cond (ltb i room) (moves s (storeAt m i v)) (fails outsideStorage))
+    (fails (storageLimitExceeded (requested i)))
 
--- c is the caller
-abbrev pub effectOf : ℕ → ℕ → Op → List ℕ → List ℕ → Effect
-effectOf c room (push v) s m = pushOf v s m
-effectOf c room (binary o) s m = twoOf o s m
-effectOf c room dup s m = dupOf s m
-effectOf c room swap s m = swapOf s m
-effectOf c room (jump t) s m = jumps t s m
-effectOf c room (jumpIfNotZero t) s m = jumpIfNotZeroOf t s m
-effectOf c room (load i) s m = loadOf i s m
-effectOf c room (store i) s m = storeOf room i s m
-effectOf c room caller s m = pushOf c s m
-effectOf c room (jumpIfZero t) s m = jumpIfZeroOf t s m
-effectOf c room halt s m = ends
+abbrev pub haltOf : List ℕ → List ℕ → Effect
+haltOf s m = ends
+
+-- the effects of kinds 0 to 15 with the operand v, c being the caller
+abbrev pub effects : (c room v : ℕ) → List (List ℕ → List ℕ → Effect)
+effects c room v =
+    pushOf v
+    ∷ twoOf add
+    ∷ twoOf sub
+    ∷ twoOf mul
+    ∷ twoOf div
+    ∷ dupOf
+    ∷ swapOf
+    ∷ jumps v
+    ∷ jumpIfNotZeroOf v
+    ∷ twoOf eq
+    ∷ twoOf lt
+    ∷ loadOf v
+    ∷ storeOf room v
+    ∷ pushOf c
+    ∷ jumpIfZeroOf v
+    ∷ haltOf
+    ∷ []
+
+-- a kind above 15 is taken for Halt
+abbrev pub effectOf : (c room : ℕ) → Operation → List ℕ → List ℕ → Effect
+effectOf c room o = getD (effects c room (o .operand)) (o .kind) haltOf
+
+-- the price of an operation where `used` slots are used
+abbrev pub priceOf : Operation → (used : ℕ) → ℕ
+priceOf o used = kindOf (o .kind) .price
 
 -- what an effect makes of a frame, with the gas left after the price
 abbrev pub settle : ℕ → Frame → Effect → Outcome
@@ -118,13 +143,22 @@ settle g fr (fails f) = stop f
 -- the price is taken before anything else is looked at
 abbrev pub pay : ℕ → Frame → Act → Outcome
 pay g fr over = done g fr
-pay g fr (costs p e) = cond (ltb g p) (stop (OutOfGas p g)) (settle (g - p) fr e)
+pay g fr (costs p e) = cond (ltb g p) (stop (outOfGas p g)) (settle (g - p) fr e)
 
-abbrev pub actOf : ℕ → ℕ → Op → Frame → Act
-actOf c room op fr = costs (priceOf op (length (fr .storage))) (effectOf c room op (fr .stack) (fr .storage))
+abbrev pub actOf : (c room : ℕ) → Operation → Frame → Act
+actOf c room o fr = costs (priceOf o (length (fr .storage))) (effectOf c room o (fr .stack) (fr .storage))
+
+-- the program that two buffers hold
+unfoldable pub decode : List ℕ → List ℕ → List Operation
+decode [] vs = []
+decode (k ∷ ks) [] = []
+decode (k ∷ ks) (v ∷ vs) = operation k v ∷ decode ks vs
+
+abbrev pub halt : Operation
+halt = operation 15 0
 
 -- what a program does at a frame
-abbrev pub machine : List Op → ℕ → ℕ → Frame → Act
+abbrev pub machine : List Operation → (c room : ℕ) → Frame → Act
 machine program c room fr = cond (ltb (fr .pos) (length program)) (actOf c room (getD program (fr .pos) halt) fr) over
 
 -- at most n operations
@@ -137,5 +171,5 @@ abbrev pub start : List ℕ → Frame
 start m = record { pos = 0; stack = []; storage = m; ops = 0 }
 
 -- a whole run under the limit g: an operation that goes on costs at least 1, so g + 1 operations end it
-unfoldable pub whole : List Op → ℕ → ℕ → ℕ → List ℕ → Outcome
+unfoldable pub whole : List Operation → (c room g : ℕ) → List ℕ → Outcome
 whole program c room g m = runOf (machine program c room) (g + 1) g (start m)

@@ -4,11 +4,9 @@ use mathlib.Core.Path.{_≡_}
 use mathlib.Core.List.{List, [], _∷_}
 use lib.ListN.{length, getD, take}
 use Rattle.word.specs.Apply.{Binary, add, sub, mul, div, eq, lt}
-use Rattle.machine.specs.declared.Refusal.{Refusal}
-use Rattle.machine.specs.declared.Refusal.the-variants.{OutOfGas, StackUnderflow, StackLimitExceeded, DivisionByZero, StorageLimitExceeded, OutsideStorage}
 use Rattle.machine.specs.declared.Regs.{Regs}
-use Rattle.machine.specs.Operation.{Op}
-use Rattle.machine.specs.Machine.{Frame, Effect, Outcome, next, done, stop, settle, pay, actOf, machine, runOf}
+use Rattle.kinds.specs.Kinds.{Operation}
+use Rattle.machine.specs.Machine.{Fault, outOfGas, stackUnderflow, stackLimitExceeded, divisionByZero, storageLimitExceeded, outsideStorage, Frame, Effect, Outcome, next, done, stop, settle, pay, actOf, machine, runOf}
 
 -- the first n of a buffer, the last of them first
 unfoldable pub down : ℕ → List ℕ → List ℕ
@@ -20,15 +18,16 @@ abbrev pub frameOf : List ℕ → List ℕ → Regs → Frame
 frameOf s w r = record { pos = r .pos; stack = down (r .items) s; storage = take (r .used) w; ops = r .ops }
 
 -- codes 46 to 51 are document 01's numbers, and any other counts as 46; the note is a price or a number of slots
-abbrev pub refusalOf : ℕ → ℕ → ℕ → Refusal
-refusalOf code note left =
-    getD (OutOfGas note left ∷ StackUnderflow ∷ StackLimitExceeded ∷ DivisionByZero ∷ StorageLimitExceeded note ∷ OutsideStorage ∷ []) (code - 46) (OutOfGas note left)
+abbrev pub faultOf : (code note left : ℕ) → Fault
+faultOf code note left =
+    getD (outOfGas note left ∷ stackUnderflow ∷ stackLimitExceeded ∷ divisionByZero ∷ storageLimitExceeded note ∷ outsideStorage ∷ []) (code - 46)
+    (outOfGas note left)
 
 -- code 0 goes on, 1 is done, any other is a refusal
 abbrev pub byCode : ℕ → ℕ → ℕ → Frame → Outcome
 byCode zero note g fr = next g fr
 byCode (suc zero) note g fr = done g fr
-byCode (suc (suc n)) note g fr = stop (refusalOf (suc (suc n)) note g)
+byCode (suc (suc n)) note g fr = stop (faultOf (suc (suc n)) note g)
 
 abbrev pub outcomeOf : List ℕ → List ℕ → Regs → Outcome
 outcomeOf s w r = byCode (r .code) (r .note) (r .gas) (frameOf s w r)
@@ -72,7 +71,7 @@ pub record Kept (lo room : ℕ) (r q : Regs) : Type 0 where
 
 -- an operation's effect on the buffers s and w, which it leaves as s′ and w′.
 -- Free are the stack buffer above the items and the work buffer past the used slots, and the note where the code is 0 or 1.
--- After a refusal both buffers are free; items, used, position and count are so within `Kept`, and of code and note what `refusalOf` leaves
+-- After a refusal both buffers are free; items, used, position and count are so within `Kept`, and of code and note what `faultOf` leaves
 pub record Did (lo : ℕ) (effect : List ℕ → List ℕ → Effect) (r q : Regs) (s w s′ w′ : List ℕ) : Type 0 where
   pub outcome : outcomeOf s′ w′ q ≡ settle (r .gas) (frameOf s w r) (effect (down (r .items) s) (take (r .used) w))
   pub kept : Kept lo (length w) r q
@@ -88,7 +87,7 @@ pub record Running (r : Regs) (stack work : ℕ) : Type 0 where
   pub room : 4096 ≤ stack
 
 -- one operation, paid for and done; what `Did` leaves free is free here, within `Held`
-pub record Stepped (c : ℕ) (op : Op) (r q : Regs) (s w s′ w′ : List ℕ) : Type 0 where
+pub record Stepped (c : ℕ) (op : Operation) (r q : Regs) (s w s′ w′ : List ℕ) : Type 0 where
   pub outcome : outcomeOf s′ w′ q ≡ pay (r .gas) (frameOf s w r) (actOf c (length w) op (frameOf s w r))
   pub held : Held (length w) q
   pub gas : q .gas ≤ r .gas
@@ -99,7 +98,7 @@ abbrev pub binaryOf : ℕ → Binary
 binaryOf k = getD (lt ∷ add ∷ sub ∷ mul ∷ div ∷ lt ∷ lt ∷ lt ∷ lt ∷ eq ∷ []) k lt
 
 -- a run to its end: with more operations than gas it is the machine's; what `Did` leaves free is free here, within `Held`
-pub record Ran (program : List Op) (c : ℕ) (r q : Regs) (s w s′ w′ : List ℕ) : Type 0 where
+pub record Ran (program : List Operation) (c : ℕ) (r q : Regs) (s w s′ w′ : List ℕ) : Type 0 where
   pub outcome : (n : ℕ) → r .gas < n → outcomeOf s′ w′ q ≡ runOf (machine program c (length w)) n (r .gas) (frameOf s w r)
   pub held : Held (length w) q
   pub over : 1 ≤ q .code

@@ -1,11 +1,10 @@
 // What an operation costs.
 ghost use mathlib.Core.Path.{_≡_};
-ghost use Prim.Native.Nat.{ℕ};
-ghost use Rattle.machine.specs.Operation.{opOf, kindPrice};
+ghost use Rattle.kinds.specs.Kinds.{kindOf};
 
 // A kind above 15 costs what Halt costs.
 pub fn gas_cost(kind: u8) -> u64
-    ensures { λ r. ⌜ ((v : ℕ) → r ≡ kindPrice (opOf kind v)) ⌝ }
+    ensures { λ r. ⌜ r ≡ kindOf kind .price ⌝ }
 {
     match kind {
         0 | 5..=6 | 13 => 1,

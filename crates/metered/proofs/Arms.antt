@@ -7,9 +7,10 @@ use mathlib.Core.Logic.{_⊎_, inl, inr}
 use lib.ListN.{length}
 use borrow.Author.Tests.{lt-ltb, le-ltb}
 use Rattle.machine.specs.declared.Regs.{Regs}
-use Rattle.machine.specs.Operation.{Op, halt, opOf, kindPrice}
+use Rattle.kinds.specs.Kinds.{Operation, operation, kindOf}
+use Rattle.kinds.proofs.ByKind.{unpriced}
 use Rattle.machine.specs.Machine.{effectOf}
-use Rattle.machine.proofs.Program.{op-high}
+use Rattle.machine.proofs.Program.{effect-high}
 use Rattle.machine.specs.Registers.{Held, Ready, Running, Kept, Did, Stepped, paid, ended, stopped}
 
 -- the registers after the payment are ready for the operation
@@ -22,11 +23,11 @@ held-by room lo price r q h z le one (inl a) k = omega arith
 held-by room lo price r q h z le one (inr a) k = omega arith
 
 -- an operation that is no Halt: it goes on to the next place or further, or its price is at least 2
-pub arm : (k lo price caller kind v : ℕ) {n : ℕ} {r p q : Regs} {s w s′ w′ : List ℕ} → kind ≡ k → p ≡ paid r price → price ≡ kindPrice (opOf kind v) → price ≤ r .gas
-    → 1 ≤ kindPrice (opOf k v) → (p .pos + 1 ≤ lo) ⊎ (2 ≤ kindPrice (opOf k v)) → Running r n (length w)
-    → Did lo (effectOf caller (length w) (opOf k v)) p q s w s′ w′ → Stepped caller (opOf kind v) r q s w s′ w′
+pub arm : (k lo price caller kind v : ℕ) {n : ℕ} {r p q : Regs} {s w s′ w′ : List ℕ} → kind ≡ k → p ≡ paid r price → price ≡ kindOf kind .price → price ≤ r .gas
+    → 1 ≤ kindOf k .price → (p .pos + 1 ≤ lo) ⊎ (2 ≤ kindOf k .price) → Running r n (length w)
+    → Did lo (effectOf caller (length w) (operation k v)) p q s w s′ w′ → Stepped caller (operation kind v) r q s w s′ w′
 arm k lo price caller kind v {r = r} {p = p} {q = q} {w = w} e pe c le one side run did =
-    let c′ : price ≡ kindPrice (opOf k v) = c ∙ ap (λ (j : ℕ). kindPrice (opOf j v)) e in
+    let c′ : price ≡ kindOf k .price = c ∙ ap (λ (j : ℕ). kindOf j .price) e in
     let side′ : (r .pos + 1 ≤ lo) ⊎ (2 ≤ price) = rw c′ (rw pe at side) in
     let kept : Kept lo (length w) (paid r price) q = rw pe at (did .kept) in
     record {
@@ -36,19 +37,19 @@ arm k lo price caller kind v {r = r} {p = p} {q = q} {w = w} e pe c le one side 
       falls = omega (arith, rw (← c′) at one);
     }
 
-pub out-of-gas : {caller price n : ℕ} {op : Op} {r q : Regs} {s w : List ℕ} → q ≡ stopped r 46 price → price ≡ kindPrice op → r .gas < price
+pub out-of-gas : {caller price n : ℕ} {op : Operation} {r q : Regs} {s w : List ℕ} → q ≡ stopped r 46 price → price ≡ kindOf (op .kind) .price → r .gas < price
     → Running r n (length w) → Stepped caller op r q s w s w
 out-of-gas {price = price} {r = r} e c lt run = rw e (record { outcome = rw (← c, lt-ltb (r .gas) price lt); held = omega arith; gas = omega arith; falls = omega arith })
 
-pub ends-by : {caller price n : ℕ} {op : Op} {r p q : Regs} {s w : List ℕ} → q ≡ ended p (p .ops + 1) → p ≡ paid r price → op ≡ halt → price ≡ kindPrice op → price ≤ r .gas
-    → Running r n (length w) → Stepped caller op r q s w s w
-ends-by {price = price} {r = r} e pe h c le run =
-    let c′ : price ≡ 0 = c ∙ ap kindPrice h in
-    rw (e, pe) (record { outcome = rw (h, c′, le-ltb (r .gas) 0 (omega arith)); held = omega arith; gas = omega arith; falls = omega arith })
+pub ends-by : (kind v : ℕ) {caller price n : ℕ} {r p q : Regs} {s w : List ℕ} → 15 ≤ kind → q ≡ ended p (p .ops + 1) → p ≡ paid r price → price ≡ kindOf kind .price → price ≤ r .gas
+    → Running r n (length w) → Stepped caller (operation kind v) r q s w s w
+ends-by kind v {caller = caller} {price = price} {r = r} {w = w} h e pe c le run =
+    let c′ : price ≡ 0 = c ∙ unpriced kind h in
+    rw (e, pe) (record { outcome = rw (effect-high caller (length w) kind v h, unpriced kind h, c′, le-ltb (r .gas) 0 (omega arith)); held = omega arith; gas = omega arith; falls = omega arith })
 
 -- a leaf of `step`
-pub at-kind : (k kind v : ℕ) {caller : ℕ} {r q : Regs} {s w s′ w′ : List ℕ} → kind ≡ k → Stepped caller (opOf k v) r q s w s′ w′ → Stepped caller (opOf kind v) r q s w s′ w′
+pub at-kind : (k kind v : ℕ) {caller : ℕ} {r q : Regs} {s w s′ w′ : List ℕ} → kind ≡ k → Stepped caller (operation k v) r q s w s′ w′ → Stepped caller (operation kind v) r q s w s′ w′
 at-kind k kind v e d = rw e d
 
-pub at-halt : (kind v : ℕ) {caller : ℕ} {r q : Regs} {s w s′ w′ : List ℕ} → 15 ≤ kind → Stepped caller halt r q s w s′ w′ → Stepped caller (opOf kind v) r q s w s′ w′
-at-halt kind v h d = rw (op-high kind v h) d
+pub at-halt : (kind v : ℕ) {caller : ℕ} {r q : Regs} {s w s′ w′ : List ℕ} → 15 ≤ kind → Stepped caller (operation 15 v) r q s w s′ w′ → Stepped caller (operation kind v) r q s w s′ w′
+at-halt kind v {caller = caller} {w = w} h d = record { outcome = rw (effect-high caller (length w) kind v h, unpriced kind h) (d .outcome); held = d .held; gas = d .gas; falls = d .falls }

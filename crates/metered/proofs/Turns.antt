@@ -5,14 +5,14 @@ use mathlib.Core.Path.{_≡_, sym, ap, _∙_}
 use mathlib.Core.List.{List}
 use lib.ListN.{length, getD}
 use borrow.Author.Tests.{lt-ltb, le-ltb}
-use Rattle.machine.specs.Operation.{opOf, decode}
-use Rattle.machine.specs.Machine.{Frame, Act, over, Outcome, next, pay, actOf, machine, runOf}
+use Rattle.kinds.specs.Kinds.{operation}
+use Rattle.machine.specs.Machine.{decode, Frame, Act, over, Outcome, next, pay, actOf, machine, runOf}
 use Rattle.machine.specs.declared.Regs.{Regs}
 use Rattle.machine.specs.Registers.{frameOf, byCode, outcomeOf, Stepped}
 use Rattle.machine.proofs.Program.{decode-length, decode-at}
 
 module _ (ks vs : List ℕ) (c room : ℕ) (fr : Frame) (same : length ks ≡ length vs) where
-  pub act-at : fr .pos < length ks → machine (decode ks vs) c room fr ≡ actOf c room (opOf (getD ks (fr .pos) 0) (getD vs (fr .pos) 0)) fr
+  pub act-at : fr .pos < length ks → machine (decode ks vs) c room fr ≡ actOf c room (operation (getD ks (fr .pos) 0) (getD vs (fr .pos) 0)) fr
   act-at h = rw (decode-length ks vs same, lt-ltb (fr .pos) (length ks) h, decode-at ks vs (fr .pos) same h)
 
   pub act-over : length ks ≤ fr .pos → machine (decode ks vs) c room fr ≡ over
@@ -41,7 +41,7 @@ ends-with act g (suc (suc code)) note g′ fr fr′ e l (suc n) h = rw e
 
 -- one step of the code is one step of the machine
 pub turn : (ks vs : List ℕ) (c room : ℕ) (r q : Regs) (s w s′ w′ : List ℕ) → length ks ≡ length vs → r .pos < length ks → length w ≡ room
-    → Stepped c (opOf (getD ks (r .pos) 0) (getD vs (r .pos) 0)) r q s w s′ w′
+    → Stepped c (operation (getD ks (r .pos) 0) (getD vs (r .pos) 0)) r q s w s′ w′
     → pay (r .gas) (frameOf s w r) (machine (decode ks vs) c room (frameOf s w r)) ≡ outcomeOf s′ w′ q
 turn ks vs c room r q s w s′ w′ same h e d =
     ap (pay (r .gas) (frameOf s w r)) (act-at ks vs c room (frameOf s w r) same h) ∙ (rw (← e) (sym (d .outcome)))

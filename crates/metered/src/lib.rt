@@ -1,7 +1,7 @@
 // The metered run: one operation with its price after another.
 ghost use mathlib.Core.Path.{_≡_};
 ghost use lib.ListN.{length};
-ghost use Rattle.machine.specs.Operation.{decode};
+ghost use Rattle.machine.specs.Machine.{decode};
 ghost use Rattle.machine.specs.Registers.{Running, Ran};
 
 mod step;

@@ -1,7 +1,7 @@
 // One operation: its price, then what it does.
 ghost use Prim.Native.Nat.{_<_, _^_};
 ghost use lib.ListN.{length};
-ghost use Rattle.machine.specs.Operation.{opOf};
+ghost use Rattle.kinds.specs.Kinds.{operation};
 ghost use Rattle.machine.specs.Registers.{Running, Stepped};
 use machine::Regs;
 use machine::operations;
@@ -18,7 +18,7 @@ fn step_of(
 ) -> Regs
     requires { ⌜ Running r (length (now stack)) (length (now work)) ⌝ }
     requires { ⌜ r .pos < 2 ^ 63 ⌝ }
-    ensures { λ q. ⌜ Stepped caller (opOf kind operand) r q (now (stack .entry)) (now (work .entry)) (now (stack .exit)) (now (work .exit)) ⌝ }
+    ensures { λ q. ⌜ Stepped caller (operation kind operand) r q (now (stack .entry)) (now (work .entry)) (now (stack .exit)) (now (work .exit)) ⌝ }
 {
     let p = price::gas_cost(kind);
     let g = r.gas;
@@ -57,7 +57,7 @@ pub fn step(
 ) -> Regs
     requires { ⌜ Running r (length (now stack)) (length (now work)) ⌝ }
     requires { ⌜ r .pos < 2 ^ 63 ⌝ }
-    ensures { λ q. ⌜ Stepped caller (opOf kind operand) r q (now (stack .entry)) (now (work .entry)) (now (stack .exit)) (now (work .exit)) ⌝ }
+    ensures { λ q. ⌜ Stepped caller (operation kind operand) r q (now (stack .entry)) (now (work .entry)) (now (stack .exit)) (now (work .exit)) ⌝ }
 {
     if kind < 3 {
         if kind < 1 {

@@ -4,8 +4,7 @@ use mathlib.Core.Path.{_≡_, refl, sym, ap, _∙_}
 use native.Mathlib.Omega.{arith}
 use native.Mathlib.Nat.{le-trans}
 use lib.ListN.{length}
-use Rattle.machine.specs.Operation.{decode}
-use Rattle.machine.specs.Machine.{done, machine, pay}
+use Rattle.machine.specs.Machine.{decode, done, machine, pay}
 use Rattle.machine.specs.Registers.{frameOf, outcomeOf, Running}
 use Rattle.metered.proofs.Turns.{act-over, Leads, goes-on, ends-with, turn}
 use borrow.Author.Needs.{needs}

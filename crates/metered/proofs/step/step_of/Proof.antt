@@ -6,10 +6,10 @@ use mathlib.Core.Logic.{inl, inr}
 use native.Mathlib.Omega.{arith}
 use lib.ListN.{length}
 use Rattle.machine.specs.declared.Regs.{Regs}
-use Rattle.machine.specs.Operation.{opOf, kindPrice}
+use Rattle.kinds.specs.Kinds.{operation, kindOf}
+use Rattle.kinds.proofs.ByKind.{end, _&_, past}
 use Rattle.machine.specs.Machine.{effectOf}
 use Rattle.machine.specs.Registers.{Ready, Did, Stepped}
-use Rattle.machine.proofs.Program.{past, op-high}
 use Rattle.metered.proofs.Arms.{ready, arm, out-of-gas, ends-by}
 use borrow.Author.Needs.{needs}
 use Rattle.metered.proofs.step.step_of.Statement.{statement}
@@ -22,19 +22,19 @@ used-here : (c : tie.After-pay) → c .pay .result .used ≤ length (c .before .
 used-here c = rw (c .pay .ensures) (c .before .before .before .before .before .pre .0 .held .used)
 
 module _ (c : tie.After-pay) (k : ℕ) {q : Regs} {s′ w′ : List ℕ} where
-  next-arm : c .before .before .before .before .before .args .kind ≡ k → 1 ≤ kindPrice (opOf k (c .before .before .before .before .before .args .operand))
-      → Did (c .pay .result .pos + 1) (effectOf (c .before .before .before .before .before .args .caller) (length (c .before .before .before .before .before .args .work .now)) (opOf k (c .before .before .before .before .before .args .operand))) (c .pay .result) q (c .before .before .before .before .before .args .stack .now) (c .before .before .before .before .before .args .work .now) s′ w′
-      → Stepped (c .before .before .before .before .before .args .caller) (opOf (c .before .before .before .before .before .args .kind) (c .before .before .before .before .before .args .operand)) (c .before .before .before .before .before .args .r) q (c .before .before .before .before .before .args .stack .now) (c .before .before .before .before .before .args .work .now) s′ w′
+  next-arm : c .before .before .before .before .before .args .kind ≡ k → 1 ≤ kindOf k .price
+      → Did (c .pay .result .pos + 1) (effectOf (c .before .before .before .before .before .args .caller) (length (c .before .before .before .before .before .args .work .now)) (operation k (c .before .before .before .before .before .args .operand))) (c .pay .result) q (c .before .before .before .before .before .args .stack .now) (c .before .before .before .before .before .args .work .now) s′ w′
+      → Stepped (c .before .before .before .before .before .args .caller) (operation (c .before .before .before .before .before .args .kind) (c .before .before .before .before .before .args .operand)) (c .before .before .before .before .before .args .r) q (c .before .before .before .before .before .args .stack .now) (c .before .before .before .before .before .args .work .now) s′ w′
   next-arm e one did =
       let a = c .before .before .before .before .before .args in
-      arm k (c .pay .result .pos + 1) (c .before .before .gas-cost .result) (a .caller) (a .kind) (a .operand) e (c .pay .ensures) (c .before .before .gas-cost .ensures (a .operand)) (c .before .if1 .left) one (inl (omega arith)) (c .before .before .before .before .before .pre .0) did
+      arm k (c .pay .result .pos + 1) (c .before .before .gas-cost .result) (a .caller) (a .kind) (a .operand) e (c .pay .ensures) (c .before .before .gas-cost .ensures) (c .before .if1 .left) one (inl (omega arith)) (c .before .before .before .before .before .pre .0) did
 
-  jump-arm : c .before .before .before .before .before .args .kind ≡ k → 2 ≤ kindPrice (opOf k (c .before .before .before .before .before .args .operand))
-      → Did 0 (effectOf (c .before .before .before .before .before .args .caller) (length (c .before .before .before .before .before .args .work .now)) (opOf k (c .before .before .before .before .before .args .operand))) (c .pay .result) q (c .before .before .before .before .before .args .stack .now) (c .before .before .before .before .before .args .work .now) s′ w′
-      → Stepped (c .before .before .before .before .before .args .caller) (opOf (c .before .before .before .before .before .args .kind) (c .before .before .before .before .before .args .operand)) (c .before .before .before .before .before .args .r) q (c .before .before .before .before .before .args .stack .now) (c .before .before .before .before .before .args .work .now) s′ w′
+  jump-arm : c .before .before .before .before .before .args .kind ≡ k → 2 ≤ kindOf k .price
+      → Did 0 (effectOf (c .before .before .before .before .before .args .caller) (length (c .before .before .before .before .before .args .work .now)) (operation k (c .before .before .before .before .before .args .operand))) (c .pay .result) q (c .before .before .before .before .before .args .stack .now) (c .before .before .before .before .before .args .work .now) s′ w′
+      → Stepped (c .before .before .before .before .before .args .caller) (operation (c .before .before .before .before .before .args .kind) (c .before .before .before .before .before .args .operand)) (c .before .before .before .before .before .args .r) q (c .before .before .before .before .before .args .stack .now) (c .before .before .before .before .before .args .work .now) s′ w′
   jump-arm e two did =
       let a = c .before .before .before .before .before .args in
-      arm k 0 (c .before .before .gas-cost .result) (a .caller) (a .kind) (a .operand) e (c .pay .ensures) (c .before .before .gas-cost .ensures (a .operand)) (c .before .if1 .left) (omega arith) (inr two) (c .before .before .before .before .before .pre .0) did
+      arm k 0 (c .before .before .gas-cost .result) (a .caller) (a .kind) (a .operand) e (c .pay .ensures) (c .before .before .gas-cost .ensures) (c .before .if1 .left) (omega arith) (inr two) (c .before .before .before .before .before .pre .0) did
 
 gas-cost-requires : tie.Need-gas-cost-requires
 gas-cost-requires c κs = search needs
@@ -45,7 +45,7 @@ stop-requires c κs = search needs
 returns : tie.Need-returns
 returns c =
     let a = c .before .before .before .before .before .args in
-    out-of-gas (c .stop .ensures) (c .before .before .gas-cost .ensures (a .operand)) (c .before .if1 .taken) (c .before .before .before .before .before .pre .0)
+    out-of-gas (c .stop .ensures) (c .before .before .gas-cost .ensures) (c .before .if1 .taken) (c .before .before .before .before .before .pre .0)
 
 pay-requires : tie.Need-pay-requires
 pay-requires c κs = c .if1 .left
@@ -198,8 +198,8 @@ returns-17 : tie.Need-returns-17
 returns-17 c =
     let n = c .before .before .match .rest in
     let a = c .before .before .before .before .before .before .before .before .args in
-    let h = past 0 15 (a .kind) (n .0 .0 .0 .0 .0 .0 .0 .0 .0 .0 .0 .0 .0 .0 .1, (n .0 .0 .0 .0 .0 .0 .0 .0 .0 .0 .0 .0 .0 .1, (n .0 .0 .0 .0 .0 .0 .0 .0 .0 .0 .0 .0 .1, (n .0 .0 .0 .0 .0 .0 .0 .0 .0 .0 .0 .1, (n .0 .0 .0 .0 .0 .0 .0 .0 .0 .0 .1, (n .0 .0 .0 .0 .0 .0 .0 .0 .0 .1, (n .0 .0 .0 .0 .0 .0 .0 .0 .1, (n .0 .0 .0 .0 .0 .0 .0 .1, (n .0 .0 .0 .0 .0 .0 .1, (n .0 .0 .0 .0 .0 .1, (n .0 .0 .0 .0 .1, (n .0 .0 .0 .1, (n .0 .0 .1, (n .0 .1, (n .1, tt))))))))))))))) (omega arith) in
-    ends-by (c .end .ensures) (c .before .before .before .pay .ensures) (op-high (a .kind) (a .operand) h) (c .before .before .before .before .before .gas-cost .ensures (a .operand)) (c .before .before .before .before .if1 .left) (c .before .before .before .before .before .before .before .before .pre .0)
+    let h = past {b = 0} {k = a .kind} ((n .0 .0 .0 .0 .0 .0 .0 .0 .0 .0 .0 .0 .0 .0 .1) & (n .0 .0 .0 .0 .0 .0 .0 .0 .0 .0 .0 .0 .0 .1) & (n .0 .0 .0 .0 .0 .0 .0 .0 .0 .0 .0 .0 .1) & (n .0 .0 .0 .0 .0 .0 .0 .0 .0 .0 .0 .1) & (n .0 .0 .0 .0 .0 .0 .0 .0 .0 .0 .1) & (n .0 .0 .0 .0 .0 .0 .0 .0 .0 .1) & (n .0 .0 .0 .0 .0 .0 .0 .0 .1) & (n .0 .0 .0 .0 .0 .0 .0 .1) & (n .0 .0 .0 .0 .0 .0 .1) & (n .0 .0 .0 .0 .0 .1) & (n .0 .0 .0 .0 .1) & (n .0 .0 .0 .1) & (n .0 .0 .1) & (n .0 .1) & (n .1) & end) (omega arith) in
+    ends-by (a .kind) (a .operand) h (c .end .ensures) (c .before .before .before .pay .ensures) (c .before .before .before .before .before .gas-cost .ensures) (c .before .before .before .before .if1 .left) (c .before .before .before .before .before .before .before .before .pre .0)
 
 pub step-of-spec : {M : Type 1} → statement M
 step-of-spec =

@@ -1,0 +1,1 @@
+// The table of the sixteen kinds of operation; there is no code.
