@@ -1,14 +1,14 @@
 -- Laws by kind number.
 use Prim.Native.Nat.{ℕ, zero, suc, _+_, _≤_, _<_}
 use native.Mathlib.Omega.{arith}
-use native.Mathlib.Decide.{ℕ-discrete}
+use native.Mathlib.Decide.{ℕ-discrete, decLt}
 use mathlib.Core.Path.{_≡_, refl, subst}
-use mathlib.Core.Bool.{Bool, true, _&&_}
-use lib.Dec.{leb}
+use mathlib.Core.Bool.{Bool, true, _&&_, _||_}
+use lib.Dec.{leb, eqb}
 use lib.ListN.{List·getD-eq-default}
-use borrow.Author.Tests.{leb-true}
+use borrow.Author.Tests.{leb-true, ne-eqb}
 use Rattle.byte.proofs.Tests.{and-left, and-right}
-use Rattle.kinds.specs.Kinds.{none, kind, kinds, kindOf}
+use Rattle.kinds.specs.Kinds.{none, slot, target, kind, kinds, kindOf, takes}
 
 -- a rule at each of n numbers from b on
 infixr 66 _&_
@@ -62,3 +62,18 @@ unpriced k h = go (ℕ-discrete 15 k)
     go : Dec (15 ≡ k) → kindOf k .price ≡ 0
     go (yes e) = subst (λ (j : ℕ). kindOf j .price ≡ 0) e refl
     go (no ne) = rw (no-kind k (omega arith))
+
+-- the kinds that take a target, Jump, JumpIfNotZero and JumpIfZero, and those that take a slot, Load and Store
+pub takes-target : (k : ℕ) → takes target k ≡ ((eqb k 7 || eqb k 8) || eqb k 14)
+takes-target k = go (decLt k 16)
+  where
+    go : Dec (k < 16) → takes target k ≡ ((eqb k 7 || eqb k 8) || eqb k 14)
+    go (yes h) = span {P = λ j. takes target j ≡ ((eqb j 7 || eqb j 8) || eqb j 14)} 0 16 k (refl & refl & refl & refl & refl & refl & refl & refl & refl & refl & refl & refl & refl & refl & refl & refl & end) (omega arith) h
+    go (no h) = rw (no-kind k (omega arith), ne-eqb k 7 (omega arith), ne-eqb k 8 (omega arith), ne-eqb k 14 (omega arith))
+
+pub takes-slot : (k : ℕ) → takes slot k ≡ (eqb k 11 || eqb k 12)
+takes-slot k = go (decLt k 16)
+  where
+    go : Dec (k < 16) → takes slot k ≡ (eqb k 11 || eqb k 12)
+    go (yes h) = span {P = λ j. takes slot j ≡ (eqb j 11 || eqb j 12)} 0 16 k (refl & refl & refl & refl & refl & refl & refl & refl & refl & refl & refl & refl & refl & refl & refl & refl & end) (omega arith) h
+    go (no h) = rw (no-kind k (omega arith), ne-eqb k 11 (omega arith), ne-eqb k 12 (omega arith))

@@ -1,6 +1,3 @@
-pub mod Verify
-pub mod Blocks
-pub mod Numbers
-pub mod Needed
 pub mod Transition
 pub mod Refusals
+pub mod Verified

@@ -1,100 +1,43 @@
--- A transition, from all of its inputs to the answer, the state and each lent buffer.
-use Prim.Native.Nat.{ℕ, _-_, _≤_}
-use mathlib.Core.Path.{_≡_}
-use mathlib.Core.List.{List, [], _∷_, _++_}
-use lib.ListN.{length, take, drop, replicate}
+-- A metered run and a transition: what is tested, the run, and what is booked after it.
+use Prim.Native.Nat.{ℕ}
+use mathlib.Core.List.{List}
+use lib.ListN.{length}
+use Rattle.byte.specs.Need.{need}
 use Rattle.context.specs.declared.Gate.{Gate}
-use Rattle.machine.specs.declared.Refusal.{Refusal}
-use Rattle.machine.specs.declared.Refusal.the-variants.{BufferLengths, OutOfGas}
-use Rattle.machine.specs.Operation.{decode}
-use Rattle.machine.specs.Machine.{Outcome, next, done, stop, whole}
-use Rattle.vm.specs.declared.State.{State}
-use Rattle.vm.specs.declared.Check.{Check}
-use Rattle.vm.specs.declared.Check.the-variants as check
-use Rattle.vm.specs.declared.Answer.{Answer}
-use Rattle.vm.specs.declared.Answer.the-variants.{Success, Refused}
-use Rattle.vm.specs.Numbers.{answerNumbered}
-use Rattle.vm.specs.Verify.{need, andThen, buffersFit, gateCheck, verifyOf}
-
-pub record Result : Type 0 where
-  pub answer : Answer
-  pub state : State
-  pub stack : List ℕ
-  pub work : List ℕ
-  pub storage : List ℕ
-
--- a stack, bottom first
-unfoldable pub up : List ℕ → List ℕ
-up [] = []
-up (x ∷ s) = up s ++ (x ∷ [])
+use Rattle.checks.specs.declared.Refusal.{Refusal}
+use Rattle.checks.specs.declared.Refusal.the-variants.{BufferLengths}
+use Rattle.checks.specs.declared.Check.{Check}
+use Rattle.checks.specs.declared.Check.the-variants as check
+use Rattle.checks.specs.Verify.{andThen, buffersFit, gateCheck, verifyOf}
+use Rattle.perform.specs.declared.Answer.the-variants.{Refused}
+use Rattle.perform.specs.Call.{Call}
+use Rattle.perform.specs.Run.{Result, performed}
 
 -- 34 to 45: nothing is touched
-abbrev pub untouched : Refusal → State → (s w m : List ℕ) → Result
-untouched f state s w m = record { answer = Refused f; state = state; stack = s; work = w; storage = m }
+abbrev pub untouched : Refusal → Call → Result
+untouched f x = record { answer = Refused f; state = x .state; stack = x .stack; work = x .work; storage = x .storage }
 
--- 46 to 51: the storage is as before, stack and work are zero over their whole lengths
-abbrev pub undone : Refusal → State → ℕ → List ℕ → Result
-undone f state n m = record { answer = Refused f; state = state; stack = replicate n 0; work = replicate (length m) 0; storage = m }
+abbrev pub lengthsCheck : Call → Check
+lengthsCheck x =
+    need (buffersFit (length (x .kinds)) (length (x .operands)) (length (x .stack)) (length (x .work)) (length (x .storage)) (x .state .used))
+    (check.Refused BufferLengths) check.Passed
 
--- a run's outcome under the limit g, with a stack buffer of n and the storage buffer m; a whole run is never left unfinished
-abbrev pub ofRun : ℕ → State → ℕ → List ℕ → Outcome → Result
-ofRun g state n m (next h fr) = undone (OutOfGas 0 h) state n m
-ofRun g state n m (stop f) = undone f state n m
-ofRun g state n m (done h fr) =
-    let after : State = record { used = length (fr .storage) } in
-    record {
-      answer = Success (g - h) (fr .ops) (length (fr .stack)) after;
-      state = after;
-      stack = up (fr .stack) ++ replicate (n - length (fr .stack)) 0;
-      work = replicate (length m) 0;
-      storage = fr .storage ++ drop (length (fr .storage)) m;
-    }
+-- what is tested before the run: the lengths, what the call asks before the verifier, the verifier, what it asks behind it
+abbrev pub checksOf : (before behind : Check) → Call → Check
+checksOf before behind x = andThen (lengthsCheck x) (andThen before (andThen (verifyOf (x .kinds) (x .operands) (x .state .used)) behind))
 
-abbrev pub afterCheck : Check → (Refusal → Result) → Result → Result
-afterCheck check.Passed f r = r
-afterCheck (check.Refused e) f r = f e
+abbrev pub afterCheck : Check → Call → Result → Result
+afterCheck check.Passed x r = r
+afterCheck (check.Refused f) x r = untouched f x
 
-abbrev pub lengthsCheck : (ks vs s w m : List ℕ) → ℕ → Check
-lengthsCheck ks vs s w m used = need (buffersFit (length ks) (length vs) (length s) (length w) (length m) used) BufferLengths check.Passed
+-- a run behind its tests, with what the call books after it
+abbrev pub runUnder : (before behind : Check) → (Result → Result) → Call → Result
+runUnder before behind book x = afterCheck (checksOf before behind x) x (book (performed x))
 
--- what is tested before the run: the lengths, then what the call itself asks, then the verifier
-abbrev pub checksOf : Check → (ks vs s w m : List ℕ) → ℕ → Check
-checksOf own ks vs s w m used = andThen (lengthsCheck ks vs s w m used) (andThen own (verifyOf ks vs used))
-
--- the run itself, on the used slots of the storage
-abbrev pub performed : (ks vs : List ℕ) (caller g : ℕ) (s m : List ℕ) → State → Result
-performed ks vs caller g s m state = ofRun g state (length s) m (whole (decode ks vs) caller (length m) g (take (state .used) m))
-
--- a run behind its tests, `own` being the call's own
-abbrev pub runUnder : Check → (ks vs : List ℕ) (caller g : ℕ) (s w m : List ℕ) → State → Result
-runUnder own ks vs caller g s w m state =
-    afterCheck (checksOf own ks vs s w m (state .used)) (λ f. untouched f state s w m) (performed ks vs caller g s m state)
-
--- a metered run asks nothing of its own
-abbrev pub meteredOf : (ks vs : List ℕ) (caller g : ℕ) (s w m : List ℕ) → State → Result
-meteredOf = runUnder check.Passed
+-- a metered run asks nothing of its own, and books nothing
+abbrev pub meteredOf : Call → Result
+meteredOf = runUnder check.Passed check.Passed (λ r. r)
 
 -- a transition asks the gate
-abbrev pub transitionOf : Gate → (ks vs : List ℕ) (caller g : ℕ) (s w m : List ℕ) → State → Result
-transitionOf gate = runUnder (gateCheck gate)
-
--- the state after an answer: a success carries it, a refusal leaves it
-abbrev pub stateAfter : Answer → State → State
-stateAfter (Success spent operations items after) state = after
-stateAfter (Refused f) state = state
-
--- the answer with its number, the state and the buffers of a call that was made in the state `from` are those of a result
-pub record Meets (t : Result) (from : State) (a : Answer) (s w m : List ℕ) : Type 0 where
-  pub answer : a ≡ t .answer
-  pub says : answerNumbered a ≡ answerNumbered (t .answer)
-  pub state : stateAfter a from ≡ t .state
-  pub stack : s ≡ t .stack
-  pub work : w ≡ t .work
-  pub storage : m ≡ t .storage
-
--- what 34 leaves to be relied on
-pub record Lent (ks vs s w m : List ℕ) (used : ℕ) : Type 0 where
-  pub program : length ks ≡ length vs
-  pub stack : 4096 ≤ length s
-  pub same : length w ≡ length m
-  pub within : used ≤ length m
+abbrev pub transitionOf : Gate → Call → Result
+transitionOf gate = runUnder (gateCheck gate) check.Passed (λ r. r)

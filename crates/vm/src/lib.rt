@@ -1,66 +1,15 @@
 // A state transition: the lent buffers' lengths, the chain gate, the verifier, the metered run.
 ghost use Rattle.context.specs.Gate.{gateOf};
-ghost use mathlib.Core.Path.{_≡_};
-ghost use Rattle.vm.specs.Numbers.{checkNumbered, answerNumbered};
-ghost use Rattle.vm.specs.Transition.{Meets, meteredOf, transitionOf};
+ghost use Rattle.perform.specs.Lent.{Lent};
+ghost use Rattle.perform.specs.Run.{Meets};
+ghost use Rattle.vm.specs.Transition.{meteredOf, transitionOf};
+ghost use Rattle.vm.specs.Verified.{verified};
 
-mod buffers;
-mod perform;
-mod slots;
-pub mod verify;
-
+use checks::Check;
+use checks::Refusal;
 use context::Gate;
-use machine::Refusal;
-use numbered::Numbered;
-use numbered::carrying_four;
-use numbered::plain;
-
-// The part of a state that is no buffer.
-pub struct State {
-    pub used: usize,
-}
-
-pub enum Check {
-    Passed,
-    Refused(Refusal),
-}
-
-impl Check {
-    pub fn numbered(self) -> Numbered
-        ensures { λ r. ⌜ r ≡ checkNumbered self ⌝ }
-    {
-        match self {
-            Check::Passed => plain(0),
-            Check::Refused(f) => f.numbered(),
-        }
-    }
-}
-
-pub enum Answer {
-    Success {
-        gas_spent: u64,
-        operations: u64,
-        items: usize,
-        state: State,
-    },
-    Refused(Refusal),
-}
-
-impl Answer {
-    pub fn numbered(self) -> Numbered
-        ensures { λ r. ⌜ r ≡ answerNumbered self ⌝ }
-    {
-        match self {
-            Answer::Success {
-                gas_spent,
-                operations,
-                items,
-                state,
-            } => carrying_four(0, gas_spent, operations, items as u64, state.used as u64),
-            Answer::Refused(f) => f.numbered(),
-        }
-    }
-}
+use perform::Answer;
+use perform::State;
 
 pub fn run_with_gas(
     kinds: &[u8],
@@ -72,9 +21,12 @@ pub fn run_with_gas(
     storage: &mut [u64],
     state: State,
 ) -> Answer
-    ensures { λ a. ⌜ Meets (meteredOf (now (kinds .entry)) (now (operands .entry)) caller «gas_limit» (now (stack .entry)) (now (work .entry)) (now (storage .entry)) state) state a (now (stack .exit)) (now (work .exit)) (now (storage .exit)) ⌝ }
+    ensures { λ a. ⌜ Meets (meteredOf (record {
+            kinds = now (kinds .entry); operands = now (operands .entry); caller = caller; limit = «gas_limit»; state = state;
+            stack = now (stack .entry); work = now (work .entry); storage = now (storage .entry) }))
+        state a (now (stack .exit)) (now (work .exit)) (now (storage .exit)) ⌝ }
 {
-    if !verify::buffers_fit(
+    if !checks::buffers_fit(
         kinds.len(),
         operands.len(),
         stack.len(),
@@ -84,7 +36,7 @@ pub fn run_with_gas(
     ) {
         return Answer::Refused(Refusal::BufferLengths);
     }
-    perform::verified_run(
+    verified_run(
         kinds,
         operands,
         caller,
@@ -114,9 +66,14 @@ pub fn execute_state_transition_with_gas(
     storage: &mut [u64],
     state: State,
 ) -> Answer
-    ensures { λ a. ⌜ Meets (transitionOf (gateOf (now («chain_id» .entry)) (now («network_id» .entry)) (now («genesis_id» .entry)) (now («protocol_version» .entry)) (now («vm_version» .entry)) (now («computed_genesis_id» .entry)) (now («expected_protocol» .entry)) (now («expected_vm» .entry))) (now (kinds .entry)) (now (operands .entry)) caller «gas_limit» (now (stack .entry)) (now (work .entry)) (now (storage .entry)) state) state a (now (stack .exit)) (now (work .exit)) (now (storage .exit)) ⌝ }
+    ensures { λ a. ⌜ Meets (transitionOf (gateOf (now («chain_id» .entry)) (now («network_id» .entry)) (now («genesis_id» .entry))
+            (now («protocol_version» .entry)) (now («vm_version» .entry)) (now («computed_genesis_id» .entry))
+            (now («expected_protocol» .entry)) (now («expected_vm» .entry))) (record {
+            kinds = now (kinds .entry); operands = now (operands .entry); caller = caller; limit = «gas_limit»; state = state;
+            stack = now (stack .entry); work = now (work .entry); storage = now (storage .entry) }))
+        state a (now (stack .exit)) (now (work .exit)) (now (storage .exit)) ⌝ }
 {
-    if !verify::buffers_fit(
+    if !checks::buffers_fit(
         kinds.len(),
         operands.len(),
         stack.len(),
@@ -138,7 +95,7 @@ pub fn execute_state_transition_with_gas(
     );
     match gate {
         Gate::Refused(e) => Answer::Refused(Refusal::Context(e)),
-        Gate::Passed => perform::verified_run(
+        Gate::Passed => verified_run(
             kinds,
             operands,
             caller,
@@ -169,7 +126,12 @@ pub fn execute_state_transition(
     storage: &mut [u64],
     state: State,
 ) -> Answer
-    ensures { λ a. ⌜ Meets (transitionOf (gateOf (now («chain_id» .entry)) (now («network_id» .entry)) (now («genesis_id» .entry)) (now («protocol_version» .entry)) (now («vm_version» .entry)) (now («computed_genesis_id» .entry)) (now («expected_protocol» .entry)) (now («expected_vm» .entry))) (now (kinds .entry)) (now (operands .entry)) caller 0 (now (stack .entry)) (now (work .entry)) (now (storage .entry)) state) state a (now (stack .exit)) (now (work .exit)) (now (storage .exit)) ⌝ }
+    ensures { λ a. ⌜ Meets (transitionOf (gateOf (now («chain_id» .entry)) (now («network_id» .entry)) (now («genesis_id» .entry))
+            (now («protocol_version» .entry)) (now («vm_version» .entry)) (now («computed_genesis_id» .entry))
+            (now («expected_protocol» .entry)) (now («expected_vm» .entry))) (record {
+            kinds = now (kinds .entry); operands = now (operands .entry); caller = caller; limit = 0; state = state;
+            stack = now (stack .entry); work = now (work .entry); storage = now (storage .entry) }))
+        state a (now (stack .exit)) (now (work .exit)) (now (storage .exit)) ⌝ }
 {
     execute_state_transition_with_gas(
         chain_id,
@@ -189,4 +151,36 @@ pub fn execute_state_transition(
         storage,
         state,
     )
+}
+
+// `run_with_gas` and the transition come here behind their test of lengths (34).
+fn verified_run(
+    kinds: &[u8],
+    operands: &[u64],
+    caller: u64,
+    gas_limit: u64,
+    stack: &mut [u64],
+    work: &mut [u64],
+    storage: &mut [u64],
+    state: State,
+) -> Answer
+    requires { ⌜ Lent (now kinds) (now operands) (now stack) (now work) (now storage) (state .used) ⌝ }
+    ensures { λ a. ⌜ Meets (verified (record {
+            kinds = now (kinds .entry); operands = now (operands .entry); caller = caller; limit = «gas_limit»; state = state;
+            stack = now (stack .entry); work = now (work .entry); storage = now (storage .entry) }))
+        state a (now (stack .exit)) (now (work .exit)) (now (storage .exit)) ⌝ }
+{
+    match checks::verify(kinds, operands, state.used) {
+        Check::Refused(f) => Answer::Refused(f),
+        Check::Passed => perform::run(
+            kinds,
+            operands,
+            caller,
+            gas_limit,
+            stack,
+            work,
+            storage,
+            state,
+        ),
+    }
 }

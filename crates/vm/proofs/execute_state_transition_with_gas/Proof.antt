@@ -1,7 +1,7 @@
 -- `execute_state_transition_with_gas` meets its contract: the lengths, the gate, then the verifier and the run.
 use mathlib.Core.Path.{refl, sym, _∙_}
 use Rattle.context.proofs.Laws.{holds, fails}
-use Rattle.vm.proofs.Laws.{lent}
+use Rattle.perform.proofs.Laws.{lent}
 use borrow.Author.Needs.{needs}
 use Rattle.vm.proofs.execute_state_transition_with_gas.Statement.{statement}
 use Rattle.vm.proofs.execute_state_transition_with_gas.Tie as tie

@@ -1,0 +1,63 @@
+-- `operations::has_above` meets its contract: while there is no hit, the kinds passed are at most 15.
+use Prim.Native.Nat.{ℕ, _+_, _-_, _<_, _≤_}
+use mathlib.Core.Path.{_≡_, sym, _∙_}
+use mathlib.Core.Bool.{false}
+use borrow.Author.Tests.{ltb-false}
+use native.Mathlib.Omega.{arith}
+use lib.ListN.{getD}
+use Rattle.checks.proofs.Blocks.{or-left, or-right, each-next}
+use borrow.Author.Needs.{needs}
+use Rattle.checks.proofs.operations.has_above.Statement.{statement}
+use Rattle.checks.proofs.operations.has_above.Tie as tie
+
+abbrev Inv-loop : tie.InvT-loop
+Inv-loop kinds at n hit₀ k₀ hit k = (k ≤ n) × (hit ≡ false → (j : ℕ) → at ≤ j → j < at + k → getD kinds j 0 ≤ 15)
+
+abbrev μ-loop : tie.MeasureT-loop
+μ-loop kinds at n hit₀ k₀ hit k = n - k
+
+loop-holds : tie.Need-loop-holds Inv-loop μ-loop
+loop-holds c = (omega arith, λ e j l u. absurd (omega arith))
+
+add-either : tie.Need-add-either Inv-loop μ-loop
+add-either c = search needs
+
+shared-slice-read-either : tie.Need-shared-slice-read-either Inv-loop μ-loop
+shared-slice-read-either c = search needs
+
+either-requires : tie.Need-either-requires Inv-loop μ-loop
+either-requires c κs = search needs
+
+add-k : tie.Need-add-k Inv-loop μ-loop
+add-k c = search needs
+
+loop-less : tie.Need-loop-less Inv-loop μ-loop
+loop-less c = search needs
+
+loop-again : tie.Need-loop-again Inv-loop μ-loop
+loop-again c =
+    let a = c .before .before .before .before .before .args in
+    let l = c .before .before .before .loop in (
+      omega arith,
+      λ e. let f = sym (c .either .ensures) ∙ e in each-next (λ j. getD (a .kinds .now) j 0 ≤ 15) (a .at) (l .k) (l .inv .1 (or-left (l .hit) _ f)) (ltb-false 15 _ (or-right (l .hit) _ f)),
+    )
+
+returns : tie.Need-returns Inv-loop μ-loop
+returns c =
+    let l = c .before .loop in
+    let z : l .k ≡ c .before .before .before .args .n = omega arith in rw z at (l .inv .1)
+
+pub has-above-spec : {M : Type 1} → statement M
+has-above-spec =
+    tie.close
+    (tie.spec
+    Inv-loop
+    μ-loop
+    loop-holds
+    add-either
+    shared-slice-read-either
+    either-requires
+    add-k
+    loop-less
+    loop-again
+    returns)

@@ -1,0 +1,28 @@
+-- `operations::has_far` meets its contract: known kinds with operands below the program's length pass.
+use mathlib.Core.Path.{sym, _∙_}
+use lib.ListN.{length, getD}
+use Rattle.checks.proofs.Blocks.{or-left, or-right, near-passes, block-passes}
+use borrow.Author.Needs.{needs}
+use Rattle.checks.proofs.operations.has_far.Statement.{statement}
+use Rattle.checks.proofs.operations.has_far.Tie as tie
+
+has-above-requires : tie.Need-has-above-requires
+has-above-requires c κs = search needs
+
+has-from-requires : tie.Need-has-from-requires
+has-from-requires c κs = search needs
+
+either-requires : tie.Need-either-requires
+either-requires c κs = search needs
+
+returns : tie.Need-returns
+returns c e =
+    let a = c .before .before .before .before .before .args in
+    let p = c .before .before .before .before .before .pre in
+    let f = sym (c .either .ensures) ∙ e in
+    let k = c .before .before .has-above .ensures (or-left _ _ f) in
+    let v = c .before .has-from .ensures (or-right (c .before .before .has-above .result) _ f) in
+    block-passes (a .kinds .now) (a .operands .now) (a .at) (a .n) (p .0) (p .1) (λ j l u. near-passes (length (a .kinds .now)) (getD (a .kinds .now) j 0) (getD (a .operands .now) j 0) (k j l u) (v j l u))
+
+pub has-far-spec : {M : Type 1} → statement M
+has-far-spec = tie.close (tie.spec has-above-requires has-from-requires either-requires returns)

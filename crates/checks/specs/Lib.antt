@@ -1,0 +1,3 @@
+pub mod Verify
+pub mod Blocks
+pub mod Numbers

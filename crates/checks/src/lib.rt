@@ -1,0 +1,101 @@
+// What is tested before a run: the lent buffers' lengths, and the verifier; and the refusals of a call, those of its run included.
+ghost use mathlib.Core.Path.{_≡_};
+ghost use Rattle.checks.specs.Numbers.{refusalNumbered, checkNumbered, Checked};
+ghost use Rattle.checks.specs.Verify.{buffersFit, verifyOf};
+
+mod operations;
+
+use numbered::Numbered;
+use numbered::carrying_one;
+use numbered::carrying_two;
+use numbered::plain;
+
+pub enum Refusal {
+    BufferLengths,
+    Context(context::ContextError),
+    EmptyProgram,
+    ProgramTooLarge(usize),
+    StorageTooLarge(usize),
+    UnknownKind,
+    JumpOutOfRange,
+    OutOfGas { price: u64, left: u64 },
+    StackUnderflow,
+    StackLimitExceeded,
+    DivisionByZero,
+    StorageLimitExceeded(u64),
+    OutsideStorage,
+}
+
+impl Refusal {
+    pub fn numbered(self) -> Numbered
+        ensures { λ r. ⌜ r ≡ refusalNumbered self ⌝ }
+    {
+        match self {
+            Refusal::BufferLengths => plain(34),
+            Refusal::Context(e) => e.numbered(),
+            Refusal::EmptyProgram => plain(41),
+            Refusal::ProgramTooLarge(size) => carrying_one(42, size as u64),
+            Refusal::StorageTooLarge(used) => carrying_one(43, used as u64),
+            Refusal::UnknownKind => plain(44),
+            Refusal::JumpOutOfRange => plain(45),
+            Refusal::OutOfGas { price, left } => carrying_two(46, price, left),
+            Refusal::StackUnderflow => plain(47),
+            Refusal::StackLimitExceeded => plain(48),
+            Refusal::DivisionByZero => plain(49),
+            Refusal::StorageLimitExceeded(slots) => carrying_one(50, slots),
+            Refusal::OutsideStorage => plain(51),
+        }
+    }
+}
+
+pub enum Check {
+    Passed,
+    Refused(Refusal),
+}
+
+impl Check {
+    pub fn numbered(self) -> Numbered
+        ensures { λ r. ⌜ r ≡ checkNumbered self ⌝ }
+    {
+        match self {
+            Check::Passed => plain(0),
+            Check::Refused(f) => f.numbered(),
+        }
+    }
+}
+
+// 34: the program's two buffers are of one length, the stack buffer has 4,096 or more, the work and
+// the storage buffer are of one length, and the used slots lie in the storage buffer.
+pub fn buffers_fit(
+    kinds: usize,
+    operands: usize,
+    stack: usize,
+    work: usize,
+    storage: usize,
+    used: usize,
+) -> bool
+    ensures { λ r. ⌜ r ≡ buffersFit kinds operands stack work storage used ⌝ }
+{
+    let program = byte::both(kinds == operands, stack >= 4096);
+    let slots = byte::both(work == storage, used <= storage);
+    byte::both(program, slots)
+}
+
+pub fn verify(kinds: &[u8], operands: &[u64], used: usize) -> Check
+    ensures { λ r. ⌜ Checked (verifyOf (now (kinds .entry)) (now (operands .entry)) used) r ⌝ }
+{
+    let size = kinds.len();
+    if size != operands.len() {
+        return Check::Refused(Refusal::BufferLengths);
+    }
+    if size == 0 {
+        return Check::Refused(Refusal::EmptyProgram);
+    }
+    if size > 65536 {
+        return Check::Refused(Refusal::ProgramTooLarge(size));
+    }
+    if used > 65536 {
+        return Check::Refused(Refusal::StorageTooLarge(used));
+    }
+    operations::verify_operations(kinds, operands)
+}

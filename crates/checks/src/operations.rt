@@ -1,0 +1,158 @@
+// The verifier's look at each operation, 44 and 45.
+ghost use mathlib.Core.Path.{_≡_};
+ghost use mathlib.Core.Bool.{false};
+ghost use Prim.Native.Nat.{ℕ, _+_, _<_, _≤_};
+ghost use lib.Dec.{ltb};
+ghost use lib.ListN.{length, getD, drop};
+ghost use Rattle.byte.specs.Need.{need};
+ghost use Rattle.kinds.specs.Kinds.{operation};
+ghost use Rattle.checks.specs.declared.Refusal.the-variants.{JumpOutOfRange};
+ghost use Rattle.checks.specs.declared.Check.the-variants as check;
+ghost use Rattle.checks.specs.Verify.{operationCheck, operationsCheck};
+ghost use Rattle.checks.specs.Blocks.{Passes, Clear};
+use super::Check;
+use super::Refusal;
+
+// How many operations a block has.
+const BLOCK: usize = 16;
+
+// Whole blocks are passed by tests that have no branch, and the others are tested by one operation after the other. `verify` calls
+// it where the two buffers are of one length.
+pub fn verify_operations(kinds: &[u8], operands: &[u64]) -> Check
+    requires { ⌜ length (now kinds) ≡ length (now operands) ⌝ }
+    ensures { λ r. ⌜ r ≡ operationsCheck (length (now (kinds .entry))) (now (kinds .entry)) (now (operands .entry)) ⌝ }
+{
+    let near = pass_near(kinds, operands);
+    let at = pass_fitting(kinds, operands, near);
+    verify_from(kinds, operands, at)
+}
+
+// Passes blocks as long as their kinds are known and every operand is below the program's length.
+fn pass_near(kinds: &[u8], operands: &[u64]) -> usize
+    requires { ⌜ length (now kinds) ≡ length (now operands) ⌝ }
+    ensures { λ r. ⌜ Passes (now (kinds .entry)) (now (operands .entry)) 0 r ⌝ }
+{
+    let mut at: usize = 0;
+    while kinds.len() - at >= BLOCK {
+        if has_far(kinds, operands, at, BLOCK) {
+            return at;
+        }
+        at += BLOCK;
+    }
+    at
+}
+
+// Passes blocks as long as none of their operations is bad.
+fn pass_fitting(kinds: &[u8], operands: &[u64], from: usize) -> usize
+    requires { ⌜ (length (now kinds) ≡ length (now operands)) × (from ≤ length (now kinds)) ⌝ }
+    ensures { λ r. ⌜ Passes (now (kinds .entry)) (now (operands .entry)) from r ⌝ }
+{
+    let mut at = from;
+    while kinds.len() - at >= BLOCK {
+        if has_bad(kinds, operands, at, BLOCK) {
+            return at;
+        }
+        at += BLOCK;
+    }
+    at
+}
+
+// Whether a kind is unknown or an operand is not below the program's length, among the n operations from a place on.
+fn has_far(kinds: &[u8], operands: &[u64], at: usize, n: usize) -> bool
+    requires { ⌜ (length (now kinds) ≡ length (now operands)) × (at + n ≤ length (now kinds)) ⌝ }
+    ensures { λ r. ⌜ Clear (now (kinds .entry)) (now (operands .entry)) at (at + n) r ⌝ }
+{
+    let kind = has_above(kinds, at, n);
+    let operand = has_from(operands, at, n, kinds.len());
+    byte::either(kind, operand)
+}
+
+// Whether a kind above 15 is among the n from a place on.
+fn has_above(kinds: &[u8], at: usize, n: usize) -> bool
+    requires { ⌜ at + n ≤ length (now kinds) ⌝ }
+    ensures { λ r. ⌜ (r ≡ false → (j : ℕ) → at ≤ j → j < at + n → getD (now (kinds .entry)) j 0 ≤ 15) ⌝ }
+{
+    let mut hit = false;
+    let mut k: usize = 0;
+    while k < n {
+        hit = byte::either(hit, kinds[at + k] > 15);
+        k += 1;
+    }
+    hit
+}
+
+// Whether an operand of size or more is among the n from a place on.
+fn has_from(operands: &[u64], at: usize, n: usize, size: usize) -> bool
+    requires { ⌜ at + n ≤ length (now operands) ⌝ }
+    ensures { λ r. ⌜ (r ≡ false → (j : ℕ) → at ≤ j → j < at + n → getD (now (operands .entry)) j 0 < size) ⌝ }
+{
+    let mut hit = false;
+    let mut k: usize = 0;
+    while k < n {
+        hit = byte::either(hit, operands[at + k] as usize >= size);
+        k += 1;
+    }
+    hit
+}
+
+// Whether a bad operation is among the n from a place on.
+fn has_bad(kinds: &[u8], operands: &[u64], at: usize, n: usize) -> bool
+    requires { ⌜ (length (now kinds) ≡ length (now operands)) × (at + n ≤ length (now kinds)) ⌝ }
+    ensures { λ r. ⌜ Clear (now (kinds .entry)) (now (operands .entry)) at (at + n) r ⌝ }
+{
+    let size = kinds.len();
+    let mut hit = false;
+    let mut k: usize = 0;
+    while k < n {
+        hit = byte::either(hit, is_bad(kinds[at + k], operands[at + k], size));
+        k += 1;
+    }
+    hit
+}
+
+// Whether an operation's kind is unknown, or its jump's target is not below size.
+fn is_bad(kind: u8, operand: u64, size: usize) -> bool
+    ensures { λ r. ⌜ (r ≡ false → operationCheck size (operation kind operand) ≡ check.Passed) ⌝ }
+{
+    let jump = byte::either(byte::either(kind == 7, kind == 8), kind == 14);
+    byte::either(kind > 15, byte::both(jump, operand as usize >= size))
+}
+
+// The check from a place on, by one operation after the other.
+fn verify_from(kinds: &[u8], operands: &[u64], from: usize) -> Check
+    requires { ⌜ (length (now kinds) ≡ length (now operands)) × (from ≤ length (now kinds)) ⌝ }
+    ensures { λ r. ⌜ r ≡ operationsCheck (length (now (kinds .entry))) (drop from (now (kinds .entry))) (drop from (now (operands .entry))) ⌝ }
+{
+    let size = kinds.len();
+    let mut i = from;
+    while i < kinds.len() {
+        match verify_operation(kinds[i], operands[i], size) {
+            Check::Passed => i += 1,
+            Check::Refused(f) => return Check::Refused(f),
+        }
+    }
+    Check::Passed
+}
+
+fn verify_operation(kind: u8, operand: u64, size: usize) -> Check
+    ensures { λ r. ⌜ r ≡ operationCheck size (operation kind operand) ⌝ }
+{
+    if kind > 15 {
+        return Check::Refused(Refusal::UnknownKind);
+    }
+    match kind {
+        7 => verify_target(operand as usize, size),
+        8 => verify_target(operand as usize, size),
+        14 => verify_target(operand as usize, size),
+        _ => Check::Passed,
+    }
+}
+
+fn verify_target(target: usize, size: usize) -> Check
+    ensures { λ r. ⌜ r ≡ need (ltb target size) (check.Refused JumpOutOfRange) check.Passed ⌝ }
+{
+    if target >= size {
+        return Check::Refused(Refusal::JumpOutOfRange);
+    }
+    Check::Passed
+}

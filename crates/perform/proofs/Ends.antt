@@ -1,0 +1,76 @@
+-- What a run leaves, from what its parts leave.
+use Prim.Native.Nat.{ℕ, zero, suc, _+_, _-_, _≤_}
+use native.Mathlib.Omega.{arith}
+use native.Mathlib.Nat.{sub-zero}
+use mathlib.Core.Path.{_≡_, refl, sym, ap, _∙_}
+use mathlib.Core.Bool.{_&&_}
+use mathlib.Core.List.{List, _++_}
+use lib.ListN.{length, take, replicate}
+use lib.Seq.{take-suc, length-take-le}
+use lib.Dec.{leb, ltb}
+use Rattle.machine.specs.declared.Regs.{Regs}
+use Rattle.checks.specs.declared.Refusal.{Refusal}
+use Rattle.checks.specs.Numbers.{refusalNumbered}
+use Rattle.kinds.specs.Kinds.{Operation}
+use Rattle.machine.specs.Machine.{Outcome, next, done, stop, machine, runOf, whole}
+use Rattle.machine.specs.Alike.{AlikeBut}
+use Rattle.machine.specs.Registers.{down, frameOf, outcomeOf, faultOf}
+use Rattle.machine.proofs.Stack.{length-down}
+use Rattle.machine.proofs.Effects.{refused}
+use Rattle.perform.specs.declared.Answer.{Answer}
+use Rattle.perform.specs.declared.Answer.the-variants.{Success, Refused}
+use Rattle.perform.specs.Needed.{changed, Copied, Serves}
+use Rattle.perform.specs.Call.{Call}
+use Rattle.perform.specs.Run.{up, ofRun, refusalOf, Meets}
+use Rattle.perform.proofs.Needed.{brought}
+
+pub up-down : (n : ℕ) (xs : List ℕ) → n ≤ length xs → up (down n xs) ≡ take n xs
+unfolding down up
+up-down zero xs h = refl
+up-down (suc n) xs h = rw (up-down n xs (omega arith), take-suc xs n 0 h)
+
+-- the run on the work buffer is a whole run on its first slots
+pub on-work : (program : List Operation) (c g used room : ℕ) (s w : List ℕ) (o : Outcome) → length w ≡ room
+    → o ≡ runOf (machine program c (length w)) (g + 1) g (record { pos = 0; stack = down 0 s; storage = take used w; ops = 0 }) → o ≡ whole program c room g (take used w)
+unfolding whole down
+on-work program c g used room s w o e q = rw (← e) q
+
+-- a buffer that is cleared from its start
+all-zero : (s : List ℕ) (s′ : List ℕ) → s′ ≡ take 0 s ++ replicate (length s - 0) 0 → s′ ≡ replicate (length s) 0
+all-zero s s′ e = e ∙ rw sub-zero
+
+-- the call x, and the buffers as finish leaves them
+module _ (x : Call) (r : Regs) (s′ w′ : List ℕ) (same : length (x .work) ≡ length (x .storage)) (ew : w′ ≡ take 0 (x .work) ++ replicate (length (x .work) - 0) 0) where
+  -- the run's outcome is o but for the storage
+  module _ (o : Outcome) (like : AlikeBut (Serves (x .kinds) (x .operands) (x .state .used) (x .storage)) (outcomeOf (x .stack) (x .work) r) o) where
+    pub succeeded : (y m′ : List ℕ) → r .code ≡ 1 → r .items ≤ length (x .stack) → r .used ≤ length (x .work) → s′ ≡ take (r .items) (x .stack) ++ replicate (length (x .stack) - r .items) 0
+        → Copied (λ j. changed (x .kinds) (x .operands) (x .state .used) j && ltb j (x .state .used)) (x .work) (x .storage) y → Copied (λ j. leb (x .state .used) j && ltb j (r .used)) (x .work) y m′
+        → Meets (ofRun x o) (x .state) (Success (x .limit - r .gas) (r .ops) (r .items) (record { used = r .used })) s′ w′ m′
+    succeeded y m′ one hi hu es p q =
+        let d = length-down (r .items) (x .stack) in
+        let l : AlikeBut (Serves (x .kinds) (x .operands) (x .state .used) (x .storage)) (done (r .gas) (frameOf (x .stack) (x .work) r)) o = rw one at like in
+        let u : length (l .0) ≡ r .used = sym (l .2 .long) ∙ length-take-le (r .used) (x .work) hu in
+        rw (l .1) (record {
+          answer = rw (d, u);
+          says = rw (d, u);
+          state = rw u;
+          stack = rw (up-down (r .items) (x .stack) hi, d) es;
+          work = all-zero (x .work) w′ ew;
+          storage = brought (x .kinds) (x .operands) (x .state .used) (r .used) (x .storage) (x .work) (l .0) y m′ same hu (l .2) p q;
+        })
+
+    pub undone-by : (f : Refusal) → 2 ≤ r .code → f ≡ refusalOf (faultOf (r .code) (r .note) (r .gas)) → s′ ≡ take 0 (x .stack) ++ replicate (length (x .stack) - 0) 0
+        → Meets (ofRun x o) (x .state) (Refused f) s′ w′ (x .storage)
+    undone-by f two e es =
+        let l : AlikeBut (Serves (x .kinds) (x .operands) (x .state .used) (x .storage)) (stop (faultOf (r .code) (r .note) (r .gas))) o = rw (refused (r .code) (r .note) (r .gas) (frameOf (x .stack) (x .work) r) two) at like in
+        rw l (record { answer = ap Refused e; says = ap refusalNumbered e; state = refl; stack = all-zero (x .stack) s′ es; work = all-zero (x .work) w′ ew; storage = refl })
+
+-- of stack and work a result has the lengths alone
+abbrev pub lending : List ℕ → List ℕ → Call → Call
+lending s w x = record { kinds = x .kinds; operands = x .operands; caller = x .caller; limit = x .limit; state = x .state; stack = s; work = w; storage = x .storage }
+
+pub carried : (x : Call) (s w : List ℕ) (o : Outcome) {a : Answer} {s′ w′ m′ : List ℕ} → length s ≡ length (x .stack) → length w ≡ length (x .work)
+    → Meets (ofRun (lending s w x) o) (x .state) a s′ w′ m′ → Meets (ofRun x o) (x .state) a s′ w′ m′
+carried x s w (next h fr) p q d = rw (← p, ← q) d
+carried x s w (done h fr) p q d = rw (← p, ← q) d
+carried x s w (stop f) p q d = rw (← p, ← q) d

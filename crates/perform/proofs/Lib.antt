@@ -1,0 +1,3 @@
+pub mod Needed
+pub mod Ends
+pub mod Laws

@@ -1,0 +1,5 @@
+pub mod Numbers
+pub mod Call
+pub mod Run
+pub mod Lent
+pub mod Needed

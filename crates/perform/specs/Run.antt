@@ -1,0 +1,73 @@
+-- A run, from all that a call is given to the answer, the state and each lent buffer.
+use Prim.Native.Nat.{ℕ, _-_}
+use mathlib.Core.Path.{_≡_}
+use mathlib.Core.List.{List, [], _∷_, _++_}
+use lib.ListN.{length, take, drop, replicate}
+use Rattle.machine.specs.Machine.{Fault, outOfGas, stackUnderflow, stackLimitExceeded, divisionByZero, storageLimitExceeded, outsideStorage, Outcome, next, done, stop, decode, whole}
+use Rattle.checks.specs.declared.Refusal.{Refusal}
+use Rattle.checks.specs.declared.Refusal.the-variants.{OutOfGas, StackUnderflow, StackLimitExceeded, DivisionByZero, StorageLimitExceeded, OutsideStorage}
+use Rattle.perform.specs.declared.State.{State}
+use Rattle.perform.specs.declared.Answer.{Answer}
+use Rattle.perform.specs.declared.Answer.the-variants.{Success, Refused}
+use Rattle.perform.specs.Call.{Call}
+use Rattle.perform.specs.Numbers.{answerNumbered}
+
+pub record Result : Type 0 where
+  pub answer : Answer
+  pub state : State
+  pub stack : List ℕ
+  pub work : List ℕ
+  pub storage : List ℕ
+
+-- a stack, bottom first
+unfoldable pub up : List ℕ → List ℕ
+up [] = []
+up (x ∷ s) = up s ++ (x ∷ [])
+
+-- the machine's refusal as the call's
+abbrev pub refusalOf : Fault → Refusal
+refusalOf (outOfGas price left) = OutOfGas price left
+refusalOf stackUnderflow = StackUnderflow
+refusalOf stackLimitExceeded = StackLimitExceeded
+refusalOf divisionByZero = DivisionByZero
+refusalOf (storageLimitExceeded slots) = StorageLimitExceeded slots
+refusalOf outsideStorage = OutsideStorage
+
+-- 46 to 51: the storage is as before, stack and work are zero over their whole lengths
+abbrev pub undone : Refusal → Call → Result
+undone f x =
+    let zeros : List ℕ → List ℕ = λ buffer. replicate (length buffer) 0 in
+    record { answer = Refused f; state = x .state; stack = zeros (x .stack); work = zeros (x .work); storage = x .storage }
+
+-- a run's outcome; a whole run is never left unfinished
+abbrev pub ofRun : Call → Outcome → Result
+ofRun x (next h fr) = undone (OutOfGas 0 h) x
+ofRun x (stop f) = undone (refusalOf f) x
+ofRun x (done h fr) =
+    let after : State = record { used = length (fr .storage) } in
+    record {
+      answer = Success (x .limit - h) (fr .ops) (length (fr .stack)) after;
+      state = after;
+      stack = up (fr .stack) ++ replicate (length (x .stack) - length (fr .stack)) 0;
+      work = replicate (length (x .work)) 0;
+      storage = fr .storage ++ drop (length (fr .storage)) (x .storage);
+    }
+
+-- the run itself, on the used slots of the storage
+abbrev pub performed : Call → Result
+performed x =
+    ofRun x (whole (decode (x .kinds) (x .operands)) (x .caller) (length (x .storage)) (x .limit) (take (x .state .used) (x .storage)))
+
+-- the state after an answer: a success carries it, a refusal leaves it
+abbrev pub stateAfter : Answer → State → State
+stateAfter (Success spent operations items after) state = after
+stateAfter (Refused f) state = state
+
+-- the answer with its number, the state and the buffers of a call that was made in the state `from` are those of a result
+pub record Meets (t : Result) (from : State) (a : Answer) (s w m : List ℕ) : Type 0 where
+  pub answer : a ≡ t .answer
+  pub says : answerNumbered a ≡ answerNumbered (t .answer)
+  pub state : stateAfter a from ≡ t .state
+  pub stack : s ≡ t .stack
+  pub work : w ≡ t .work
+  pub storage : m ≡ t .storage

@@ -1,0 +1,138 @@
+// The run behind its tests: it works in the work buffer on those of the used slots that it needs, and the storage is written
+// once, when the run has succeeded.
+ghost use mathlib.Core.Path.{_≡_};
+ghost use Prim.Native.Nat.{ℕ, _≤_};
+ghost use lib.ListN.{length};
+ghost use Rattle.machine.specs.Machine.{Outcome};
+ghost use Rattle.machine.specs.Alike.{AlikeBut};
+ghost use Rattle.machine.specs.Registers.{outcomeOf, faultOf, Held};
+ghost use Rattle.perform.specs.Numbers.{answerNumbered};
+ghost use Rattle.perform.specs.Run.{Meets, performed, ofRun, refusalOf};
+ghost use Rattle.perform.specs.Lent.{Lent};
+ghost use Rattle.perform.specs.Needed.{Serves};
+
+mod buffers;
+mod slots;
+
+use checks::Refusal;
+use machine::Regs;
+use numbered::Numbered;
+use numbered::carrying_four;
+
+// The part of a state that is no buffer.
+pub struct State {
+    pub used: usize,
+}
+
+pub enum Answer {
+    Success {
+        gas_spent: u64,
+        operations: u64,
+        items: usize,
+        state: State,
+    },
+    Refused(Refusal),
+}
+
+impl Answer {
+    pub fn numbered(self) -> Numbered
+        ensures { λ r. ⌜ r ≡ answerNumbered self ⌝ }
+    {
+        match self {
+            Answer::Success {
+                gas_spent,
+                operations,
+                items,
+                state,
+            } => carrying_four(0, gas_spent, operations, items as u64, state.used as u64),
+            Answer::Refused(f) => f.numbered(),
+        }
+    }
+}
+
+// The calls of crate `vm` come here behind their test of lengths (34) and the verifier.
+pub fn run(
+    kinds: &[u8],
+    operands: &[u64],
+    caller: u64,
+    gas_limit: u64,
+    stack: &mut [u64],
+    work: &mut [u64],
+    storage: &mut [u64],
+    state: State,
+) -> Answer
+    requires { ⌜ Lent (now kinds) (now operands) (now stack) (now work) (now storage) (state .used) ⌝ }
+    ensures { λ a. ⌜ Meets (performed (record {
+            kinds = now (kinds .entry); operands = now (operands .entry); caller = caller; limit = «gas_limit»; state = state;
+            stack = now (stack .entry); work = now (work .entry); storage = now (storage .entry) }))
+        state a (now (stack .exit)) (now (work .exit)) (now (storage .exit)) ⌝ }
+{
+    let used = state.used;
+    slots::copy_needed(work, storage, kinds, operands, used);
+    let from = Regs {
+        pos: 0,
+        gas: gas_limit,
+        items: 0,
+        used,
+        ops: 0,
+        code: 0,
+        note: 0,
+    };
+    let r = metered::run(kinds, operands, caller, stack, work, from);
+    finish(kinds, operands, gas_limit, r, stack, work, storage, state)
+}
+
+// The answer of a run that has ended, and what it leaves in the buffers.
+fn finish(
+    kinds: &[u8],
+    operands: &[u64],
+    gas_limit: u64,
+    r: Regs,
+    stack: &mut [u64],
+    work: &mut [u64],
+    storage: &mut [u64],
+    state: State,
+) -> Answer
+    requires { ⌜ Lent (now kinds) (now operands) (now stack) (now work) (now storage) (state .used) ⌝ }
+    requires { ⌜ Held (length (now work)) r × (1 ≤ r .code) × (r .gas ≤ «gas_limit») ⌝ }
+    ensures { λ a. ⌜ ((c : ℕ) (o : Outcome) → AlikeBut
+            (Serves (now (kinds .entry)) (now (operands .entry)) (state .used) (now (storage .entry)))
+            (outcomeOf (now (stack .entry)) (now (work .entry)) r) o
+        → Meets (ofRun (record {
+            kinds = now (kinds .entry); operands = now (operands .entry); caller = c; limit = «gas_limit»; state = state;
+            stack = now (stack .entry); work = now (work .entry); storage = now (storage .entry) }) o)
+        state a (now (stack .exit)) (now (work .exit)) (now (storage .exit))) ⌝ }
+{
+    if r.code != 1 {
+        buffers::clear_from(stack, 0);
+        buffers::clear_from(work, 0);
+        return Answer::Refused(refusal_of(r.code, r.note, r.gas));
+    }
+    let items = r.items;
+    let used = r.used;
+    buffers::clear_from(stack, items);
+    let before = state.used;
+    slots::copy_changed(storage, work, kinds, operands, before);
+    buffers::copy_part(storage, work, before, used);
+    buffers::clear_from(work, 0);
+    Answer::Success {
+        gas_spent: gas_limit - r.gas,
+        operations: r.ops,
+        items,
+        state: State { used },
+    }
+}
+
+// The refusal that registers hold whose code is neither 0 nor 1.
+fn refusal_of(code: u64, note: u64, left: u64) -> Refusal
+    ensures { λ f. ⌜ f ≡ refusalOf (faultOf code note left) ⌝ }
+{
+    match code {
+        47 => Refusal::StackUnderflow,
+        48 => Refusal::StackLimitExceeded,
+        49 => Refusal::DivisionByZero,
+        50 => Refusal::StorageLimitExceeded(note),
+        51 => Refusal::OutsideStorage,
+        _ => Refusal::OutOfGas { price: note, left },
+    }
+}
