@@ -49,10 +49,7 @@ follow (next g fr) k = k g fr
 follow (done g fr) k = done g fr
 follow (stop f) k = stop f
 
--- the two ways to touch the storage: a slot past the used ones reads 0, and zeros fill what a store leaves between
-abbrev pub loadAt : List ℕ → ℕ → ℕ
-loadAt m i = getD m i 0
-
+-- a store, which fills with zeros what it leaves between
 abbrev pub storeAt : List ℕ → ℕ → ℕ → List ℕ
 storeAt m i v = cond (ltb i (length m)) (set m i v) (m ++ (replicate (i - length m) 0 ++ (v ∷ [])))
 
@@ -86,8 +83,9 @@ abbrev pub jumpIfNotZeroOf : ℕ → List ℕ → List ℕ → Effect
 jumpIfNotZeroOf t [] m = fails stackUnderflow
 jumpIfNotZeroOf t (v ∷ s) m = cond (eqb v 0) (moves s m) (jumps t s m)
 
+-- a slot past the used ones reads 0
 abbrev pub loadOf : ℕ → List ℕ → List ℕ → Effect
-loadOf i s m = pushOf (loadAt m i) s m
+loadOf i s m = pushOf (getD m i 0) s m
 
 -- what 50 carries: the slots that the storage would need, as far as a word counts them
 abbrev pub requested : ℕ → ℕ
@@ -107,23 +105,8 @@ haltOf s m = ends
 -- the effects of kinds 0 to 15 with the operand v, c being the caller
 abbrev pub effects : (c room v : ℕ) → List (List ℕ → List ℕ → Effect)
 effects c room v =
-    pushOf v
-    ∷ twoOf add
-    ∷ twoOf sub
-    ∷ twoOf mul
-    ∷ twoOf div
-    ∷ dupOf
-    ∷ swapOf
-    ∷ jumps v
-    ∷ jumpIfNotZeroOf v
-    ∷ twoOf eq
-    ∷ twoOf lt
-    ∷ loadOf v
-    ∷ storeOf room v
-    ∷ pushOf c
-    ∷ jumpIfZeroOf v
-    ∷ haltOf
-    ∷ []
+    pushOf v ∷ twoOf add ∷ twoOf sub ∷ twoOf mul ∷ twoOf div ∷ dupOf ∷ swapOf ∷ jumps v
+    ∷ jumpIfNotZeroOf v ∷ twoOf eq ∷ twoOf lt ∷ loadOf v ∷ storeOf room v ∷ pushOf c ∷ jumpIfZeroOf v ∷ haltOf ∷ []
 
 -- a kind above 15 is taken for Halt
 abbrev pub effectOf : (c room : ℕ) → Operation → List ℕ → List ℕ → Effect

@@ -4,8 +4,8 @@ use native.Mathlib.Omega.{arith}
 use native.Mathlib.Nat.{sub-zero}
 use mathlib.Core.Path.{_≡_, refl, sym, ap, _∙_}
 use mathlib.Core.Bool.{_&&_}
-use mathlib.Core.List.{List, _++_}
-use lib.ListN.{length, take, replicate}
+use mathlib.Core.List.{List, _++_, reverse, reverse-cons}
+use lib.ListN.{length, getD, take, replicate}
 use lib.Seq.{take-suc, length-take-le}
 use lib.Dec.{leb, ltb}
 use Rattle.machine.specs.declared.Regs.{Regs}
@@ -21,13 +21,13 @@ use Rattle.perform.specs.declared.Answer.{Answer}
 use Rattle.perform.specs.declared.Answer.the-variants.{Success, Refused}
 use Rattle.perform.specs.Needed.{changed, Copied, Serves}
 use Rattle.perform.specs.Call.{Call}
-use Rattle.perform.specs.Run.{up, ofRun, refusalOf, Meets}
+use Rattle.perform.specs.Run.{ofRun, refusalOf, Meets}
 use Rattle.perform.proofs.Needed.{brought}
 
-pub up-down : (n : ℕ) (xs : List ℕ) → n ≤ length xs → up (down n xs) ≡ take n xs
-unfolding down up
-up-down zero xs h = refl
-up-down (suc n) xs h = rw (up-down n xs (omega arith), take-suc xs n 0 h)
+reverse-down : (n : ℕ) (xs : List ℕ) → n ≤ length xs → reverse (down n xs) ≡ take n xs
+unfolding down
+reverse-down zero xs h = refl
+reverse-down (suc n) xs h = reverse-cons (getD xs n 0) (down n xs) ∙ rw (reverse-down n xs (omega arith), take-suc xs n 0 h)
 
 -- the run on the work buffer is a whole run on its first slots
 pub on-work : (program : List Operation) (c g used room : ℕ) (s w : List ℕ) (o : Outcome) → length w ≡ room
@@ -54,7 +54,7 @@ module _ (x : Call) (r : Regs) (s′ w′ : List ℕ) (same : length (x .work) �
           answer = rw (d, u);
           says = rw (d, u);
           state = rw u;
-          stack = rw (up-down (r .items) (x .stack) hi, d) es;
+          stack = rw (reverse-down (r .items) (x .stack) hi, d) es;
           work = all-zero (x .work) w′ ew;
           storage = brought (x .kinds) (x .operands) (x .state .used) (r .used) (x .storage) (x .work) (l .0) y m′ same hu (l .2) p q;
         })

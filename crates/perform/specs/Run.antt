@@ -1,7 +1,7 @@
 -- A run, from all that a call is given to the answer, the state and each lent buffer.
 use Prim.Native.Nat.{ℕ, _-_}
 use mathlib.Core.Path.{_≡_}
-use mathlib.Core.List.{List, [], _∷_, _++_}
+use mathlib.Core.List.{List, _++_, reverse}
 use lib.ListN.{length, take, drop, replicate}
 use Rattle.machine.specs.Machine.{Fault, outOfGas, stackUnderflow, stackLimitExceeded, divisionByZero, storageLimitExceeded, outsideStorage, Outcome, next, done, stop, decode, whole}
 use Rattle.checks.specs.declared.Refusal.{Refusal}
@@ -19,11 +19,6 @@ pub record Result : Type 0 where
   pub work : List ℕ
   pub storage : List ℕ
 
--- a stack, bottom first
-unfoldable pub up : List ℕ → List ℕ
-up [] = []
-up (x ∷ s) = up s ++ (x ∷ [])
-
 -- the machine's refusal as the call's
 abbrev pub refusalOf : Fault → Refusal
 refusalOf (outOfGas price left) = OutOfGas price left
@@ -39,7 +34,7 @@ undone f x =
     let zeros : List ℕ → List ℕ = λ buffer. replicate (length buffer) 0 in
     record { answer = Refused f; state = x .state; stack = zeros (x .stack); work = zeros (x .work); storage = x .storage }
 
--- a run's outcome; a whole run is never left unfinished
+-- a run's outcome, the stack with its bottom first; a whole run is never left unfinished
 abbrev pub ofRun : Call → Outcome → Result
 ofRun x (next h fr) = undone (OutOfGas 0 h) x
 ofRun x (stop f) = undone (refusalOf f) x
@@ -48,7 +43,7 @@ ofRun x (done h fr) =
     record {
       answer = Success (x .limit - h) (fr .ops) (length (fr .stack)) after;
       state = after;
-      stack = up (fr .stack) ++ replicate (length (x .stack) - length (fr .stack)) 0;
+      stack = reverse (fr .stack) ++ replicate (length (x .stack) - length (fr .stack)) 0;
       work = replicate (length (x .work)) 0;
       storage = fr .storage ++ drop (length (fr .storage)) (x .storage);
     }

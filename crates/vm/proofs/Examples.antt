@@ -8,7 +8,7 @@ use Rattle.checks.specs.Verify.{operationsCheck}
 use Rattle.numbered.specs.declared.Numbered.{Numbered}
 use Rattle.numbered.specs.Numbered.{plain, carrying}
 use Rattle.perform.specs.Numbers.{answerNumbered}
-use Rattle.perform.specs.Run.{Result, up}
+use Rattle.perform.specs.Run.{Result}
 use Rattle.vm.specs.Transition.{meteredOf}
 
 -- a metered run by caller 7 with no storage used: buffers as lent, whatever they hold
@@ -30,7 +30,7 @@ unfolding decode runOf whole operationsCheck
 tally = refl
 
 tally-stack : ran tallyKinds tallyOperands 1000 [] .stack ≡ 24 ∷ replicate 4095 0
-unfolding decode runOf whole operationsCheck up
+unfolding decode runOf whole operationsCheck
 tally-stack = refl
 
 e2 : answered tallyKinds tallyOperands 6 [] ≡ carrying 46 (2 ∷ 1 ∷ [])
@@ -53,7 +53,7 @@ e4 = refl
 
 -- Push 9, which passes the end, and Jump 1
 e5-push : ran (0 ∷ []) (9 ∷ []) 1000 [] .stack ≡ 9 ∷ replicate 4095 0
-unfolding decode runOf whole operationsCheck up
+unfolding decode runOf whole operationsCheck
 e5-push = refl
 
 e5-jump : answered (7 ∷ []) (1 ∷ []) 1000 [] ≡ plain 45
