@@ -11,29 +11,36 @@ use lib.Dec.{leb, ltb}
 use Rattle.machine.specs.declared.Regs.{Regs}
 use Rattle.checks.specs.declared.Refusal.{Refusal}
 use Rattle.checks.specs.Numbers.{refusalNumbered}
-use Rattle.kinds.specs.Kinds.{Operation}
-use Rattle.machine.specs.Machine.{Outcome, next, done, stop, machine, runOf, whole}
+use Rattle.machine.specs.Machine.{Outcome, next, done, stop, decode, whole}
 use Rattle.machine.specs.Alike.{AlikeBut}
-use Rattle.machine.specs.Registers.{down, frameOf, outcomeOf, faultOf}
+use Rattle.machine.specs.Registers.{down, frameOf, outcomeOf, faultOf, Ran}
 use Rattle.machine.proofs.Stack.{length-down}
 use Rattle.machine.proofs.Effects.{refused}
 use Rattle.perform.specs.declared.Answer.{Answer}
 use Rattle.perform.specs.declared.Answer.the-variants.{Success, Refused}
-use Rattle.perform.specs.Needed.{changed, Copied, Serves}
+use Rattle.perform.specs.Needed.{needed, changed, Copied, Serves}
 use Rattle.perform.specs.Call.{Call}
+use Rattle.perform.specs.Lent.{Lent}
 use Rattle.perform.specs.Run.{ofRun, refusalOf, Meets}
-use Rattle.perform.proofs.Needed.{brought}
+use Rattle.perform.proofs.Needed.{served, brought}
 
 reverse-down : (n : ℕ) (xs : List ℕ) → n ≤ length xs → reverse (down n xs) ≡ take n xs
 unfolding down
 reverse-down zero xs h = refl
 reverse-down (suc n) xs h = reverse-cons (getD xs n 0) (down n xs) ∙ rw (reverse-down n xs (omega arith), take-suc xs n 0 h)
 
--- the run on the work buffer is a whole run on its first slots
-pub on-work : (program : List Operation) (c g used room : ℕ) (s w : List ℕ) (o : Outcome) → length w ≡ room
-    → o ≡ runOf (machine program c (length w)) (g + 1) g (record { pos = 0; stack = down 0 s; storage = take used w; ops = 0 }) → o ≡ whole program c room g (take used w)
+-- the run on a work buffer w₀ with the slots that it needs is the run on the storage, but for slots that it can't tell
+pub on-work : (x : Call) (w₀ s w : List ℕ) (from r : Regs) → Lent (x .kinds) (x .operands) (x .stack) (x .work) (x .storage) (x .state .used) → length w₀ ≡ length (x .work)
+    → Copied (λ j. needed (x .kinds) (x .operands) (x .state .used) j && ltb j (x .state .used)) (x .storage) (x .work) w₀
+    → from ≡ record { pos = 0; gas = x .limit; items = 0; used = x .state .used; ops = 0; code = 0; note = 0 }
+    → Ran (decode (x .kinds) (x .operands)) (x .caller) from r (x .stack) w₀ s w
+    → AlikeBut (Serves (x .kinds) (x .operands) (x .state .used) (x .storage)) (outcomeOf s w r) (whole (decode (x .kinds) (x .operands)) (x .caller) (length (x .storage)) (x .limit) (take (x .state .used) (x .storage)))
 unfolding whole down
-on-work program c g used room s w o e q = rw (← e) q
+on-work x w₀ s w from r lent long p e ran =
+    let start : Regs = record { pos = 0; gas = x .limit; items = 0; used = x .state .used; ops = 0; code = 0; note = 0 } in
+    let all : Ran (decode (x .kinds) (x .operands)) (x .caller) start r (x .stack) w₀ s w = rw e at ran in
+    let q : outcomeOf s w r ≡ whole (decode (x .kinds) (x .operands)) (x .caller) (length (x .storage)) (x .limit) (take (x .state .used) w₀) = rw (← lent .same, ← long) (all .outcome (x .limit + 1) (omega arith)) in
+    rw q (served (x .kinds) (x .operands) (x .state .used) (x .caller) (x .limit) (x .storage) (x .work) w₀ (lent .program) p (lent .within) (lent .same))
 
 -- a buffer that is cleared from its start
 all-zero : (s : List ℕ) (s′ : List ℕ) → s′ ≡ take 0 s ++ replicate (length s - 0) 0 → s′ ≡ replicate (length s) 0

@@ -50,7 +50,9 @@ impl Answer {
     }
 }
 
-// The calls of crate `vm` come here behind their test of lengths (34) and the verifier.
+// The calls of crate `vm` come here behind their test of lengths (34) and the verifier. Where the program has more operations
+// than an eighth of the used slots, to look at it is no gain over copying them all. The loop is called at two places, so that LLVM
+// leaves it a function of its own: inlined into this one it was slower by a sixth.
 pub fn run(
     kinds: &[u8],
     operands: &[u64],
@@ -63,13 +65,33 @@ pub fn run(
 ) -> Answer
     requires { ⌜ Lent (now kinds) (now operands) (now stack) (now work) (now storage) (state .used) ⌝ }
     ensures { λ a. ⌜ Meets (performed (record {
-            kinds = now (kinds .entry); operands = now (operands .entry); caller = caller; limit = «gas_limit»; state = state;
-            stack = now (stack .entry); work = now (work .entry); storage = now (storage .entry) }))
+      kinds = now (kinds .entry);
+      operands = now (operands .entry);
+      caller = caller;
+      limit = «gas_limit»;
+      state = state;
+      stack = now (stack .entry);
+      work = now (work .entry);
+      storage = now (storage .entry);
+    }))
         state a (now (stack .exit)) (now (work .exit)) (now (storage .exit)) ⌝ }
 {
     let used = state.used;
-    slots::copy_needed(work, storage, kinds, operands, used);
-    let from = Regs {
+    if kinds.len() > used / 8 {
+        buffers::copy_part(work, storage, 0, used);
+        let r = metered::run(kinds, operands, caller, stack, work, start(gas_limit, used));
+        return finish(kinds, operands, gas_limit, r, stack, work, storage, state);
+    }
+    slots::copy_named(work, storage, kinds, operands, used);
+    let r = metered::run(kinds, operands, caller, stack, work, start(gas_limit, used));
+    finish(kinds, operands, gas_limit, r, stack, work, storage, state)
+}
+
+// The registers before the first operation.
+fn start(gas_limit: u64, used: usize) -> Regs
+    ensures { λ r. ⌜ r ≡ record { pos = 0; gas = «gas_limit»; items = 0; used = used; ops = 0; code = 0; note = 0 } ⌝ }
+{
+    Regs {
         pos: 0,
         gas: gas_limit,
         items: 0,
@@ -77,9 +99,7 @@ pub fn run(
         ops: 0,
         code: 0,
         note: 0,
-    };
-    let r = metered::run(kinds, operands, caller, stack, work, from);
-    finish(kinds, operands, gas_limit, r, stack, work, storage, state)
+    }
 }
 
 // The answer of a run that has ended, and what it leaves in the buffers.
@@ -96,11 +116,18 @@ fn finish(
     requires { ⌜ Lent (now kinds) (now operands) (now stack) (now work) (now storage) (state .used) ⌝ }
     requires { ⌜ Held (length (now work)) r × (1 ≤ r .code) × (r .gas ≤ «gas_limit») ⌝ }
     ensures { λ a. ⌜ ((c : ℕ) (o : Outcome) → AlikeBut
-            (Serves (now (kinds .entry)) (now (operands .entry)) (state .used) (now (storage .entry)))
-            (outcomeOf (now (stack .entry)) (now (work .entry)) r) o
+        (Serves (now (kinds .entry)) (now (operands .entry)) (state .used) (now (storage .entry)))
+        (outcomeOf (now (stack .entry)) (now (work .entry)) r) o
         → Meets (ofRun (record {
-            kinds = now (kinds .entry); operands = now (operands .entry); caller = c; limit = «gas_limit»; state = state;
-            stack = now (stack .entry); work = now (work .entry); storage = now (storage .entry) }) o)
+          kinds = now (kinds .entry);
+          operands = now (operands .entry);
+          caller = c;
+          limit = «gas_limit»;
+          state = state;
+          stack = now (stack .entry);
+          work = now (work .entry);
+          storage = now (storage .entry);
+        }) o)
         state a (now (stack .exit)) (now (work .exit)) (now (storage .exit))) ⌝ }
 {
     if r.code != 1 {

@@ -9,8 +9,8 @@ ghost use Rattle.kinds.specs.Kinds.{operation};
 ghost use Rattle.perform.specs.Needed.{Copied, names, named, needed, stores, changed};
 use super::buffers;
 
-// Where the program has more operations than an eighth of the used slots, to look at it is no gain over copying them all.
-pub fn copy_needed(d: &mut [u64], s: &[u64], kinds: &[u8], operands: &[u64], used: usize)
+// All the used slots, or those that a short program names.
+fn copy_needed(d: &mut [u64], s: &[u64], kinds: &[u8], operands: &[u64], used: usize)
     requires { ⌜ (length (now kinds) ≡ length (now operands)) × (used ≤ length (now d)) × (used ≤ length (now s)) ⌝ }
     ensures { λ _. ⌜ Copied (λ j. needed (now (kinds .entry)) (now (operands .entry)) used j && ltb j used) (now (s .entry)) (now (d .entry)) (now (d .exit)) ⌝ }
 {
@@ -44,7 +44,7 @@ fn has_store(kinds: &[u8]) -> bool
 }
 
 // Only the slots that the program names.
-fn copy_named(d: &mut [u64], s: &[u64], kinds: &[u8], operands: &[u64], used: usize)
+pub fn copy_named(d: &mut [u64], s: &[u64], kinds: &[u8], operands: &[u64], used: usize)
     requires { ⌜ (length (now kinds) ≡ length (now operands)) × (used ≤ length (now d)) × (used ≤ length (now s)) ⌝ }
     ensures { λ _. ⌜ Copied (λ j. named (now (kinds .entry)) (now (operands .entry)) (length (now (kinds .entry))) j && ltb j used) (now (s .entry)) (now (d .entry)) (now (d .exit)) ⌝ }
 {

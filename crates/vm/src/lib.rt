@@ -4,7 +4,6 @@ ghost use Rattle.perform.specs.Lent.{Lent};
 ghost use Rattle.perform.specs.Run.{Meets};
 ghost use Rattle.vm.specs.Transition.{meteredOf, transitionOf};
 ghost use Rattle.vm.specs.Verified.{verified};
-
 use checks::Check;
 use checks::Refusal;
 use context::Gate;
@@ -22,8 +21,15 @@ pub fn run_with_gas(
     state: State,
 ) -> Answer
     ensures { λ a. ⌜ Meets (meteredOf (record {
-            kinds = now (kinds .entry); operands = now (operands .entry); caller = caller; limit = «gas_limit»; state = state;
-            stack = now (stack .entry); work = now (work .entry); storage = now (storage .entry) }))
+      kinds = now (kinds .entry);
+      operands = now (operands .entry);
+      caller = caller;
+      limit = «gas_limit»;
+      state = state;
+      stack = now (stack .entry);
+      work = now (work .entry);
+      storage = now (storage .entry);
+    }))
         state a (now (stack .exit)) (now (work .exit)) (now (storage .exit)) ⌝ }
 {
     if !checks::buffers_fit(
@@ -67,10 +73,17 @@ pub fn execute_state_transition_with_gas(
     state: State,
 ) -> Answer
     ensures { λ a. ⌜ Meets (transitionOf (gateOf (now («chain_id» .entry)) (now («network_id» .entry)) (now («genesis_id» .entry))
-            (now («protocol_version» .entry)) (now («vm_version» .entry)) (now («computed_genesis_id» .entry))
-            (now («expected_protocol» .entry)) (now («expected_vm» .entry))) (record {
-            kinds = now (kinds .entry); operands = now (operands .entry); caller = caller; limit = «gas_limit»; state = state;
-            stack = now (stack .entry); work = now (work .entry); storage = now (storage .entry) }))
+        (now («protocol_version» .entry)) (now («vm_version» .entry)) (now («computed_genesis_id» .entry))
+        (now («expected_protocol» .entry)) (now («expected_vm» .entry))) (record {
+          kinds = now (kinds .entry);
+          operands = now (operands .entry);
+          caller = caller;
+          limit = «gas_limit»;
+          state = state;
+          stack = now (stack .entry);
+          work = now (work .entry);
+          storage = now (storage .entry);
+        }))
         state a (now (stack .exit)) (now (work .exit)) (now (storage .exit)) ⌝ }
 {
     if !checks::buffers_fit(
@@ -127,10 +140,17 @@ pub fn execute_state_transition(
     state: State,
 ) -> Answer
     ensures { λ a. ⌜ Meets (transitionOf (gateOf (now («chain_id» .entry)) (now («network_id» .entry)) (now («genesis_id» .entry))
-            (now («protocol_version» .entry)) (now («vm_version» .entry)) (now («computed_genesis_id» .entry))
-            (now («expected_protocol» .entry)) (now («expected_vm» .entry))) (record {
-            kinds = now (kinds .entry); operands = now (operands .entry); caller = caller; limit = 0; state = state;
-            stack = now (stack .entry); work = now (work .entry); storage = now (storage .entry) }))
+        (now («protocol_version» .entry)) (now («vm_version» .entry)) (now («computed_genesis_id» .entry))
+        (now («expected_protocol» .entry)) (now («expected_vm» .entry))) (record {
+          kinds = now (kinds .entry);
+          operands = now (operands .entry);
+          caller = caller;
+          limit = 0;
+          state = state;
+          stack = now (stack .entry);
+          work = now (work .entry);
+          storage = now (storage .entry);
+        }))
         state a (now (stack .exit)) (now (work .exit)) (now (storage .exit)) ⌝ }
 {
     execute_state_transition_with_gas(
@@ -166,8 +186,15 @@ fn verified_run(
 ) -> Answer
     requires { ⌜ Lent (now kinds) (now operands) (now stack) (now work) (now storage) (state .used) ⌝ }
     ensures { λ a. ⌜ Meets (verified (record {
-            kinds = now (kinds .entry); operands = now (operands .entry); caller = caller; limit = «gas_limit»; state = state;
-            stack = now (stack .entry); work = now (work .entry); storage = now (storage .entry) }))
+      kinds = now (kinds .entry);
+      operands = now (operands .entry);
+      caller = caller;
+      limit = «gas_limit»;
+      state = state;
+      stack = now (stack .entry);
+      work = now (work .entry);
+      storage = now (storage .entry);
+    }))
         state a (now (stack .exit)) (now (work .exit)) (now (storage .exit)) ⌝ }
 {
     match checks::verify(kinds, operands, state.used) {
