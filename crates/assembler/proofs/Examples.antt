@@ -8,7 +8,7 @@ use Rattle.word.specs.Apply.{add, mul}
 use Rattle.token.specs.Token.{scan}
 use Rattle.expression.specs.Tree.{Tree, num, bin, valueOf, kOf, pOf}
 use Rattle.expression.specs.Parse.{parseF, meaning}
-use Rattle.ops.specs.Ascii.{ascii}
+use Rattle.byte.specs.Ascii.{ascii}
 use Rattle.numbered.specs.Numbered.{plain, carrying}
 use Rattle.assembler.specs.State.{refused, started, each}
 use Rattle.assembler.specs.Body.{linesRead}

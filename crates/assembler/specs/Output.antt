@@ -7,8 +7,8 @@ use lib.ListN.{length}
 use Rattle.utf8.specs.Utf8.{utf8}
 use Rattle.lines.specs.Lines.{feedFree}
 use Rattle.number.specs.Decimal.{decimal}
-use Rattle.ops.specs.Ascii.{ascii}
-use Rattle.ops.specs.Ops.{Operation}
+use Rattle.byte.specs.Ascii.{ascii}
+use Rattle.kinds.specs.Kinds.{Operation}
 use Rattle.ops.specs.Written.{writtenAll}
 use Rattle.expression.specs.Tree.{Tree, kOf, pOf}
 use Rattle.expression.specs.Written.{opsOf}

@@ -9,7 +9,7 @@ use borrow.Author.Tests.{le-leb, lt-leb}
 use lib.ListN.{length, take, drop, length-append}
 use Rattle.byte.proofs.Parts.{middle}
 use Rattle.number.specs.Decimal.{decimal}
-use Rattle.ops.specs.Ascii.{ascii}
+use Rattle.byte.specs.Ascii.{ascii}
 use Rattle.ops.specs.Ops.{onto}
 use Rattle.expression.specs.Tree.{Tree, lenOf}
 use Rattle.expression.specs.Parse.{tree, meaning}

@@ -7,7 +7,7 @@ use lib.ListN.{replicate}
 use Rattle.number.specs.Decimal.{decimal}
 use Rattle.token.specs.Token.{scan}
 use Rattle.numbered.specs.Numbered.{carrying, plain}
-use Rattle.ops.specs.Ascii.{ascii}
+use Rattle.byte.specs.Ascii.{ascii}
 use Rattle.context.specs.Gate.{gateOf}
 use Rattle.machine.specs.Operation.{decode}
 use Rattle.machine.specs.Machine.{runOf, whole}

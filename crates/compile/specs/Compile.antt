@@ -3,7 +3,8 @@ use Prim.Native.Nat.{ℕ}
 use mathlib.Core.Path.{_≡_}
 use mathlib.Core.List.{List}
 use lib.ListN.{length}
-use Rattle.ops.specs.Ops.{Operation, Reading, ops, refused, kindsOf, operandsOf, onto}
+use Rattle.kinds.specs.Kinds.{Operation}
+use Rattle.ops.specs.Ops.{Reading, ops, refused, kindsOf, operandsOf, onto}
 use Rattle.vm.specs.Transition as Transition
 use Rattle.assembler.specs.Output as Output
 use Rattle.assembler.specs.Output.{success, refusal}

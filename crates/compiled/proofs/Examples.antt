@@ -10,7 +10,7 @@ use Rattle.numbered.specs.declared.Numbered.{Numbered}
 use Rattle.numbered.specs.Numbered.{carrying, plain}
 use Rattle.number.specs.Decimal.{decimal}
 use Rattle.token.specs.Token.{scan}
-use Rattle.ops.specs.Ascii.{ascii}
+use Rattle.byte.specs.Ascii.{ascii}
 use Rattle.ops.specs.Ops.{Reading, opsOf, kindsOf, operandsOf, onto}
 use Rattle.context.specs.declared.Gate.the-variants as gate
 use Rattle.machine.specs.declared.Refusal.the-variants.{OutOfGas, StackLimitExceeded}

@@ -5,7 +5,8 @@ use mathlib.Core.Path.{_≡_, refl, ap, _∙_}
 use mathlib.Core.List.{List, [], _∷_, _++_, map}
 use lib.ListN.{length, length-append}
 use Rattle.word.specs.Apply.{Binary, add, sub, mul, div, eq, lt}
-use Rattle.ops.specs.Ops.{Operation, kindsOf, operandsOf}
+use Rattle.kinds.specs.Kinds.{Operation}
+use Rattle.ops.specs.Ops.{kindsOf, operandsOf}
 use Rattle.ops.specs.Written.{cleared, IsOperation, Each, none, one}
 use Rattle.machine.specs.Operation.{opOf, decode}
 use Rattle.vm.specs.declared.Check.the-variants.{Passed}

@@ -14,7 +14,7 @@ use Rattle.lines.specs.Lines.{feedFree}
 use Rattle.lines.proofs.Written.{free-cons, free-append}
 use Rattle.number.specs.Decimal.{digit, allDigits, decimal}
 use Rattle.number.proofs.Decimal.{allDigits-decimal}
-use Rattle.ops.specs.Ascii.{ascii}
+use Rattle.byte.specs.Ascii.{ascii}
 use Rattle.ops.specs.Ops.{ops, readText, onto}
 use Rattle.ops.specs.Written.{writtenAll, remarks, IsRemark, Each, none, one}
 use Rattle.ops.proofs.Written.{reads-written}

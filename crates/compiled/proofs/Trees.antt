@@ -12,7 +12,7 @@ use Rattle.word.specs.Apply.{Binary, add, sub, mul, div, eq, lt, apply}
 use Rattle.machine.specs.declared.Refusal.the-variants.{OutOfGas, StackLimitExceeded}
 use Rattle.machine.specs.Operation.{Op, push, binary, halt, opOf}
 use Rattle.machine.specs.Machine.{Frame, moves, fails, Outcome, next, done, stop, settle, follow, start, whole}
-use Rattle.ops.specs.Ops.{Operation}
+use Rattle.kinds.specs.Kinds.{Operation}
 use Rattle.expression.specs.Tree.{Tree, num, bin, applied, valueOf, kOf, pOf}
 use Rattle.expression.specs.Written.{operatorOf, opsOf}
 use Rattle.compiled.specs.Counting.{program, cost}

@@ -6,7 +6,8 @@ use mathlib.Core.List.{List, [], _∷_}
 use lib.ListN.{length, take, drop, length-append}
 use lib.Seq.{take-at}
 use Rattle.ops.specs.declared.ParsedOps.{ParsedOps}
-use Rattle.ops.specs.Ops.{Operation, Reading, ops, refused, readText, answerOf, opsOf, onto, kindsOf, operandsOf, Parsed}
+use Rattle.kinds.specs.Kinds.{Operation}
+use Rattle.ops.specs.Ops.{Reading, ops, refused, readText, answerOf, opsOf, onto, kindsOf, operandsOf, Parsed}
 use Rattle.vm.specs.declared.Answer.{Answer}
 use Rattle.vm.specs.Transition.{meteredOf, Meets}
 use Rattle.examples.specs.Runs.{operations, countOf, ran, zeros, plainly, four, onFour, Ends, Stores, nines, Fills}

@@ -3,7 +3,7 @@ use Prim.Native.Nat.{ℕ}
 use mathlib.Core.Path.{_≡_}
 use mathlib.Core.List.{List, [], _∷_}
 use lib.ListN.{replicate}
-use Rattle.ops.specs.Ascii.{ascii}
+use Rattle.byte.specs.Ascii.{ascii}
 use Rattle.numbered.specs.Numbered.{plain, carrying}
 use Rattle.ops.specs.Ops.{readText, answerOf}
 use Rattle.ops.specs.Numbers.{parsedOpsNumbered}

@@ -3,7 +3,8 @@ use Prim.Native.Nat.{ℕ}
 use mathlib.Core.Path.{_≡_}
 use mathlib.Core.List.{List}
 use lib.ListN.{replicate}
-use Rattle.ops.specs.Ops.{Operation, readText, answerOf, opsOf, kindsOf, operandsOf, onto}
+use Rattle.kinds.specs.Kinds.{Operation}
+use Rattle.ops.specs.Ops.{readText, answerOf, opsOf, kindsOf, operandsOf, onto}
 use Rattle.ops.specs.declared.ParsedOps.{ParsedOps}
 use Rattle.ops.specs.declared.ParsedOps.the-variants.{Read, Refused}
 use Rattle.vm.specs.declared.Answer.{Answer}

@@ -6,7 +6,7 @@ use Prim.Native.String.{String}
 use lib.ListN.{replicate}
 use Rattle.number.specs.Decimal.{decimal}
 use Rattle.word.specs.Apply.{add, mul}
-use Rattle.ops.specs.Ascii.{ascii}
+use Rattle.byte.specs.Ascii.{ascii}
 use Rattle.token.specs.Token.{scan}
 use Rattle.expression.specs.Tree.{Tree, num, bin}
 use Rattle.expression.specs.Parse.{Binding, Env, tree, wrong, parseF, meaning}

@@ -6,7 +6,7 @@ use native.Mathlib.Omega.{arith}
 use lib.ListN.{length, length-append}
 use Rattle.word.specs.Apply.{Binary, add, sub, mul, div, eq, lt}
 use Rattle.number.specs.Decimal.{decimal}
-use Rattle.ops.specs.Ops.{Operation}
+use Rattle.kinds.specs.Kinds.{Operation}
 use Rattle.ops.specs.Written.{written, writtenAll}
 use Rattle.expression.specs.Tree.{Tree, num, bin, kOf, lineOf, lenOf}
 use Rattle.expression.specs.Written.{operatorOf, opsOf, textOf}

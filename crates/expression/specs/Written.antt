@@ -2,7 +2,7 @@
 use Prim.Native.Nat.{ℕ}
 use mathlib.Core.List.{List, [], _∷_, _++_}
 use Rattle.word.specs.Apply.{Binary, add, sub, mul, div, eq, lt}
-use Rattle.ops.specs.Ops.{Operation}
+use Rattle.kinds.specs.Kinds.{Operation}
 use Rattle.ops.specs.Written.{writtenAll}
 use Rattle.expression.specs.Tree.{Tree, num, bin}
 

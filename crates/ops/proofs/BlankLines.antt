@@ -20,8 +20,9 @@ use Rattle.trim.specs.Blank.{blanksLen}
 use Rattle.trim.proofs.Laws.{start-stays}
 use Rattle.trim.proofs.Suffix.{end-start}
 use Rattle.trim.proofs.Blanks.{Blank, none, one, three, Blanks, blanks, no-blank, wide, start-blank, end-blank}
+use Rattle.kinds.specs.Kinds.{kindOf}
 use Rattle.ops.specs.Kinds.{lineWith}
-use Rattle.ops.specs.Line.{skipped, lineOf}
+use Rattle.ops.specs.Line.{Rule, ReadsDigits, skipped, lineOf}
 use Rattle.ops.specs.Passes.{lineReadAt, Indented, OperationAt}
 use Rattle.ops.specs.declared.line.LineRead.{LineRead}
 use Rattle.ops.specs.declared.line.LineRead.the-variants.{Skip, Op}
@@ -63,30 +64,30 @@ less-behind x {b = []} e h = ([], none, ap lessReturn (append-nil x) ∙ e ∙ s
 less-behind x {b = c ∷ s} e h = (lessReturn (c ∷ s), less-blank h, less-append x c s)
 
 -- the line at a place, by what stands before the line feed
-line-is : (text : List ℕ) (at line : ℕ) (l t : List ℕ) (next : ℕ) (x : LineRead) → drop at text ≡ l ++ 10 ∷ t → feedFree l ≡ true → next ≡ at + suc (length l)
-    → lineOf line at (lessReturn l) ≡ x → lineReadAt text at line ≡ record { read = x; next = next }
-line-is text at line l t next x e f p q =
+line-is : (rule : Rule) (text : List ℕ) (at line : ℕ) (l t : List ℕ) (next : ℕ) (x : LineRead) → drop at text ≡ l ++ 10 ∷ t → feedFree l ≡ true → next ≡ at + suc (length l)
+    → lineOf rule line at (lessReturn l) ≡ x → lineReadAt rule text at line ≡ record { read = x; next = next }
+line-is rule text at line l t next x e f p q =
     ap₂ (λ x y. record { read = x; next = y })
-    (ap (λ (s : List ℕ). lineOf line at (firstLine s)) e ∙ ap (λ ls. lineOf line at (headOf ls)) (line-then l t f) ∙ q)
+    (ap (λ (s : List ℕ). lineOf rule line at (firstLine s)) e ∙ ap (λ ls. lineOf rule line at (headOf ls)) (line-then l t f) ∙ q)
     (ap (λ (s : List ℕ). at + span s) e ∙ ap (λ (m : ℕ). at + m) (span-free l t f) ∙ sym p)
 
 -- White_Space alone is skipped
-blank-skip : {b : List ℕ} → Blank b → (line start : ℕ) → lineOf line start b ≡ Skip
-blank-skip {b} h line start =
+blank-skip : {b : List ℕ} → Blank b → (rule : Rule) (line start : ℕ) → lineOf rule line start b ≡ Skip
+blank-skip {b} h rule line start =
     let t : startTrimmed b ≡ [] = ap startTrimmed (sym (append-nil b)) ∙ start-blank h [] in
-    skip-read b (startTrimmed b) (trimmed b) refl refl line start (ap (λ (x : List ℕ). skipped (endTrimmed x)) t)
+    skip-read b (startTrimmed b) (trimmed b) refl refl rule line start (ap (λ (x : List ℕ). skipped (endTrimmed x)) t)
 
 -- so is a remark
 pub remark-kept : (x : List ℕ) → (y : List ℕ) × (lessReturn (35 ∷ x) ≡ 35 ∷ y)
 remark-kept [] = ([], refl)
 remark-kept (b ∷ x) = (lessReturn (b ∷ x), refl)
 
-pub remark-skip : {b : List ℕ} → Blank b → (y : List ℕ) (line start : ℕ) → lineOf line start (b ++ 35 ∷ y) ≡ Skip
-remark-skip {b} h y line start =
+pub remark-skip : {b : List ℕ} → Blank b → (y : List ℕ) (rule : Rule) (line start : ℕ) → lineOf rule line start (b ++ 35 ∷ y) ≡ Skip
+remark-skip {b} h y rule line start =
     let s : List ℕ = 35 ∷ y in
     let t : startTrimmed (b ++ s) ≡ s = start-blank h s ∙ start-stays 35 y refl (λ e. omega arith) (λ e f. omega arith) in
     let e = end-start s in
-    skip-read (b ++ s) (startTrimmed (b ++ s)) (trimmed (b ++ s)) refl refl line start
+    skip-read (b ++ s) (startTrimmed (b ++ s)) (trimmed (b ++ s)) refl refl rule line start
     (ap (λ (x : List ℕ). skipped (endTrimmed x)) t ∙ first (endTrimmed s) (e .0) (e .1))
   where
     first : (z p : List ℕ) → 35 ∷ y ≡ z ++ p → skipped z ≡ true
@@ -117,17 +118,17 @@ not-indented text at h e =
 pub indent : (text : List ℕ) (at first : ℕ) → Indented text at first → Blanks text at first
 indent text at first i = let h = i .within in subst (Blanks text at) (sym (i .is)) (blanks text at (omega arith))
 
-module _ (text : List ℕ) (at first : ℕ) (b : Blanks text at first) (line : ℕ) where
-  pub blank-read : prefixOf (10 ∷ []) (drop first text) ≡ true → lineReadAt text at line ≡ record { read = Skip; next = first + 1 }
+module _ (text : List ℕ) (at first : ℕ) (b : Blanks text at first) (rule : Rule) (line : ℕ) where
+  pub blank-read : prefixOf (10 ∷ []) (drop first text) ≡ true → lineReadAt rule text at line ≡ record { read = Skip; next = first + 1 }
   blank-read e =
       let l = b .between in
       let p = b .place in
-      line-is text at line l (drop 1 (drop first text)) (first + 1) Skip
+      line-is rule text at line l (drop 1 (drop first text)) (first + 1) Skip
       (b .stands ∙ ap (λ (s : List ℕ). l ++ s) (split (10 ∷ []) (drop first text) e)) (blank-free (b .is)) (omega arith)
-      (blank-skip (less-blank (b .is)) line at)
+      (blank-skip (less-blank (b .is)) rule line at)
 
   pub remark-read : prefixOf (35 ∷ []) (drop first text) ≡ true → feedFrom text first < length text
-      → lineReadAt text at line ≡ record { read = Skip; next = feedFrom text first + 1 }
+      → lineReadAt rule text at line ≡ record { read = Skip; next = feedFrom text first + 1 }
   remark-read e h =
       let r = fed text first (b .fits) h in
       go (r .before) (r .free) (r .stands) (r .place)
@@ -136,7 +137,7 @@ module _ (text : List ℕ) (at first : ℕ) (b : Blanks text at first) (line : �
       feed = feedFrom text first
 
       go : (x : List ℕ) → feedFree x ≡ true → drop first text ≡ x ++ 10 ∷ drop (feed + 1) text → feed ≡ first + length x
-          → lineReadAt text at line ≡ record { read = Skip; next = feed + 1 }
+          → lineReadAt rule text at line ≡ record { read = Skip; next = feed + 1 }
       go [] f d p = never (sym (ap (prefixOf (35 ∷ [])) d) ∙ e)
       go (c ∷ x) f d p =
           let l = b .between in
@@ -144,21 +145,21 @@ module _ (text : List ℕ) (at first : ℕ) (b : Blanks text at first) (line : �
           let z : c ≡ 35 = cc in
           let n = b .place in
           let k = remark-kept x in
-          line-is text at line (l ++ c ∷ x) (drop (feed + 1) text) (feed + 1) Skip
+          line-is rule text at line (l ++ c ∷ x) (drop (feed + 1) text) (feed + 1) Skip
           (b .stands ∙ ap (λ (s : List ℕ). l ++ s) d ∙ sym (append-assoc l (c ∷ x) (10 ∷ drop (feed + 1) text)))
           (free-append l (c ∷ x) (blank-free (b .is)) ∙ f)
           (omega (arith, length-append l (c ∷ x)))
-          (ap (lineOf line at) (less-append l c x ∙ ap (λ (a : ℕ). l ++ lessReturn (a ∷ x)) z ∙ ap (λ (s : List ℕ). l ++ s) (k .1))
-          ∙ remark-skip (b .is) (k .0) line at)
+          (ap (lineOf rule line at) (less-append l c x ∙ ap (λ (a : ℕ). l ++ lessReturn (a ∷ x)) z ∙ ap (λ (s : List ℕ). l ++ s) (k .1))
+          ∙ remark-skip (b .is) (k .0) rule line at)
 
-  pub operation-read : (k v end feed : ℕ) → OperationAt text first k v end → Blanks text end feed → prefixOf (10 ∷ []) (drop feed text) ≡ true
-      → lineReadAt text at line ≡ record { read = Op k v; next = feed + 1 }
-  operation-read k v end feed o n h =
+  pub operation-read : ReadsDigits rule → (k v end feed : ℕ) → OperationAt text first k v end → Blanks text end feed → prefixOf (10 ∷ []) (drop feed text) ≡ true
+      → lineReadAt rule text at line ≡ record { read = Op k v; next = feed + 1 }
+  operation-read plain k v end feed o n h =
       let d = o .digits in
-      let r = reads d (o .number) (digits-graphic d (o .all)) (o .some) (o .is) k (o .below) in
+      let r = reads rule k d (o .number) (digits-graphic d (o .all)) (o .some) (plain (kindOf k .operand) d (o .all) ∙ o .is) (o .below) in
       go (lineWith k d) r refl
     where
-      go : (w : List ℕ) → Reads k (o .digits) (o .number) → w ≡ lineWith k (o .digits) → lineReadAt text at line ≡ record { read = Op k v; next = feed + 1 }
+      go : (w : List ℕ) → Reads rule k (o .digits) (o .number) → w ≡ lineWith k (o .digits) → lineReadAt rule text at line ≡ record { read = Op k v; next = feed + 1 }
       go w r u =
           let l = b .between in
           let y = n .between in
@@ -168,12 +169,12 @@ module _ (text : List ℕ) (at first : ℕ) (b : Blanks text at first) (line : �
           let m = n .place in
           let e = kept w (rw u (r .letter)) (rw u (r .plain .unreturned)) in
           let s = less-behind (l ++ w) e (n .is) in
-          line-is text at line ((l ++ w) ++ y) t (feed + 1) (Op k v)
+          line-is rule text at line ((l ++ w) ++ y) t (feed + 1) (Op k v)
           (b .stands ∙ ap (λ (s : List ℕ). l ++ s) (o .stands ∙ ap₂ _++_ (sym u) (n .stands ∙ ap (λ (s : List ℕ). y ++ s) (split (10 ∷ []) (drop feed text) h)))
           ∙ sym (append-assoc l w (y ++ 10 ∷ t)) ∙ sym (append-assoc (l ++ w) y (10 ∷ t)))
           (free-append (l ++ w) y (free-append l w (blank-free (b .is)) ∙ rw u (r .plain .free)) ∙ blank-free (n .is))
           (omega (arith, length-append (l ++ w) y, length-append l w, ap length u))
-          (ap (lineOf line at) (s .2 ∙ append-assoc l w (s .0))
+          (ap (lineOf rule line at) (s .2 ∙ append-assoc l w (s .0))
           ∙ r .is line at (l ++ (w ++ s .0)) (trim-between (b .is) (s .1) w (rw u (r .letter)) (rw u (r .plain .untrimmed)) ∙ u)
           ∙ ap (Op k) (sym (o .operand)))
         where

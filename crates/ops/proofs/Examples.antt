@@ -2,9 +2,10 @@
 use mathlib.Core.Path.{_≡_, refl}
 use Prim.Native.Nat.{ℕ}
 use mathlib.Core.List.{List, [], _∷_}
+use Rattle.byte.specs.Ascii.{ascii}
 use Rattle.numbered.specs.declared.Numbered.{Numbered}
 use Rattle.numbered.specs.Numbered.{plain, carrying}
-use Rattle.ops.specs.Ascii.{ascii}
+use Rattle.kinds.specs.Kinds.{operation}
 use Rattle.ops.specs.Numbers.{parsedOpsNumbered}
 use Rattle.ops.specs.Ops.{ops, readText, answerOf}
 
@@ -12,12 +13,12 @@ use Rattle.ops.specs.Ops.{ops, readText, answerOf}
 tally :
     readText (ascii "# contract: tally\n# expected: 24\nPush 5\nPush 7\nAdd\nPush 2\nMul\nHalt\n") 6
     ≡ ops
-    (record { kind = 0; operand = 5 }
-    ∷ record { kind = 0; operand = 7 }
-    ∷ record { kind = 1; operand = 0 }
-    ∷ record { kind = 0; operand = 2 }
-    ∷ record { kind = 3; operand = 0 }
-    ∷ record { kind = 15; operand = 0 }
+    (operation 0 5
+    ∷ operation 0 7
+    ∷ operation 1 0
+    ∷ operation 0 2
+    ∷ operation 3 0
+    ∷ operation 15 0
     ∷ [])
 tally = refl
 
@@ -26,7 +27,7 @@ abbrev said : List ℕ → ℕ → Numbered
 said text room = parsedOpsNumbered (answerOf (readText text room))
 
 -- E7
-plus-five : readText (ascii "Push +5") 1 ≡ ops (record { kind = 0; operand = 5 } ∷ [])
+plus-five : readText (ascii "Push +5") 1 ≡ ops (operation 0 5 ∷ [])
 plus-five = refl
 
 plus-five-said : said (ascii "Push +5") 1 ≡ carrying 0 (1 ∷ [])

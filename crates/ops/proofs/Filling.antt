@@ -9,7 +9,9 @@ use lib.ListN.{length, take, drop, set, length-set, take-append-drop}
 use lib.Seq.{drop-drop, drop-set-lt, take-suc-set}
 use Rattle.byte.proofs.Tests.{by-leb}
 use Rattle.lines.specs.Lines.{lines}
-use Rattle.ops.specs.Ops.{Operation, Reading, ops, refused, followedBy, thenRead, readLines, opsOf, kindsOf, operandsOf, onto}
+use Rattle.kinds.specs.Kinds.{Operation, operation}
+use Rattle.ops.specs.Line.{Rule}
+use Rattle.ops.specs.Ops.{Reading, ops, refused, followedBy, thenRead, readLines, opsOf, kindsOf, operandsOf, onto}
 use Rattle.ops.specs.Passes.{lineReadAt, readInto, Good, Filled}
 use Rattle.ops.specs.declared.OpsError.{OpsError}
 use Rattle.ops.specs.declared.line.LineRead.{LineRead}
@@ -38,35 +40,35 @@ half-all : (whole out : List ℕ) (n : ℕ) → Half whole out n [] → out ≡ 
 half-all whole out n e = sym (e ∙ take-append-drop n out)
 
 -- the buffers hold n operations, and the lines from here on hold the rest
-pub record Filling (text kinds₀ operands₀ kinds operands : List ℕ) (at line n : ℕ) : Type 0 where
+pub record Filling (rule : Rule) (text kinds₀ operands₀ kinds operands : List ℕ) (at line n : ℕ) : Type 0 where
   pub stands : Stands text at line
   pub sameKinds : length kinds ≡ length kinds₀
   pub sameOperands : length operands ≡ length operands₀
   pub rest : List Operation
-  pub is : readLines text line (lines (drop at text)) (min (length kinds₀) (length operands₀) - n) ≡ ops rest
-  pub inKinds : Half (onto (kindsOf (opsOf (readInto text kinds₀ operands₀))) kinds₀) kinds n (kindsOf rest)
-  pub inOperands : Half (onto (operandsOf (opsOf (readInto text kinds₀ operands₀))) operands₀) operands n (operandsOf rest)
+  pub is : readLines rule text line (lines (drop at text)) (min (length kinds₀) (length operands₀) - n) ≡ ops rest
+  pub inKinds : Half (onto (kindsOf (opsOf (readInto rule text kinds₀ operands₀))) kinds₀) kinds n (kindsOf rest)
+  pub inOperands : Half (onto (operandsOf (opsOf (readInto rule text kinds₀ operands₀))) operands₀) operands n (operandsOf rest)
 
-pub fill-first : (text kinds operands : List ℕ) → Good text kinds operands → Filling text kinds operands kinds operands 0 0 0
-fill-first text kinds operands g =
+pub fill-first : (rule : Rule) (text kinds operands : List ℕ) → Good rule text kinds operands → Filling rule text kinds operands kinds operands 0 0 0
+fill-first rule text kinds operands g =
     let m = min (length kinds) (length operands) in
     let z : m - 0 ≡ m = omega arith in
-    let o : opsOf (readInto text kinds operands) ≡ g .read = ap opsOf (g .is) in
+    let o : opsOf (readInto rule text kinds operands) ≡ g .read = ap opsOf (g .is) in
     record {
       stands = at-first text;
       sameKinds = refl;
       sameOperands = refl;
       rest = g .read;
-      is = ap (readLines text 0 (lines text)) z ∙ g .is;
+      is = ap (readLines rule text 0 (lines text)) z ∙ g .is;
       inKinds = ap (λ (os : List Operation). onto (kindsOf os) kinds) o;
       inOperands = ap (λ (os : List Operation). onto (operandsOf os) operands) o;
     }
 
-module _ {text kinds₀ operands₀ kinds operands : List ℕ} {at line n : ℕ} (p : Filling text kinds₀ operands₀ kinds operands at line n) where
+module _ {rule : Rule} {text kinds₀ operands₀ kinds operands : List ℕ} {at line n : ℕ} (p : Filling rule text kinds₀ operands₀ kinds operands at line n) where
   -- at the end
-  pub filled : length text ≤ at → Filled text kinds₀ operands₀ kinds operands
+  pub filled : length text ≤ at → Filled rule text kinds₀ operands₀ kinds operands
   filled h =
-      let z : p .rest ≡ [] = nothing (sym (p .is) ∙ ended (p .stands) _ h) in
+      let z : p .rest ≡ [] = nothing (sym (p .is) ∙ ended (p .stands) rule _ h) in
       record {
         inKinds = half-all _ kinds n (p .inKinds ∙ ap (λ (os : List Operation). take n kinds ++ onto (kindsOf os) (drop n kinds)) z);
         inOperands = half-all _ operands n (p .inOperands ∙ ap (λ (os : List Operation). take n operands ++ onto (operandsOf os) (drop n operands)) z);
@@ -76,20 +78,20 @@ module _ {text kinds₀ operands₀ kinds operands : List ℕ} {at line n : ℕ}
       nothing e = cc
 
   -- at a line
-  module _ (h : at < length text) (r : Reached) (e : r ≡ lineReadAt text at (line + 1)) where
+  module _ (h : at < length text) (r : Reached) (e : r ≡ lineReadAt rule text at (line + 1)) where
     abbrev room : ℕ
     room = min (length kinds₀) (length operands₀)
 
     abbrev more : ℕ → Reading
-    more m = readLines text (line + 1) (lines (drop (r .next) text)) m
+    more m = readLines rule text (line + 1) (lines (drop (r .next) text)) m
 
     says : (x : LineRead) → r .read ≡ x → thenRead (line + 1) (room - n) more x ≡ ops (p .rest)
-    says x q = ap (thenRead (line + 1) (room - n) more) (sym q) ∙ sym (read-on (p .stands) h r e (room - n)) ∙ p .is
+    says x q = ap (thenRead (line + 1) (room - n) more) (sym q) ∙ sym (read-on (p .stands) rule h r e (room - n)) ∙ p .is
 
-    pub fill-skip : r .read ≡ Skip → Filling text kinds₀ operands₀ kinds operands (r .next) (line + 1) n
+    pub fill-skip : r .read ≡ Skip → Filling rule text kinds₀ operands₀ kinds operands (r .next) (line + 1) n
     fill-skip q =
         record {
-          stands = moved (p .stands) h r e;
+          stands = moved (p .stands) rule h r e;
           sameKinds = p .sameKinds;
           sameOperands = p .sameOperands;
           rest = p .rest;
@@ -124,21 +126,21 @@ module _ {text kinds₀ operands₀ kinds operands : List ℕ} {at line n : ℕ}
       pub room-operands : n < length operands
       room-operands = let f = fill-room in let s = p .sameOperands in omega (arith, min-le-right (length kinds₀) (length operands₀))
 
-      pub fill-op : Filling text kinds₀ operands₀ (set kinds n k) (set operands n v) (r .next) (line + 1) (n + 1)
+      pub fill-op : Filling rule text kinds₀ operands₀ (set kinds n k) (set operands n v) (r .next) (line + 1) (n + 1)
       fill-op =
           let f = fill-room in
           let m : suc (room - (n + 1)) ≡ room - n = omega arith in
           go (more (room - (n + 1))) refl (ap (λ (m : ℕ). thenRead (line + 1) m more (Op k v)) m ∙ says (Op k v) q)
         where
           o : Operation
-          o = record { kind = k; operand = v }
+          o = operation k v
 
-          go : (x : Reading) → more (room - (n + 1)) ≡ x → followedBy o x ≡ ops (p .rest) → Filling text kinds₀ operands₀ (set kinds n k) (set operands n v) (r .next) (line + 1) (n + 1)
+          go : (x : Reading) → more (room - (n + 1)) ≡ x → followedBy o x ≡ ops (p .rest) → Filling rule text kinds₀ operands₀ (set kinds n k) (set operands n v) (r .next) (line + 1) (n + 1)
           go (refused x) y w = absurd (let z : _≡_ {A = ℕ} 0 1 = cc in omega arith)
           go (ops os) y w =
               let z : p .rest ≡ o ∷ os = cc in
               record {
-                stands = moved (p .stands) h r e;
+                stands = moved (p .stands) rule h r e;
                 sameKinds = length-set kinds n k ∙ p .sameKinds;
                 sameOperands = length-set operands n v ∙ p .sameOperands;
                 rest = os;

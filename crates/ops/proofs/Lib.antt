@@ -3,6 +3,8 @@ pub mod PlainLines
 pub mod PlainReads
 pub mod BlankLines
 pub mod Written
+pub mod WrittenAgain
+pub mod Front
 pub mod Parsing
 pub mod Filling
 pub mod Passing

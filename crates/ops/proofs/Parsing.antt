@@ -6,7 +6,9 @@ use mathlib.Core.Bool.{true, false}
 use native.Mathlib.Omega.{arith}
 use lib.ListN.{length}
 use Rattle.utf8.specs.Utf8.{utf8}
-use Rattle.ops.specs.Ops.{Operation, Reading, ops, refused, someRead, readText, answerOf, opsOf, kindsOf, operandsOf, onto, Parsed}
+use Rattle.kinds.specs.Kinds.{Operation}
+use Rattle.ops.specs.Line.{fromStr}
+use Rattle.ops.specs.Ops.{Reading, ops, refused, someRead, readText, answerOf, opsOf, kindsOf, operandsOf, onto, Parsed}
 use Rattle.ops.specs.Numbers.{parsedOpsNumbered}
 use Rattle.ops.specs.Passes.{readInto, Good, Passed}
 use Rattle.ops.specs.declared.OpsError.{OpsError}
@@ -35,24 +37,24 @@ module _ (text kinds operands : List ℕ) where
   not-utf8 u = parsed (refused NotUtf8) (Refused NotUtf8) kinds operands (simp u) refl refl refl
 
   -- after the first pass, which writes nothing
-  module _ (u : utf8 text ≡ true) (k o : List ℕ) (r : ParsedOps) (f : Passed text kinds operands k o false r) where
-    whole : readText text (min (length kinds) (length operands)) ≡ someRead (readInto text kinds operands)
+  module _ (u : utf8 text ≡ true) (k o : List ℕ) (r : ParsedOps) (f : Passed fromStr text kinds operands k o false r) where
+    whole : readText text (min (length kinds) (length operands)) ≡ someRead (readInto fromStr text kinds operands)
     whole = simp u
 
     pub is-refused : (x : OpsError) → r ≡ Refused x → Parsed text kinds operands k o r
     is-refused x p =
-        parsed (refused x) r k o (whole ∙ refused-is (someRead (readInto text kinds operands)) x (sym (f .answer) ∙ p)) p (f .keptKinds refl) (f .keptOperands refl)
+        parsed (refused x) r k o (whole ∙ refused-is (someRead (readInto fromStr text kinds operands)) x (sym (f .answer) ∙ p)) p (f .keptKinds refl) (f .keptOperands refl)
 
     module _ (n : ℕ) (p : r ≡ Read n) where
-      good : (os : List Operation) × (readInto text kinds operands ≡ ops os) × (someRead (readInto text kinds operands) ≡ readInto text kinds operands)
-      good = read-is (readInto text kinds operands) n (sym (f .answer) ∙ p)
+      good : (os : List Operation) × (readInto fromStr text kinds operands ≡ ops os) × (someRead (readInto fromStr text kinds operands) ≡ readInto fromStr text kinds operands)
+      good = read-is (readInto fromStr text kinds operands) n (sym (f .answer) ∙ p)
 
-      pub is-good : Good text k o
+      pub is-good : Good fromStr text k o
       is-good = rw (f .keptKinds refl, f .keptOperands refl) (record { read = good .0; is = good .1 })
 
       -- and after the second
-      pub is-read : (k' o' : List ℕ) (r' : ParsedOps) → Passed text k o k' o' true r' → Parsed text kinds operands k' o' r'
+      pub is-read : (k' o' : List ℕ) (r' : ParsedOps) → Passed fromStr text k o k' o' true r' → Parsed text kinds operands k' o' r'
       is-read k' o' r' g =
-          let w : Passed text kinds operands k' o' true r' =
-          subst (λ (x : List ℕ). Passed text x operands k' o' true r') (f .keptKinds refl) (subst (λ (y : List ℕ). Passed text k y k' o' true r') (f .keptOperands refl) g) in
-          parsed (readInto text kinds operands) r' k' o' (whole ∙ good .2) (w .answer ∙ ap answerOf (good .2)) (w .filled refl .inKinds) (w .filled refl .inOperands)
+          let w : Passed fromStr text kinds operands k' o' true r' =
+          subst (λ (x : List ℕ). Passed fromStr text x operands k' o' true r') (f .keptKinds refl) (subst (λ (y : List ℕ). Passed fromStr text k y k' o' true r') (f .keptOperands refl) g) in
+          parsed (readInto fromStr text kinds operands) r' k' o' (whole ∙ good .2) (w .answer ∙ ap answerOf (good .2)) (w .filled refl .inKinds) (w .filled refl .inOperands)

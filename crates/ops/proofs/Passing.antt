@@ -7,6 +7,7 @@ use native.Mathlib.Omega.{arith}
 use lib.ListN.{length, set, length-set}
 use Rattle.byte.proofs.Tests.{never}
 use Rattle.lines.specs.Lines.{lines}
+use Rattle.ops.specs.Line.{Rule}
 use Rattle.ops.specs.Ops.{readLines, someRead, answerOf}
 use Rattle.ops.specs.Passes.{lineReadAt, Good, Filled, Passed}
 use Rattle.ops.specs.declared.OpsError.{OpsError}
@@ -18,34 +19,34 @@ use Rattle.ops.specs.declared.line.Reached.{Reached}
 use Rattle.ops.proofs.Reading.{Scanned, scan-first, scan-empty, scan-some, scan-skip, scan-bad, scan-full, scan-op}
 use Rattle.ops.proofs.Filling.{Filling, fill-first, filled, fill-skip, fill-bad, fill-room, fill-op}
 
-pub record Passing (text kinds₀ operands₀ : List ℕ) (writing : Bool) (room : ℕ) (kinds operands : List ℕ) (at line n : ℕ) : Type 0 where
+pub record Passing (rule : Rule) (text kinds₀ operands₀ : List ℕ) (writing : Bool) (room : ℕ) (kinds operands : List ℕ) (at line n : ℕ) : Type 0 where
   pub roomIs : room ≡ min (length kinds₀) (length operands₀)
-  pub scanned : Scanned text room at line n
+  pub scanned : Scanned rule text room at line n
   pub sameKinds : length kinds ≡ length kinds₀
   pub sameOperands : length operands ≡ length operands₀
   pub keptKinds : writing ≡ false → kinds ≡ kinds₀
   pub keptOperands : writing ≡ false → operands ≡ operands₀
-  pub filling : writing ≡ true → Filling text kinds₀ operands₀ kinds operands at line n
+  pub filling : writing ≡ true → Filling rule text kinds₀ operands₀ kinds operands at line n
 
-pub pass-first : (text kinds operands : List ℕ) (writing : Bool) (room : ℕ) → room ≡ min (length kinds) (length operands) → (writing ≡ true → Good text kinds operands)
-    → Passing text kinds operands writing room kinds operands 0 0 0
-pass-first text kinds operands writing room m g =
+pub pass-first : (rule : Rule) (text kinds operands : List ℕ) (writing : Bool) (room : ℕ) → room ≡ min (length kinds) (length operands) → (writing ≡ true → Good rule text kinds operands)
+    → Passing rule text kinds operands writing room kinds operands 0 0 0
+pass-first rule text kinds operands writing room m g =
     record {
       roomIs = m;
-      scanned = scan-first text room;
+      scanned = scan-first rule text room;
       sameKinds = refl;
       sameOperands = refl;
       keptKinds = λ _. refl;
       keptOperands = λ _. refl;
-      filling = λ w. fill-first text kinds operands (g w);
+      filling = λ w. fill-first rule text kinds operands (g w);
     }
 
-module _ {text kinds₀ operands₀ kinds operands : List ℕ} {writing : Bool} {room at line n : ℕ} (p : Passing text kinds₀ operands₀ writing room kinds operands at line n) where
-  ends : (r : ParsedOps) → r ≡ answerOf (someRead (readLines text 0 (lines text) room)) → (writing ≡ true → Filled text kinds₀ operands₀ kinds operands)
-      → Passed text kinds₀ operands₀ kinds operands writing r
+module _ {rule : Rule} {text kinds₀ operands₀ kinds operands : List ℕ} {writing : Bool} {room at line n : ℕ} (p : Passing rule text kinds₀ operands₀ writing room kinds operands at line n) where
+  ends : (r : ParsedOps) → r ≡ answerOf (someRead (readLines rule text 0 (lines text) room)) → (writing ≡ true → Filled rule text kinds₀ operands₀ kinds operands)
+      → Passed rule text kinds₀ operands₀ kinds operands writing r
   ends r e f =
       record {
-        answer = e ∙ ap (λ (m : ℕ). answerOf (someRead (readLines text 0 (lines text) m))) (p .roomIs);
+        answer = e ∙ ap (λ (m : ℕ). answerOf (someRead (readLines rule text 0 (lines text) m))) (p .roomIs);
         keptKinds = p .keptKinds;
         keptOperands = p .keptOperands;
         filled = f;
@@ -53,15 +54,15 @@ module _ {text kinds₀ operands₀ kinds operands : List ℕ} {writing : Bool} 
 
   -- at the end
   module _ (h : length text ≤ at) where
-    pub pass-empty : n ≡ 0 → Passed text kinds₀ operands₀ kinds operands writing (Refused Empty)
+    pub pass-empty : n ≡ 0 → Passed rule text kinds₀ operands₀ kinds operands writing (Refused Empty)
     pass-empty e = ends (Refused Empty) (scan-empty (p .scanned) h e) (λ w. filled (p .filling w) h)
 
-    pub pass-some : (n ≡ 0 → ⊥) → Passed text kinds₀ operands₀ kinds operands writing (Read n)
+    pub pass-some : (n ≡ 0 → ⊥) → Passed rule text kinds₀ operands₀ kinds operands writing (Read n)
     pass-some e = ends (Read n) (scan-some (p .scanned) h e) (λ w. filled (p .filling w) h)
 
   -- at a line
-  module _ (h : at < length text) (r : Reached) (e : r ≡ lineReadAt text at (line + 1)) where
-    pub pass-skip : r .read ≡ Skip → Passing text kinds₀ operands₀ writing room kinds operands (r .next) (line + 1) n
+  module _ (h : at < length text) (r : Reached) (e : r ≡ lineReadAt rule text at (line + 1)) where
+    pub pass-skip : r .read ≡ Skip → Passing rule text kinds₀ operands₀ writing room kinds operands (r .next) (line + 1) n
     pass-skip q =
         record {
           roomIs = p .roomIs;
@@ -73,17 +74,17 @@ module _ {text kinds₀ operands₀ kinds operands : List ℕ} {writing : Bool} 
           filling = λ w. fill-skip (p .filling w) h r e q;
         }
 
-    pub pass-bad : (x : OpsError) → r .read ≡ Bad x → Passed text kinds₀ operands₀ kinds operands writing (Refused x)
+    pub pass-bad : (x : OpsError) → r .read ≡ Bad x → Passed rule text kinds₀ operands₀ kinds operands writing (Refused x)
     pass-bad x q = ends (Refused x) (scan-bad (p .scanned) h r e x q) (λ w. fill-bad (p .filling w) h r e x q)
 
     module _ (k v : ℕ) (q : r .read ≡ Op k v) where
-      pub pass-full : n ≡ room → Passed text kinds₀ operands₀ kinds operands writing (Refused (Full (line + 1)))
+      pub pass-full : n ≡ room → Passed rule text kinds₀ operands₀ kinds operands writing (Refused (Full (line + 1)))
       pass-full z =
           ends (Refused (Full (line + 1))) (scan-full (p .scanned) h r e k v q z)
           (λ w. absurd (let f = fill-room (p .filling w) h r e k v q in let m = p .roomIs in omega arith))
 
       module _ (z : n ≡ room → ⊥) where
-        pub pass-left : writing ≡ false → Passing text kinds₀ operands₀ writing room kinds operands (r .next) (line + 1) (n + 1)
+        pub pass-left : writing ≡ false → Passing rule text kinds₀ operands₀ writing room kinds operands (r .next) (line + 1) (n + 1)
         pass-left w =
             record {
               roomIs = p .roomIs;
@@ -95,7 +96,7 @@ module _ {text kinds₀ operands₀ kinds operands : List ℕ} {writing : Bool} 
               filling = λ u. never (sym w ∙ u);
             }
 
-        pub pass-written : writing ≡ true → Passing text kinds₀ operands₀ writing room (set kinds n k) (set operands n v) (r .next) (line + 1) (n + 1)
+        pub pass-written : writing ≡ true → Passing rule text kinds₀ operands₀ writing room (set kinds n k) (set operands n v) (r .next) (line + 1) (n + 1)
         pass-written w =
             record {
               roomIs = p .roomIs;

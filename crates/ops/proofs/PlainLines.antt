@@ -1,5 +1,5 @@
 -- Lines that stand as they are: a word, or a word, a space and digits.
-use Prim.Native.Nat.{ℕ, zero, suc, _+_, _-_, _<_}
+use Prim.Native.Nat.{ℕ, suc, _+_, _-_, _<_}
 use mathlib.Core.Path.{_≡_, refl, sym, ap, subst, _∙_}
 use mathlib.Core.List.{List, [], _∷_, _++_, append-assoc, append-nil}
 use mathlib.Core.Bool.{Bool, true, false, cond, _&&_}
@@ -15,10 +15,13 @@ use Rattle.lines.specs.Lines.{lines, feedFree, lessReturn}
 use Rattle.lines.proofs.Written.{free-cons, free-append, line-then}
 use Rattle.trim.specs.Trim.{white1, startTrimmed, trimmed}
 use Rattle.trim.proofs.Laws.{trimmed-kept}
-use Rattle.number.specs.Decimal.{digit, allDigits, numberOf}
+use Rattle.number.specs.Decimal.{digit, allDigits}
 use Rattle.number.specs.declared.Number.the-variants.{Is}
-use Rattle.ops.specs.Kinds.{Kind, alone, kinds, kindOf, lineWith, partOf, parted}
-use Rattle.ops.specs.Line.{skipped, ofNumber, partRead, lineOf}
+use Rattle.kinds.specs.Kinds.{kindOf}
+use Rattle.kinds.proofs.ByKind.{span, _&_, end}
+use Rattle.ops.specs.Kinds.{follows, lineWith, partOf, parted}
+use Rattle.ops.specs.Line.{Rule, skipped, ofNumber, partRead, lineOf}
+use Rattle.ops.specs.declared.kind.Parted.the-variants.{Alone, Before}
 use Rattle.ops.specs.declared.line.LineRead.the-variants.{Op}
 use Rattle.ops.proofs.Trimmed.{part-read}
 
@@ -106,36 +109,30 @@ module _ (a : ℕ) (w : List ℕ) (e : graphics (a ∷ w) ≡ true) where
       }
 
 -- a kind's word, and whatever follows it, is read as that kind; it starts with a letter
-abbrev Told : ℕ → Kind → Type 0
-Told k w = (d : List ℕ) → (parted (w .word ++ cond (w .operand) (32 ∷ d) []) ≡ partOf k w) × ((within 65 90 (getD (w .word) 0 0) && graphics (w .word)) ≡ true)
+abbrev Told : ℕ → Type 0
+Told k =
+    (d : List ℕ)
+    → (parted (lineWith k d) ≡ partOf k (kindOf k)) × ((within 65 90 (getD (kindOf k .word) 0 0) && graphics (kindOf k .word)) ≡ true)
 
-abbrev TellAll : ℕ → List Kind → Type 0
-TellAll k [] = Unit
-TellAll k (w ∷ ws) = Told k w × TellAll (suc k) ws
-
-told-at : (ws : List Kind) (k i : ℕ) → TellAll k ws → i < length ws → Told (k + i) (getD ws i (alone ""))
-told-at [] k i t h = absurd (omega arith)
-told-at (w ∷ ws) k zero t h = let z : k ≡ k + 0 = omega arith in subst (λ (n : ℕ). Told n w) z (t .0)
-told-at (w ∷ ws) k (suc i) t h = let z : suc k + i ≡ k + suc i = omega arith in subst (λ (n : ℕ). Told n (getD ws i (alone ""))) z (told-at ws (suc k) i (t .1) (omega arith))
-
-told-all : TellAll 0 kinds
-told-all =
-    ((λ d. (refl, refl)), ((λ d. (refl, refl)), ((λ d. (refl, refl)), ((λ d. (refl, refl)), ((λ d. (refl, refl)), ((λ d. (refl, refl)), ((λ d. (refl, refl)), ((λ d. (refl, refl)), ((λ d. (refl, refl)), ((λ d. (refl, refl)), ((λ d. (refl, refl)), ((λ d. (refl, refl)), ((λ d. (refl, refl)), ((λ d. (refl, refl)), ((λ d. (refl, refl)), ((λ d. (refl, refl)), tt))))))))))))))))
-
-told : (k : ℕ) → k < 16 → Told k (kindOf k)
-told k h = let z : 0 + k ≡ k = omega arith in subst (λ (n : ℕ). Told n (kindOf k)) z (told-at kinds 0 k told-all h)
+told : (k : ℕ) → k < 16 → Told k
+told k h =
+    span {P = Told} 0 16 k
+    ((λ d. (refl, refl)) & (λ d. (refl, refl)) & (λ d. (refl, refl)) & (λ d. (refl, refl)) & (λ d. (refl, refl)) & (λ d. (refl, refl)) & (λ d. (refl, refl))
+    & (λ d. (refl, refl)) & (λ d. (refl, refl)) & (λ d. (refl, refl)) & (λ d. (refl, refl)) & (λ d. (refl, refl)) & (λ d. (refl, refl)) & (λ d. (refl, refl))
+    & (λ d. (refl, refl)) & (λ d. (refl, refl)) & end)
+    (omega arith) h
 
 drop-word : (w d : List ℕ) → drop (suc (length w)) (w ++ (32 ∷ d)) ≡ d
 drop-word [] d = refl
 drop-word (a ∷ w) d = drop-word w d
 
 -- a kind's line stands by itself and starts with a letter, and a line that is it when trimmed is read as the kind and the number
-pub record Reads (k : ℕ) (d : List ℕ) (v : ℕ) : Type 0 where
+pub record Reads (rule : Rule) (k : ℕ) (d : List ℕ) (v : ℕ) : Type 0 where
   pub plain : Plain (lineWith k d)
   pub letter : within 65 90 (getD (lineWith k d) 0 0) ≡ true
-  pub is : (line start : ℕ) (l : List ℕ) → trimmed l ≡ lineWith k d → lineOf line start l ≡ Op k (cond (kindOf k .operand) v 0)
+  pub is : (line start : ℕ) (l : List ℕ) → trimmed l ≡ lineWith k d → lineOf rule line start l ≡ Op k (cond (follows (kindOf k .operand)) v 0)
 
-module _ (d : List ℕ) (v : ℕ) (g : graphics d ≡ true) (h : 0 < length d) (e : numberOf d ≡ Is v) where
+module _ (rule : Rule) (k : ℕ) (d : List ℕ) (v : ℕ) (g : graphics d ≡ true) (h : 0 < length d) (e : rule (kindOf k .operand) d ≡ Is v) where
   record Line (l : List ℕ) : Type 0 where
     plain : Plain l
     letter : within 65 90 (getD l 0 0) ≡ true
@@ -160,26 +157,28 @@ module _ (d : List ℕ) (v : ℕ) (g : graphics d ≡ true) (h : 0 < length d) (
       go [] e h = absurd (omega arith)
       go (a ∷ d) e h = plain-word a d e .untrimmed
 
-  part-is : (line place k : ℕ) (w : List ℕ) (b : Bool) → partRead line place (w ++ cond b (32 ∷ d) []) (partOf k (record { word = w; operand = b })) ≡ Op k (cond b v 0)
-  part-is line place k w false = refl
-  part-is line place k w true =
+  part-is : (line place : ℕ) (w : List ℕ) (b : Bool)
+      → partRead rule line place (w ++ cond b (32 ∷ d) []) (cond b (Before k (length w + 1)) (Alone k)) ≡ Op k (cond b v 0)
+  part-is line place w false = refl
+  part-is line place w true =
       let z : length w + 1 ≡ suc (length w) = omega arith in
       let r : drop (length w + 1) (w ++ (32 ∷ d)) ≡ d = ap (λ (n : ℕ). drop n (w ++ (32 ∷ d))) z ∙ drop-word w d in
-      ap (ofNumber k line _ _) (ap (λ (s : List ℕ). numberOf (trimmed s)) r ∙ ap numberOf digits-kept ∙ e)
+      ap (ofNumber k line _ _) (ap (λ (s : List ℕ). rule (kindOf k .operand) (trimmed s)) r ∙ ap (rule (kindOf k .operand)) digits-kept ∙ e)
 
-  pub reads : (k : ℕ) → k < 16 → Reads k d v
-  reads k p =
-      let q = line-plain (kindOf k .word) (kindOf k .operand) (told k p d .1) in
+  pub reads : k < 16 → Reads rule k d v
+  reads p =
+      let q = line-plain (kindOf k .word) (follows (kindOf k .operand)) (told k p d .1) in
       record { plain = q .plain; letter = q .letter; is = λ line start l e. by-part q line start l e }
     where
-      by-part : Line (lineWith k d) → (line start : ℕ) (l : List ℕ) → trimmed l ≡ lineWith k d → lineOf line start l ≡ Op k (cond (kindOf k .operand) v 0)
+      by-part : Line (lineWith k d) → (line start : ℕ) (l : List ℕ) → trimmed l ≡ lineWith k d
+          → lineOf rule line start l ≡ Op k (cond (follows (kindOf k .operand)) v 0)
       by-part q line start l t =
           let s = lineWith k d in
           let place = start + (length l - length (startTrimmed l)) in
-          part-read l (startTrimmed l) (trimmed l) refl refl line start (parted (trimmed l)) (ap skipped t ∙ q .said) refl
-          ∙ ap (λ (t : List ℕ). partRead line place t (parted t)) t
-          ∙ ap (partRead line place s) (told k p d .0)
-          ∙ part-is line place k (kindOf k .word) (kindOf k .operand)
+          part-read l (startTrimmed l) (trimmed l) refl refl rule line start (parted (trimmed l)) (ap skipped t ∙ q .said) refl
+          ∙ ap (λ (t : List ℕ). partRead rule line place t (parted t)) t
+          ∙ ap (partRead rule line place s) (told k p d .0)
+          ∙ part-is line place (kindOf k .word) (follows (kindOf k .operand))
 
 -- the lines of such a line, a line feed and what follows
 pub plain-lines : {s : List ℕ} → Plain s → (t : List ℕ) → lines (s ++ (10 ∷ t)) ≡ s ∷ lines t

@@ -14,7 +14,8 @@ use Rattle.number.specs.declared.Value.the-variants as Value
 use Rattle.number.specs.declared.Number.the-variants as Number
 use Rattle.number.proofs.Runs.{digits-own, digits-short}
 use Rattle.number.proofs.FromStr.{asNumber, not-signed, read-all}
-use Rattle.ops.specs.Kinds.{kindOf, lineWith}
+use Rattle.kinds.specs.Kinds.{kindOf}
+use Rattle.ops.specs.Kinds.{follows, lineWith}
 use Rattle.ops.specs.Passes.{OperationAt, PlainRead, WordAt}
 use Rattle.ops.specs.declared.plain.Plain.the-variants.{Op, Other}
 use Rattle.ops.proofs.Words.{joined}
@@ -26,7 +27,7 @@ behind w text at end e p =
 
 module _ (text : List ℕ) (at : ℕ) where
   -- a word alone
-  pub alone-read : (k : ℕ) → k < 16 → kindOf k .operand ≡ false → (b : Bool) → b ≡ prefixOf (kindOf k .word) (drop at text)
+  pub alone-read : (k : ℕ) → k < 16 → follows (kindOf k .operand) ≡ false → (b : Bool) → b ≡ prefixOf (kindOf k .word) (drop at text)
       → (end : ℕ) → end ≡ at + length (kindOf k .word) → PlainRead text at (cond b (Op k 0 end) Other)
   alone-read k h f false e end p = tt
   alone-read k h f true e end p =
@@ -79,7 +80,7 @@ operand-read text at k digits p v end h q m =
     let u : drop digits text ≡ d ++ drop end text =
     digits-split (drop digits text)
     ∙ ap (λ (s : List ℕ). d ++ s) (drop-drop (length d) digits text ∙ ap (λ (i : ℕ). drop i text) (sym m)) in
-    let l : lineWith k d ≡ w ++ (32 ∷ d) = ap (λ (b : Bool). w ++ cond b (32 ∷ d) []) (p .follows) in
+    let l : lineWith k d ≡ w ++ (32 ∷ d) = ap (λ (b : Bool). w ++ cond b (32 ∷ d) []) (p .followed) in
     let s = p .place in
     record {
       digits = d;
@@ -88,7 +89,7 @@ operand-read text at k digits p v end h q m =
       all = digits-all (drop digits text);
       some = h;
       is = number-of d v (digits-all (drop digits text)) h q;
-      operand = sym (ap (λ (b : Bool). cond b v 0) (p .follows));
+      operand = sym (ap (λ (b : Bool). cond b v 0) (p .followed));
       stands = g ∙ ap (λ (s : List ℕ). (w ++ 32 ∷ []) ++ s) u ∙ append-assoc w (32 ∷ []) (d ++ drop end text)
           ∙ sym (append-assoc w (32 ∷ d) (drop end text)) ∙ ap (λ (s : List ℕ). s ++ drop end text) (sym l);
       place = omega (arith, ap length l, length-append w (32 ∷ d));
@@ -101,9 +102,9 @@ operation-within text at k v end h o =
     omega (arith, ap length (o .stands), length-append l (drop end text), length-drop at text, length-drop end text)
 
 -- the word stands by the tests of its parts
-pub word-at : (text : List ℕ) (at k : ℕ) → k < 16 → kindOf k .operand ≡ true → (fits : Bool) → fits ≡ prefixOf (kindOf k .word ++ 32 ∷ []) (drop at text)
+pub word-at : (text : List ℕ) (at k : ℕ) → k < 16 → follows (kindOf k .operand) ≡ true → (fits : Bool) → fits ≡ prefixOf (kindOf k .word ++ 32 ∷ []) (drop at text)
     → (digits : ℕ) → digits ≡ at + suc (length (kindOf k .word)) → fits ≡ true → WordAt text at k digits
-word-at text at k h f fits e digits p q = record { below = h; follows = f; stands = sym e ∙ q; place = p }
+word-at text at k h f fits e digits p q = record { below = h; followed = f; stands = sym e ∙ q; place = p }
 
 -- two tests of the parts of a word are one of the word
 pub spelled : (p q t : List ℕ) (i j : ℕ) {a b r : Bool} → j ≡ i + length p → a ≡ prefixOf p (drop i t) → b ≡ prefixOf q (drop j t) → r ≡ (a && b)

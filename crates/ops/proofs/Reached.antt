@@ -13,7 +13,7 @@ use Rattle.lines.specs.Cursor.{span, headOf, firstLine, lineFrom, lineAt, IsLin
 use Rattle.lines.specs.declared.Line.{Line}
 use Rattle.lines.specs.declared.Step.the-variants.{Next, Done}
 use Rattle.lines.proofs.Cursor.{line-here, line-done, step-line}
-use Rattle.ops.specs.Line.{lineOf}
+use Rattle.ops.specs.Line.{Rule, lineOf}
 use Rattle.trim.specs.Trim.{trimmed}
 use Rattle.ops.specs.Ops.{startOf, nthLine, trimmedLine, nthStep, lineNumbered}
 use Rattle.ops.specs.Passes.{lineReadAt}
@@ -43,16 +43,16 @@ module _ (text : List ℕ) (at : ℕ) where
   pub first-is : (l : Line) → lineAt text at ≡ Next l → firstLine (drop at text) ≡ take (l .end - at) (drop at text)
   first-is l e = ap headOf (step-line text at l e .is)
 
-  pub reached-next : (line : ℕ) (l : Line) (r : LineRead) → lineAt text at ≡ Next l → r ≡ lineOf line at (take (l .end - at) (drop at text))
-      → _≡_ {A = Reached} (record { read = r; next = l .next }) (lineReadAt text at line)
-  reached-next line l r e p =
-      ap₂ (λ r n. record { read = r; next = n }) (p ∙ ap (lineOf line at) (sym (first-is l e))) (ap (λ (l : Line). l .next) (is-from l e))
+  pub reached-next : (rule : Rule) (line : ℕ) (l : Line) (r : LineRead) → lineAt text at ≡ Next l → r ≡ lineOf rule line at (take (l .end - at) (drop at text))
+      → _≡_ {A = Reached} (record { read = r; next = l .next }) (lineReadAt rule text at line)
+  reached-next rule line l r e p =
+      ap₂ (λ r n. record { read = r; next = n }) (p ∙ ap (lineOf rule line at) (sym (first-is l e))) (ap (λ (l : Line). l .next) (is-from l e))
 
-  pub reached-done : (line : ℕ) → lineAt text at ≡ Done → _≡_ {A = Reached} (record { read = Skip; next = at }) (lineReadAt text at line)
-  reached-done line e =
+  pub reached-done : (rule : Rule) (line : ℕ) → lineAt text at ≡ Done → _≡_ {A = Reached} (record { read = Skip; next = at }) (lineReadAt rule text at line)
+  reached-done rule line e =
       let z : at ≡ at + 0 = omega arith in
       ap (λ n. record { read = Skip; next = n }) z
-      ∙ ap (λ (s : List ℕ). record { read = lineOf line at (firstLine s); next = at + span s }) (sym (past (is-past e)))
+      ∙ ap (λ (s : List ℕ). record { read = lineOf rule line at (firstLine s); next = at + span s }) (sym (past (is-past e)))
 
 -- the lines from a place within the text on
 pub record Onward (text : List ℕ) (at : ℕ) : Type 0 where

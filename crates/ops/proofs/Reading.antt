@@ -10,8 +10,9 @@ use lib.Dec.{eqb}
 use lib.ListN.{length, drop}
 use Rattle.lines.specs.Lines.{lines}
 use Rattle.lines.specs.Cursor.{span, firstLine}
-use Rattle.ops.specs.Line.{lineOf}
-use Rattle.ops.specs.Ops.{Operation, Reading, ops, refused, startOf, followedBy, thenRead, readLines, someRead, answerOf}
+use Rattle.kinds.specs.Kinds.{Operation, operation}
+use Rattle.ops.specs.Line.{Rule, lineOf}
+use Rattle.ops.specs.Ops.{Reading, ops, refused, startOf, followedBy, thenRead, readLines, someRead, answerOf}
 use Rattle.ops.specs.Passes.{lineReadAt}
 use Rattle.ops.specs.declared.OpsError.{OpsError}
 use Rattle.ops.specs.declared.OpsError.the-variants.{Full, Empty}
@@ -32,11 +33,11 @@ pub at-first : (text : List ℕ) → Stands text 0 0
 at-first text = record { within = omega arith; counted = omega arith; start = refl }
 
 module _ {text : List ℕ} {at line : ℕ} (p : Stands text at line) where
-  pub ended : (room : ℕ) → length text ≤ at → readLines text line (lines (drop at text)) room ≡ ops []
-  ended room h = ap (λ (s : List ℕ). readLines text line (lines s) room) (past text at h)
+  pub ended : (rule : Rule) (room : ℕ) → length text ≤ at → readLines rule text line (lines (drop at text)) room ≡ ops []
+  ended rule room h = ap (λ (s : List ℕ). readLines rule text line (lines s) room) (past text at h)
 
   -- the line that is read
-  module _ (h : at < length text) (r : Reached) (e : r ≡ lineReadAt text at (line + 1)) where
+  module _ (rule : Rule) (h : at < length text) (r : Reached) (e : r ≡ lineReadAt rule text at (line + 1)) where
     pub moved : Stands text (r .next) (line + 1)
     moved =
         let o = onward text at h in
@@ -51,13 +52,13 @@ module _ {text : List ℕ} {at line : ℕ} (p : Stands text at line) where
     pub onwards : at < r .next
     onwards = let o = onward text at h .on in omega (arith, ap (λ (r : Reached). r .next) e)
 
-    pub read-on : (room : ℕ) → readLines text line (lines (drop at text)) room
-        ≡ thenRead (line + 1) room (readLines text (line + 1) (lines (drop (r .next) text))) (r .read)
+    pub read-on : (room : ℕ) → readLines rule text line (lines (drop at text)) room
+        ≡ thenRead (line + 1) room (readLines rule text (line + 1) (lines (drop (r .next) text))) (r .read)
     read-on room =
-        let more : ℕ → ℕ → Reading = λ n. readLines text (line + 1) (lines (drop n text)) in
+        let more : ℕ → ℕ → Reading = λ n. readLines rule text (line + 1) (lines (drop n text)) in
         let here = firstLine (drop at text) in
-        ap (λ (ls : List (List ℕ)). readLines text line ls room) (onward text at h .lines)
-        ∙ ap (λ (a : ℕ). thenRead (line + 1) room (more (at + span (drop at text))) (lineOf (line + 1) a here)) (sym (p .start))
+        ap (λ (ls : List (List ℕ)). readLines rule text line ls room) (onward text at h .lines)
+        ∙ ap (λ (a : ℕ). thenRead (line + 1) room (more (at + span (drop at text))) (lineOf rule (line + 1) a here)) (sym (p .start))
         ∙ ap (λ (r : Reached). thenRead (line + 1) room (more (r .next)) (r .read)) (sym e)
 
 -- the answer, n operations having been read before
@@ -77,61 +78,61 @@ after-one n o (ops os) = let z : n + suc (length os) ≡ n + 1 + length os = ome
 after-one n o (refused e) = refl
 
 -- what is left to read, n operations having been counted
-pub record Scanned (text : List ℕ) (room at line n : ℕ) : Type 0 where
+pub record Scanned (rule : Rule) (text : List ℕ) (room at line n : ℕ) : Type 0 where
   pub stands : Stands text at line
   pub fits : n ≤ room
-  pub is : answerOf (someRead (readLines text 0 (lines text) room)) ≡ answerAfter n (readLines text line (lines (drop at text)) (room - n))
+  pub is : answerOf (someRead (readLines rule text 0 (lines text) room)) ≡ answerAfter n (readLines rule text line (lines (drop at text)) (room - n))
 
-pub scan-first : (text : List ℕ) (room : ℕ) → Scanned text room 0 0 0
-scan-first text room =
+pub scan-first : (rule : Rule) (text : List ℕ) (room : ℕ) → Scanned rule text room 0 0 0
+scan-first rule text room =
     let z : room ≡ room - 0 = omega arith in
     record {
       stands = at-first text;
       fits = omega arith;
-      is = after-none (readLines text 0 (lines text) room) ∙ ap (λ (m : ℕ). answerAfter 0 (readLines text 0 (lines text) m)) z;
+      is = after-none (readLines rule text 0 (lines text) room) ∙ ap (λ (m : ℕ). answerAfter 0 (readLines rule text 0 (lines text) m)) z;
     }
 
-module _ {text : List ℕ} {room at line n : ℕ} (p : Scanned text room at line n) where
+module _ {rule : Rule} {text : List ℕ} {room at line n : ℕ} (p : Scanned rule text room at line n) where
   -- at the end
   module _ (h : length text ≤ at) where
-    all : answerOf (someRead (readLines text 0 (lines text) room)) ≡ cond (eqb (n + 0) 0) (Refused Empty) (Read (n + 0))
-    all = p .is ∙ ap (answerAfter n) (ended (p .stands) (room - n) h)
+    all : answerOf (someRead (readLines rule text 0 (lines text) room)) ≡ cond (eqb (n + 0) 0) (Refused Empty) (Read (n + 0))
+    all = p .is ∙ ap (answerAfter n) (ended (p .stands) rule (room - n) h)
 
-    pub scan-empty : n ≡ 0 → Refused Empty ≡ answerOf (someRead (readLines text 0 (lines text) room))
+    pub scan-empty : n ≡ 0 → Refused Empty ≡ answerOf (someRead (readLines rule text 0 (lines text) room))
     scan-empty e = sym (all ∙ simp (eq-eqb (n + 0) 0 (omega arith)))
 
-    pub scan-some : (n ≡ 0 → ⊥) → Read n ≡ answerOf (someRead (readLines text 0 (lines text) room))
+    pub scan-some : (n ≡ 0 → ⊥) → Read n ≡ answerOf (someRead (readLines rule text 0 (lines text) room))
     scan-some e = let z : n + 0 ≡ n = omega arith in sym (all ∙ ap (λ (n : ℕ). cond (eqb n 0) (Refused Empty) (Read n)) z ∙ simp (ne-eqb n 0 e))
 
   -- at a line
-  module _ (h : at < length text) (r : Reached) (e : r ≡ lineReadAt text at (line + 1)) where
-    says : (x : LineRead) → r .read ≡ x → answerOf (someRead (readLines text 0 (lines text) room))
-        ≡ answerAfter n (thenRead (line + 1) (room - n) (readLines text (line + 1) (lines (drop (r .next) text))) x)
+  module _ (h : at < length text) (r : Reached) (e : r ≡ lineReadAt rule text at (line + 1)) where
+    says : (x : LineRead) → r .read ≡ x → answerOf (someRead (readLines rule text 0 (lines text) room))
+        ≡ answerAfter n (thenRead (line + 1) (room - n) (readLines rule text (line + 1) (lines (drop (r .next) text))) x)
     says x q =
         p .is
-        ∙ ap (answerAfter n) (read-on (p .stands) h r e (room - n))
-        ∙ ap (λ (x : LineRead). answerAfter n (thenRead (line + 1) (room - n) (readLines text (line + 1) (lines (drop (r .next) text))) x)) q
+        ∙ ap (answerAfter n) (read-on (p .stands) rule h r e (room - n))
+        ∙ ap (λ (x : LineRead). answerAfter n (thenRead (line + 1) (room - n) (readLines rule text (line + 1) (lines (drop (r .next) text))) x)) q
 
-    pub scan-skip : r .read ≡ Skip → Scanned text room (r .next) (line + 1) n
-    scan-skip q = record { stands = moved (p .stands) h r e; fits = p .fits; is = says Skip q }
+    pub scan-skip : r .read ≡ Skip → Scanned rule text room (r .next) (line + 1) n
+    scan-skip q = record { stands = moved (p .stands) rule h r e; fits = p .fits; is = says Skip q }
 
-    pub scan-bad : (x : OpsError) → r .read ≡ Bad x → Refused x ≡ answerOf (someRead (readLines text 0 (lines text) room))
+    pub scan-bad : (x : OpsError) → r .read ≡ Bad x → Refused x ≡ answerOf (someRead (readLines rule text 0 (lines text) room))
     scan-bad x q = sym (says (Bad x) q)
 
     module _ (k v : ℕ) (q : r .read ≡ Op k v) where
-      pub scan-full : n ≡ room → Refused (Full (line + 1)) ≡ answerOf (someRead (readLines text 0 (lines text) room))
+      pub scan-full : n ≡ room → Refused (Full (line + 1)) ≡ answerOf (someRead (readLines rule text 0 (lines text) room))
       scan-full z =
           let m : room - n ≡ 0 = omega arith in
-          sym (says (Op k v) q ∙ ap (λ (m : ℕ). answerAfter n (thenRead (line + 1) m (readLines text (line + 1) (lines (drop (r .next) text))) (Op k v))) m)
+          sym (says (Op k v) q ∙ ap (λ (m : ℕ). answerAfter n (thenRead (line + 1) m (readLines rule text (line + 1) (lines (drop (r .next) text))) (Op k v))) m)
 
-      pub scan-op : (n ≡ room → ⊥) → Scanned text room (r .next) (line + 1) (n + 1)
+      pub scan-op : (n ≡ room → ⊥) → Scanned rule text room (r .next) (line + 1) (n + 1)
       scan-op z =
           let f = p .fits in
           let m : room - n ≡ suc (room - (n + 1)) = omega arith in
           record {
-            stands = moved (p .stands) h r e;
+            stands = moved (p .stands) rule h r e;
             fits = omega arith;
             is = says (Op k v) q
-                ∙ ap (λ (m : ℕ). answerAfter n (thenRead (line + 1) m (readLines text (line + 1) (lines (drop (r .next) text))) (Op k v))) m
-                ∙ after-one n (record { kind = k; operand = v }) (readLines text (line + 1) (lines (drop (r .next) text)) (room - (n + 1)));
+                ∙ ap (λ (m : ℕ). answerAfter n (thenRead (line + 1) m (readLines rule text (line + 1) (lines (drop (r .next) text))) (Op k v))) m
+                ∙ after-one n (operation k v) (readLines rule text (line + 1) (lines (drop (r .next) text)) (room - (n + 1)));
           }

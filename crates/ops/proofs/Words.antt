@@ -9,12 +9,13 @@ use native.Mathlib.Omega.{arith}
 use lib.Dec.{eqb, ltb}
 use lib.ListN.{length, getD, drop, length-drop, length-append}
 use lib.Seq.{drop-drop}
+use Rattle.byte.specs.Ascii.{ascii}
 use Rattle.byte.proofs.Tests.{by-eqb, by-bool, never, and-left, and-right}
 use Rattle.byte.proofs.Parts.{next}
 use Rattle.search.specs.First.{prefixOf}
 use Rattle.search.proofs.Prefix.{same, other, too-long, fits, byte-yes, byte-no}
-use Rattle.ops.specs.Ascii.{ascii}
-use Rattle.ops.specs.Kinds.{Kind, kinds, partOf, partedFrom, parted, FirstIs}
+use Rattle.kinds.specs.Kinds.{none, Kind, kind, kinds, kindOf}
+use Rattle.ops.specs.Kinds.{follows, partOf, partedFrom, parted, FirstIs}
 use Rattle.ops.specs.Kinds as Kinds
 use Rattle.ops.specs.declared.kind.Parted.{Parted}
 use Rattle.ops.specs.declared.kind.Parted.the-variants.{Alone, Before, Unknown}
@@ -132,7 +133,8 @@ abbrev worded : List Kind → Bool
 worded [] = true
 worded (w ∷ ws) = ltb 0 (length (w .word)) && worded ws
 
-unfit : (w : List ℕ) (operand : Bool) (a : ℕ) (s : List ℕ) → 0 < length w → (getD w 0 0 ≡ a → ⊥) → Kinds.fits (record { word = w; operand = operand }) (a ∷ s) ≡ false
+unfit : (w : List ℕ) (operand : Bool) (a : ℕ) (s : List ℕ) → 0 < length w → (getD w 0 0 ≡ a → ⊥)
+    → cond operand (prefixOf (w ++ 32 ∷ []) (a ∷ s)) (prefixOf w (a ∷ s) && eqb (length (a ∷ s)) (length w)) ≡ false
 unfit [] operand a s h n = absurd (omega arith)
 unfit (b ∷ w) true a s h n = other b a (w ++ 32 ∷ []) s n
 unfit (b ∷ w) false a s h n = rw (other b a w s n) refl
@@ -143,7 +145,7 @@ none-fits (w ∷ ws) k a s h e =
     by-eqb (getD (w .word) 0 0) a
     (λ q. never (sym (simp (eq-eqb (getD (w .word) 0 0) a q) at e)))
     (λ n. ap (λ (b : Bool). cond b (partOf k w) (partedFrom (suc k) ws (a ∷ s)))
-    (unfit (w .word) (w .operand) a s (ltb-true 0 (length (w .word)) (and-left (ltb 0 (length (w .word))) (worded ws) h)) n)
+    (unfit (w .word) (follows (w .operand)) a s (ltb-true 0 (length (w .word)) (and-left (ltb 0 (length (w .word))) (worded ws) h)) n)
     ∙ none-fits ws (suc k) a s (and-right (ltb 0 (length (w .word))) (worded ws) h) (simp (ne-eqb (getD (w .word) 0 0) a n) at e))
 
 pub first-other : (t : List ℕ) → 0 < length t → starts kinds (getD t 0 0) ≡ false → parted t ≡ Unknown
@@ -153,24 +155,34 @@ pub empty : (t : List ℕ) → length t ≡ 0 → parted t ≡ Unknown
 empty [] h = refl
 empty (a ∷ t) h = absurd (omega arith)
 
+-- a line is no operation's, or is parted at the word of a kind
+pub parted-at : {P : Type 0} (t : List ℕ) → (parted t ≡ Unknown → P)
+    → ((k : ℕ) → k < 16 → Kinds.fits (kindOf k) t ≡ true → parted t ≡ partOf k (kindOf k) → P) → P
+parted-at {P = P} t unknown known = go kinds 0 (λ i h. let z : i ≡ 0 + i = omega arith in ap kindOf z) refl refl
+  where
+    go : (ws : List Kind) (j : ℕ) → ((i : ℕ) → i < length ws → getD ws i (kind "" none 0) ≡ kindOf (j + i)) → j + length ws ≡ 16
+        → parted t ≡ partedFrom j ws t → P
+    go [] j same all e = unknown e
+    go (w ∷ ws) j same all e =
+        let z : j + 0 ≡ j = omega arith in
+        let q : w ≡ kindOf j = same 0 (omega arith) ∙ ap kindOf z in
+        by-bool (Kinds.fits w t)
+        (λ f. known j (omega arith) (ap (λ (x : Kind). Kinds.fits x t) (sym q) ∙ f)
+        (e ∙ ap (λ (b : Bool). cond b (partOf j w) (partedFrom (suc j) ws t)) f ∙ ap (partOf j) q))
+        (λ f. go ws (suc j) (λ i h. let m : j + suc i ≡ suc j + i = omega arith in same (suc i) (omega arith) ∙ ap kindOf m) (omega arith)
+        (e ∙ ap (λ (b : Bool). cond b (partOf j w) (partedFrom (suc j) ws t)) f))
+
 -- what follows a kind's word lies within the line
 pub rest-within : (t : List ℕ) (k n : ℕ) → parted t ≡ Before k n → n ≤ length t
-rest-within t k n e = go kinds 0 e
+rest-within t k n e = parted-at t (λ u. absurd (none-is (sym u ∙ e))) (λ j h f p. here (kindOf j .word) (follows (kindOf j .operand)) j f (sym p ∙ e))
   where
-    other-than : (j : ℕ) → Alone j ≡ Before k n → n ≤ length t
-    other-than j e = absurd (let z : _≡_ {A = ℕ} 0 1 = cc in omega arith)
+    none-is : Unknown ≡ Before k n → ⊥
+    none-is e = let z : _≡_ {A = ℕ} 0 1 = cc in omega arith
 
-    here : (w : List ℕ) (operand : Bool) (j : ℕ) → Kinds.fits (record { word = w; operand = operand }) t ≡ true
-        → partOf j (record { word = w; operand = operand }) ≡ Before k n → n ≤ length t
+    here : (w : List ℕ) (operand : Bool) (j : ℕ) → cond operand (prefixOf (w ++ 32 ∷ []) t) (prefixOf w t && eqb (length t) (length w)) ≡ true
+        → cond operand (Before j (length w + 1)) (Alone j) ≡ Before k n → n ≤ length t
     here w true j f e =
         let z : length w + 1 ≡ n = cc in
         let m = fits (w ++ 32 ∷ []) t f in
         omega (arith, length-append w (32 ∷ []))
-    here w false j f e = other-than j e
-
-    go : (ws : List Kind) (j : ℕ) → partedFrom j ws t ≡ Before k n → n ≤ length t
-    go [] j e = absurd (let z : _≡_ {A = ℕ} 0 1 = cc in omega arith)
-    go (w ∷ ws) j e =
-        by-bool (Kinds.fits w t)
-        (λ f. here (w .word) (w .operand) j f (sym (ap (λ (b : Bool). cond b (partOf j w) (partedFrom (suc j) ws t)) f) ∙ e))
-        (λ f. go ws (suc j) (sym (ap (λ (b : Bool). cond b (partOf j w) (partedFrom (suc j) ws t)) f) ∙ e))
+    here w false j f e = absurd (let z : _≡_ {A = ℕ} 0 1 = cc in omega arith)

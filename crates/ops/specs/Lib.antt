@@ -1,4 +1,3 @@
-pub mod Ascii
 pub mod Kinds
 pub mod Line
 pub mod Ops

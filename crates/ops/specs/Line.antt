@@ -1,38 +1,65 @@
 -- What one line says.
-use Prim.Native.Nat.{ℕ, _+_}
+use Prim.Native.Nat.{ℕ, _+_, _^_, _<_}
+use mathlib.Core.Path.{_≡_}
 use mathlib.Core.List.{List, [], _∷_}
-use mathlib.Core.Bool.{Bool, true, cond, _||_}
+use mathlib.Core.Bool.{Bool, true, cond}
 use lib.Dec.{eqb}
 use lib.ListN.{length, drop}
 use Rattle.trim.specs.Trim.{trimmed, passed}
-use Rattle.number.specs.Decimal.{numberOf}
+use Rattle.number.specs.Decimal.{allDigits, numberOf}
 use Rattle.number.specs.declared.Number.{Number}
 use Rattle.number.specs.declared.Number.the-variants.{Is, Invalid}
+use Rattle.kinds.specs.Kinds.{Operand, none, value, slot, target, kindOf}
 use Rattle.ops.specs.Kinds.{parted}
 use Rattle.ops.specs.declared.kind.Parted.{Parted}
 use Rattle.ops.specs.declared.kind.Parted.the-variants.{Alone, Before, Unknown}
 use Rattle.ops.specs.declared.OpsError.{OpsError}
 use Rattle.ops.specs.declared.OpsError.the-variants.{BadPush, BadSlot, UnknownOp, BadTarget}
+use Rattle.ops.specs.declared.line.Rule as Named
+use Rattle.ops.specs.declared.line.Rule.the-variants.{FromStr}
 use Rattle.ops.specs.declared.line.LineRead.{LineRead}
 use Rattle.ops.specs.declared.line.LineRead.the-variants.{Skip, Op, Bad}
 
--- the refusal where what follows a kind's word is no number: of Push; of Load and Store; of the jumps
-abbrev pub badNumber : ℕ → ℕ → ℕ → ℕ → OpsError
-badNumber k line place len = cond (eqb k 0) (BadPush line place len) (cond (eqb k 11 || eqb k 12) (BadSlot line place len) (BadTarget line place len))
+-- a rule for operands: the number that the trimmed text behind a kind's word says, by what the operand is
+abbrev pub Rule : Type 0
+Rule = Operand → List ℕ → Number
+
+-- document 01's: Rust's `u64::from_str`, whatever the operand is
+abbrev pub fromStr : Rule
+fromStr operand t = numberOf t
+
+-- the rules that the code has names for
+abbrev pub ruleOf : Named.Rule → Rule
+ruleOf FromStr = fromStr
+
+-- a rule that reads digits as that one does, and a rule whose numbers fit 64 bits
+abbrev pub ReadsDigits : Rule → Type 0
+ReadsDigits rule = (operand : Operand) (d : List ℕ) → allDigits d ≡ true → rule operand d ≡ numberOf d
+
+abbrev pub ReadsWords : Rule → Type 0
+ReadsWords rule = (operand : Operand) (t : List ℕ) (v : ℕ) → rule operand t ≡ Is v → v < 2 ^ 64
+
+-- the refusal where that text says no number; no text stands behind the word of a kind without an operand
+abbrev pub badNumber : Operand → ℕ → ℕ → ℕ → OpsError
+badNumber value line place len = BadPush line place len
+badNumber slot line place len = BadSlot line place len
+badNumber target line place len = BadTarget line place len
+badNumber none line place len = BadTarget line place len
 
 abbrev pub ofNumber : ℕ → ℕ → ℕ → ℕ → Number → LineRead
 ofNumber k line place len (Is v) = Op k v
-ofNumber k line place len Invalid = Bad (badNumber k line place len)
+ofNumber k line place len Invalid = Bad (badNumber (kindOf k .operand) line place len)
 
 -- a kind and what follows its word, which starts at a place
-abbrev pub operandOf : ℕ → ℕ → ℕ → List ℕ → LineRead
-operandOf k line place rest = ofNumber k line (place + passed rest) (length (trimmed rest)) (numberOf (trimmed rest))
+abbrev pub operandOf : Rule → ℕ → ℕ → ℕ → List ℕ → LineRead
+operandOf rule k line place rest =
+    ofNumber k line (place + passed rest) (length (trimmed rest)) (rule (kindOf k .operand) (trimmed rest))
 
 -- a trimmed line, which starts at a place
-abbrev pub partRead : ℕ → ℕ → List ℕ → Parted → LineRead
-partRead line place t (Alone k) = Op k 0
-partRead line place t (Before k n) = operandOf k line (place + n) (drop n t)
-partRead line place t Unknown = Bad (UnknownOp line place (length t))
+abbrev pub partRead : Rule → ℕ → ℕ → List ℕ → Parted → LineRead
+partRead rule line place t (Alone k) = Op k 0
+partRead rule line place t (Before k n) = operandOf rule k line (place + n) (drop n t)
+partRead rule line place t Unknown = Bad (UnknownOp line place (length t))
 
 -- nothing, or a remark
 abbrev pub skipped : List ℕ → Bool
@@ -40,5 +67,5 @@ skipped [] = true
 skipped (a ∷ t) = eqb a 35
 
 -- the line of a number, which starts at a place
-abbrev pub lineOf : ℕ → ℕ → List ℕ → LineRead
-lineOf line start l = cond (skipped (trimmed l)) Skip (partRead line (start + passed l) (trimmed l) (parted (trimmed l)))
+abbrev pub lineOf : Rule → ℕ → ℕ → List ℕ → LineRead
+lineOf rule line start l = cond (skipped (trimmed l)) Skip (partRead rule line (start + passed l) (trimmed l) (parted (trimmed l)))

@@ -10,7 +10,8 @@ use Rattle.lines.specs.Cursor.{span, lineAt}
 use Rattle.lines.specs.declared.Step.{Step}
 use Rattle.lines.specs.declared.Step.the-variants.{Next, Done}
 use Rattle.trim.specs.Trim.{trimmed, passed}
-use Rattle.ops.specs.Line.{lineOf}
+use Rattle.kinds.specs.Kinds.{Operation, operation}
+use Rattle.ops.specs.Line.{Rule, fromStr, lineOf}
 use Rattle.ops.specs.Numbers.{parsedOpsNumbered}
 use Rattle.ops.specs.declared.OpsError.{OpsError}
 use Rattle.ops.specs.declared.OpsError.the-variants.{NotUtf8, Full, Empty}
@@ -18,10 +19,6 @@ use Rattle.ops.specs.declared.ParsedOps.{ParsedOps}
 use Rattle.ops.specs.declared.ParsedOps.the-variants.{Read, Refused}
 use Rattle.ops.specs.declared.line.LineRead.{LineRead}
 use Rattle.ops.specs.declared.line.LineRead.the-variants.{Skip, Op, Bad}
-
-pub record Operation : Type 0 where
-  pub kind : ℕ
-  pub operand : ℕ
 
 pub data Reading : Type 0 where
   ops : List Operation → Reading
@@ -45,22 +42,27 @@ withRoom line (suc room) more o = followedBy o (more room)
 -- what a line says, and then what the lines after it say with the room that is left
 abbrev pub thenRead : ℕ → ℕ → (ℕ → Reading) → LineRead → Reading
 thenRead line room more Skip = more room
-thenRead line room more (Op k v) = withRoom line room more (record { kind = k; operand = v })
+thenRead line room more (Op k v) = withRoom line room more (operation k v)
 thenRead line room more (Bad e) = refused e
 
 -- the lines of a text, n of its lines being before them
-abbrev pub readLines : List ℕ → ℕ → List (List ℕ) → ℕ → Reading
-readLines text n [] room = ops []
-readLines text n (l ∷ ls) room = thenRead (n + 1) room (readLines text (n + 1) ls) (lineOf (n + 1) (startOf n text) l)
+abbrev pub readLines : Rule → List ℕ → ℕ → List (List ℕ) → ℕ → Reading
+readLines rule text n [] room = ops []
+readLines rule text n (l ∷ ls) room =
+    thenRead (n + 1) room (readLines rule text (n + 1) ls) (lineOf rule (n + 1) (startOf n text) l)
 
 abbrev pub someRead : Reading → Reading
 someRead (ops []) = refused Empty
 someRead (ops (o ∷ os)) = ops (o ∷ os)
 someRead (refused e) = refused e
 
--- a text, with room for as many operations
+-- a text by a rule for operands, with room for as many operations
+abbrev pub readBy : Rule → List ℕ → ℕ → Reading
+readBy rule text room = cond (utf8 text) (someRead (readLines rule text 0 (lines text) room)) (refused NotUtf8)
+
+-- by document 01's rule
 abbrev pub readText : List ℕ → ℕ → Reading
-readText text room = cond (utf8 text) (someRead (readLines text 0 (lines text) room)) (refused NotUtf8)
+readText text room = readBy fromStr text room
 
 -- the answer, and the operations where there is no refusal
 abbrev pub answerOf : Reading → ParsedOps

@@ -10,9 +10,10 @@ use Rattle.number.specs.declared.Number.the-variants.{Is}
 use Rattle.lines.specs.Lines.{lines}
 use Rattle.lines.specs.Cursor.{span, firstLine}
 use Rattle.trim.specs.Blank.{blanksEnd}
-use Rattle.ops.specs.Kinds.{kindOf, lineWith}
-use Rattle.ops.specs.Line.{lineOf}
-use Rattle.ops.specs.Ops.{Operation, Reading, ops, readLines, someRead, answerOf, opsOf, kindsOf, operandsOf, onto}
+use Rattle.kinds.specs.Kinds.{kindOf, Operation}
+use Rattle.ops.specs.Kinds.{follows, lineWith}
+use Rattle.ops.specs.Line.{Rule, ReadsDigits, lineOf}
+use Rattle.ops.specs.Ops.{Reading, ops, readLines, someRead, answerOf, opsOf, kindsOf, operandsOf, onto}
 use Rattle.ops.specs.declared.ParsedOps.{ParsedOps}
 use Rattle.ops.specs.declared.line.LineRead.the-variants as LineRead
 use Rattle.ops.specs.declared.line.Reached.{Reached}
@@ -22,13 +23,17 @@ use Rattle.ops.specs.declared.plain.Plain.{Plain}
 use Rattle.ops.specs.declared.plain.Plain.the-variants as Plain
 
 -- the line that starts at a place, its number being line
-abbrev pub lineReadAt : List ℕ → ℕ → ℕ → Reached
-lineReadAt text at line = record { read = lineOf line at (firstLine (drop at text)); next = at + span (drop at text) }
+abbrev pub lineReadAt : Rule → List ℕ → ℕ → ℕ → Reached
+lineReadAt rule text at line = record { read = lineOf rule line at (firstLine (drop at text)); next = at + span (drop at text) }
+
+-- the line at a place says the same by every rule that reads digits as document 01's does
+abbrev pub LineSays : List ℕ → ℕ → Reached → Type 0
+LineSays text at reached = (rule : Rule) → ReadsDigits rule → (line : ℕ) → lineReadAt rule text at line ≡ reached
 
 -- where it is said what that line says, it does
 abbrev pub KnownRead : List ℕ → ℕ → Known → Type 0
-KnownRead text at (Known.Op k v next) = (line : ℕ) → lineReadAt text at line ≡ record { read = LineRead.Op k v; next = next }
-KnownRead text at (Known.Skip next) = (line : ℕ) → lineReadAt text at line ≡ record { read = LineRead.Skip; next = next }
+KnownRead text at (Known.Op k v next) = LineSays text at (record { read = LineRead.Op k v; next = next })
+KnownRead text at (Known.Skip next) = LineSays text at (record { read = LineRead.Skip; next = next })
 KnownRead text at Known.Unknown = Unit
 
 -- a line starts at a place, and the White_Space that it starts with ends at another
@@ -44,7 +49,7 @@ pub record OperationAt (text : List ℕ) (at k v end : ℕ) : Type 0 where
   pub all : allDigits digits ≡ true
   pub some : 0 < length digits
   pub is : numberOf digits ≡ Is number
-  pub operand : v ≡ cond (kindOf k .operand) number 0
+  pub operand : v ≡ cond (follows (kindOf k .operand)) number 0
   pub stands : drop at text ≡ lineWith k digits ++ drop end text
   pub place : end ≡ at + length (lineWith k digits)
 
@@ -56,27 +61,27 @@ PlainRead text at Plain.Other = Unit
 -- the word of a kind with an operand stands at a place, with a space, and what follows starts at another
 pub record WordAt (text : List ℕ) (at k digits : ℕ) : Type 0 where
   pub below : k < 16
-  pub follows : kindOf k .operand ≡ true
+  pub followed : follows (kindOf k .operand) ≡ true
   pub stands : prefixOf (kindOf k .word ++ 32 ∷ []) (drop at text) ≡ true
   pub place : digits ≡ at + suc (length (kindOf k .word))
 
 -- the lines of a text, with room for what the shorter buffer holds
-abbrev pub readInto : List ℕ → List ℕ → List ℕ → Reading
-readInto text kinds operands = readLines text 0 (lines text) (min (length kinds) (length operands))
+abbrev pub readInto : Rule → List ℕ → List ℕ → List ℕ → Reading
+readInto rule text kinds operands = readLines rule text 0 (lines text) (min (length kinds) (length operands))
 
 -- no line is refused
-pub record Good (text kinds operands : List ℕ) : Type 0 where
+pub record Good (rule : Rule) (text kinds operands : List ℕ) : Type 0 where
   pub read : List Operation
-  pub is : readInto text kinds operands ≡ ops read
+  pub is : readInto rule text kinds operands ≡ ops read
 
 -- the operations are written
-pub record Filled (text kinds operands kindsAfter operandsAfter : List ℕ) : Type 0 where
-  pub inKinds : kindsAfter ≡ onto (kindsOf (opsOf (readInto text kinds operands))) kinds
-  pub inOperands : operandsAfter ≡ onto (operandsOf (opsOf (readInto text kinds operands))) operands
+pub record Filled (rule : Rule) (text kinds operands kindsAfter operandsAfter : List ℕ) : Type 0 where
+  pub inKinds : kindsAfter ≡ onto (kindsOf (opsOf (readInto rule text kinds operands))) kinds
+  pub inOperands : operandsAfter ≡ onto (operandsOf (opsOf (readInto rule text kinds operands))) operands
 
 -- one pass: the answer, and the buffers by whether it writes
-pub record Passed (text kinds operands kindsAfter operandsAfter : List ℕ) (writing : Bool) (r : ParsedOps) : Type 0 where
-  pub answer : r ≡ answerOf (someRead (readInto text kinds operands))
+pub record Passed (rule : Rule) (text kinds operands kindsAfter operandsAfter : List ℕ) (writing : Bool) (r : ParsedOps) : Type 0 where
+  pub answer : r ≡ answerOf (someRead (readInto rule text kinds operands))
   pub keptKinds : writing ≡ false → kindsAfter ≡ kinds
   pub keptOperands : writing ≡ false → operandsAfter ≡ operands
-  pub filled : writing ≡ true → Filled text kinds operands kindsAfter operandsAfter
+  pub filled : writing ≡ true → Filled rule text kinds operands kindsAfter operandsAfter

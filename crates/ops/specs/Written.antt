@@ -6,8 +6,8 @@ use mathlib.Core.Bool.{true, cond}
 use Rattle.utf8.specs.Utf8.{utf8}
 use Rattle.lines.specs.Lines.{feedFree}
 use Rattle.number.specs.Decimal.{decimal}
-use Rattle.ops.specs.Kinds.{kindOf, lineWith}
-use Rattle.ops.specs.Ops.{Operation}
+use Rattle.kinds.specs.Kinds.{kindOf, Operation, operation}
+use Rattle.ops.specs.Kinds.{follows, lineWith}
 
 -- an operation's line without the line feed
 abbrev pub shown : Operation → List ℕ
@@ -30,12 +30,17 @@ remarks (x ∷ xs) = remark x ++ remarks xs
 
 -- with an operand that is not used as 0
 abbrev pub cleared : Operation → Operation
-cleared o = record { kind = o .kind; operand = cond (kindOf (o .kind) .operand) (o .operand) 0 }
+cleared o = operation (o .kind) (cond (follows (kindOf (o .kind) .operand)) (o .operand) 0)
 
 -- what can be written
 pub record IsOperation (o : Operation) : Type 0 where
   pub kind : o .kind < 16
   pub operand : o .operand < 2 ^ 64
+
+-- what is read: it can be written, and an operand that is not used is 0
+pub record IsRead (o : Operation) : Type 0 where
+  pub is : IsOperation o
+  pub unused : cleared o ≡ o
 
 pub record IsRemark (x : List ℕ) : Type 0 where
   pub valid : utf8 x ≡ true

@@ -15,6 +15,7 @@ ghost use mathlib.Core.Path.{_≡_};
 ghost use mathlib.Core.Bool.{true};
 ghost use Prim.Native.Nat.{min};
 ghost use Rattle.byte.specs.Part.{Part};
+ghost use Rattle.ops.specs.Line.{fromStr};
 ghost use Rattle.ops.specs.Numbers.{opsErrorNumbered, parsedOpsNumbered};
 ghost use Rattle.ops.specs.Ops.{Parsed, trimmedLine, trimmedPlace, lineNumbered};
 ghost use Rattle.ops.specs.Passes.{Good, Passed};
@@ -148,8 +149,8 @@ fn smaller(a: usize, b: usize) -> usize
 
 // One pass over a text that is UTF-8. It gives the answer, and writes the operations only where it is told to.
 fn pass(text: &[u8], kinds: &mut [u8], operands: &mut [u64], writing: bool) -> ParsedOps
-    requires { ⌜ (writing ≡ true → Good (now text) (now kinds) (now operands)) ⌝ }
-    ensures { λ r. ⌜ Passed (now (text .entry)) (now (kinds .entry)) (now (operands .entry)) (now (kinds .exit)) (now (operands .exit)) writing r ⌝ }
+    requires { ⌜ (writing ≡ true → Good fromStr (now text) (now kinds) (now operands)) ⌝ }
+    ensures { λ r. ⌜ Passed fromStr (now (text .entry)) (now (kinds .entry)) (now (operands .entry)) (now (kinds .exit)) (now (operands .exit)) writing r ⌝ }
 {
     let room = smaller(kinds.len(), operands.len());
     let mut at: usize = 0;

@@ -12,8 +12,14 @@ use number::Number;
 ghost use mathlib.Core.Path.{_≡_};
 ghost use Prim.Native.Nat.{_+_, _-_, _^_, _<_, _≤_};
 ghost use lib.ListN.{length, take, drop};
-ghost use Rattle.ops.specs.Line.{badNumber, operandOf, skipped, lineOf};
+ghost use Rattle.kinds.specs.Kinds.{kindOf};
+ghost use Rattle.ops.specs.Line.{fromStr, ruleOf, badNumber, operandOf, skipped, lineOf};
 ghost use Rattle.ops.specs.Passes.{lineReadAt, KnownRead, Indented};
+
+// The rules for operands.
+pub enum Rule {
+    FromStr,
+}
 
 pub enum LineRead {
     Skip,
@@ -36,7 +42,7 @@ pub enum Known {
 
 // The line that starts at a place, its number being line.
 pub fn line_read_at(text: &[u8], at: usize, line: usize) -> Reached
-    ensures { λ r. ⌜ r ≡ lineReadAt (now (text .entry)) at line ⌝ }
+    ensures { λ r. ⌜ r ≡ lineReadAt fromStr (now (text .entry)) at line ⌝ }
 {
     let known = known_line_at(text, at);
     match known {
@@ -123,13 +129,13 @@ fn skipped_line_at(text: &[u8], at: usize, first: usize) -> Known
 }
 
 fn any_line_at(text: &[u8], at: usize, line: usize) -> Reached
-    ensures { λ r. ⌜ r ≡ lineReadAt (now (text .entry)) at line ⌝ }
+    ensures { λ r. ⌜ r ≡ lineReadAt fromStr (now (text .entry)) at line ⌝ }
 {
     let step = lines::line_at(text, at);
     match step {
         Step::Next(l) => {
             let end = l.end;
-            let read = read_line(text, at, end, line);
+            let read = read_line(text, at, end, line, Rule::FromStr);
             Reached { read, next: l.next }
         }
         Step::Done => Reached {
@@ -140,9 +146,9 @@ fn any_line_at(text: &[u8], at: usize, line: usize) -> Reached
 }
 
 // The line that stands from start to end, its number being line.
-fn read_line(text: &[u8], start: usize, end: usize, line: usize) -> LineRead
+fn read_line(text: &[u8], start: usize, end: usize, line: usize, rule: Rule) -> LineRead
     requires { ⌜ (start ≤ end) × (end ≤ length (now text)) ⌝ }
-    ensures { λ r. ⌜ r ≡ lineOf line start (take (end - start) (drop start (now (text .entry)))) ⌝ }
+    ensures { λ r. ⌜ r ≡ lineOf (ruleOf rule) line start (take (end - start) (drop start (now (text .entry)))) ⌝ }
 {
     let raw = &text[start..end];
     let from_first = trim::trim_start(raw);
@@ -154,7 +160,7 @@ fn read_line(text: &[u8], start: usize, end: usize, line: usize) -> LineRead
     let p = part(t);
     match p {
         Parted::Alone(kind) => LineRead::Op { kind, operand: 0 },
-        Parted::Before(kind, n) => read_operand(t, n, kind, line, place + n),
+        Parted::Before(kind, n) => read_operand(t, n, kind, line, place + n, rule),
         Parted::Unknown => {
             let len = t.len();
             LineRead::Bad(OpsError::UnknownOp { line, place, len })
@@ -163,14 +169,14 @@ fn read_line(text: &[u8], start: usize, end: usize, line: usize) -> LineRead
 }
 
 // What follows a kind's word in a trimmed line: it starts at n there, and at place in the text.
-fn read_operand(t: &[u8], n: usize, kind: u8, line: usize, place: usize) -> LineRead
+fn read_operand(t: &[u8], n: usize, kind: u8, line: usize, place: usize, rule: Rule) -> LineRead
     requires { ⌜ (n ≤ length (now t)) × (place + (length (now t) - n) < 2 ^ 64) ⌝ }
-    ensures { λ r. ⌜ r ≡ operandOf kind line place (drop n (now (t .entry))) ⌝ }
+    ensures { λ r. ⌜ r ≡ operandOf (ruleOf rule) kind line place (drop n (now (t .entry))) ⌝ }
 {
     let rest = &t[n..];
     let from_first = trim::trim_start(rest);
     let digits = trim::trim_end(from_first);
-    let v = number::from_str(digits);
+    let v = number_by(rule, kind, digits);
     match v {
         Number::Is(operand) => LineRead::Op { kind, operand },
         Number::Invalid => {
@@ -180,8 +186,17 @@ fn read_operand(t: &[u8], n: usize, kind: u8, line: usize, place: usize) -> Line
     }
 }
 
+// The number that the text behind a kind's word says.
+fn number_by(rule: Rule, kind: u8, text: &[u8]) -> Number
+    ensures { λ r. ⌜ r ≡ ruleOf rule (kindOf kind .operand) (now (text .entry)) ⌝ }
+{
+    match rule {
+        Rule::FromStr => number::from_str(text),
+    }
+}
+
 fn bad_number(kind: u8, line: usize, place: usize, len: usize) -> OpsError
-    ensures { λ r. ⌜ r ≡ badNumber kind line place len ⌝ }
+    ensures { λ r. ⌜ r ≡ badNumber (kindOf kind .operand) line place len ⌝ }
 {
     if kind == 0 {
         return OpsError::BadPush { line, place, len };

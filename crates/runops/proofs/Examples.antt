@@ -4,7 +4,7 @@ use mathlib.Core.Path.{_≡_, refl}
 use mathlib.Core.List.{List}
 use Rattle.machine.specs.Operation.{decode}
 use Rattle.machine.specs.Machine.{runOf, whole}
-use Rattle.ops.specs.Ascii.{ascii}
+use Rattle.byte.specs.Ascii.{ascii}
 use Rattle.vm.specs.Verify.{operationsCheck}
 use Rattle.vm.specs.Transition.{up}
 use Rattle.runops.specs.declared.report.Report.{Report}

@@ -6,7 +6,7 @@ use mathlib.Core.Bool.{cond}
 use lib.Dec.{ltb}
 use lib.ListN.{length, getD, replicate}
 use Rattle.number.specs.Decimal.{decimal}
-use Rattle.ops.specs.Ascii.{ascii}
+use Rattle.byte.specs.Ascii.{ascii}
 use Rattle.ops.specs.Ops.{Reading, ops, refused, readText, onto, kindsOf, operandsOf}
 use Rattle.ops.specs.Numbers.{opsErrorNumbered}
 use Rattle.vm.specs.declared.State.{State}

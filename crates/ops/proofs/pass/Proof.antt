@@ -4,6 +4,7 @@ use Prim.Native.Nat.{_-_}
 use native.Mathlib.Omega.{arith}
 use lib.ListN.{length}
 use denote.Ref.{now}
+use Rattle.ops.specs.Line.{fromStr}
 use Rattle.ops.proofs.Reading.{onwards, moved}
 use Rattle.ops.proofs.Filling.{room-kinds, room-operands}
 use Rattle.ops.proofs.Passing.{Passing, pass-first, pass-empty, pass-some, pass-skip, pass-bad, pass-full, pass-left, pass-written}
@@ -12,7 +13,7 @@ use Rattle.ops.proofs.pass.Statement.{statement}
 use Rattle.ops.proofs.pass.Tie as tie
 
 abbrev Inv-loop : tie.InvT-loop
-Inv-loop text kinds₀ operands₀ writing room at₀ line₀ n₀ kinds operands at line n = Passing text kinds₀ operands₀ writing room kinds operands at line n
+Inv-loop text kinds₀ operands₀ writing room at₀ line₀ n₀ kinds operands at line n = Passing fromStr text kinds₀ operands₀ writing room kinds operands at line n
 
 abbrev μ-loop : tie.MeasureT-loop
 μ-loop text kinds₀ operands₀ writing room at₀ line₀ n₀ kinds operands at line n = length text - at
@@ -23,7 +24,7 @@ smaller-requires c κs = search needs
 loop-holds : tie.Need-loop-holds Inv-loop μ-loop
 loop-holds c =
     let a = c .before .before .before .before .args in
-    pass-first (now (a .text)) (now (a .kinds)) (now (a .operands)) (a .writing) (c .smaller .result) (c .smaller .ensures) (c .before .before .before .before .pre)
+    pass-first fromStr (now (a .text)) (now (a .kinds)) (now (a .operands)) (a .writing) (c .smaller .result) (c .smaller .ensures) (c .before .before .before .before .pre)
 
 add-line : tie.Need-add-line Inv-loop μ-loop
 add-line c = record { fits = omega (arith, c .before .loop .inv .scanned .stands .counted) }
@@ -36,8 +37,8 @@ enum-told c = search needs
 
 loop-less : tie.Need-loop-less Inv-loop μ-loop
 loop-less c =
-    let o = onwards (c .before .before .before .before .loop .inv .scanned .stands) (c .before .before .before .loop-test .taken) (c .before .before .line-read-at .result) (c .before .before .line-read-at .ensures) in
-    let w = moved (c .before .before .before .before .loop .inv .scanned .stands) (c .before .before .before .loop-test .taken) (c .before .before .line-read-at .result) (c .before .before .line-read-at .ensures) .within in omega arith
+    let o = onwards (c .before .before .before .before .loop .inv .scanned .stands) fromStr (c .before .before .before .loop-test .taken) (c .before .before .line-read-at .result) (c .before .before .line-read-at .ensures) in
+    let w = moved (c .before .before .before .before .loop .inv .scanned .stands) fromStr (c .before .before .before .loop-test .taken) (c .before .before .line-read-at .result) (c .before .before .line-read-at .ensures) .within in omega arith
 
 loop-again : tie.Need-loop-again Inv-loop μ-loop
 loop-again c = pass-skip (c .before .before .before .before .loop .inv) (c .before .before .before .loop-test .taken) (c .before .before .line-read-at .result) (c .before .before .line-read-at .ensures) (c .enum-told .given .1)
@@ -69,16 +70,16 @@ slice-write-operands c = room-operands (c .before .before .before .before .befor
 
 loop-less-2 : tie.Need-loop-less-2 Inv-loop μ-loop
 loop-less-2 c =
-    let o = onwards (c .before .before .before .before .before .before .before .loop .inv .scanned .stands) (c .before .before .before .before .before .before .loop-test .taken) (c .before .before .before .before .before .line-read-at .result) (c .before .before .before .before .before .line-read-at .ensures) in
-    let w = moved (c .before .before .before .before .before .before .before .loop .inv .scanned .stands) (c .before .before .before .before .before .before .loop-test .taken) (c .before .before .before .before .before .line-read-at .result) (c .before .before .before .before .before .line-read-at .ensures) .within in omega arith
+    let o = onwards (c .before .before .before .before .before .before .before .loop .inv .scanned .stands) fromStr (c .before .before .before .before .before .before .loop-test .taken) (c .before .before .before .before .before .line-read-at .result) (c .before .before .before .before .before .line-read-at .ensures) in
+    let w = moved (c .before .before .before .before .before .before .before .loop .inv .scanned .stands) fromStr (c .before .before .before .before .before .before .loop-test .taken) (c .before .before .before .before .before .line-read-at .result) (c .before .before .before .before .before .line-read-at .ensures) .within in omega arith
 
 loop-again-2 : tie.Need-loop-again-2 Inv-loop μ-loop
 loop-again-2 c = pass-written (c .before .before .before .before .before .before .before .loop .inv) (c .before .before .before .before .before .before .loop-test .taken) (c .before .before .before .before .before .line-read-at .result) (c .before .before .before .before .before .line-read-at .ensures) _ _ (c .before .before .before .read .given .1) (c .before .if1 .left) (c .if2 .taken)
 
 loop-less-3 : tie.Need-loop-less-3 Inv-loop μ-loop
 loop-less-3 c =
-    let o = onwards (c .before .before .before .before .before .before .before .loop .inv .scanned .stands) (c .before .before .before .before .before .before .loop-test .taken) (c .before .before .before .before .before .line-read-at .result) (c .before .before .before .before .before .line-read-at .ensures) in
-    let w = moved (c .before .before .before .before .before .before .before .loop .inv .scanned .stands) (c .before .before .before .before .before .before .loop-test .taken) (c .before .before .before .before .before .line-read-at .result) (c .before .before .before .before .before .line-read-at .ensures) .within in omega arith
+    let o = onwards (c .before .before .before .before .before .before .before .loop .inv .scanned .stands) fromStr (c .before .before .before .before .before .before .loop-test .taken) (c .before .before .before .before .before .line-read-at .result) (c .before .before .before .before .before .line-read-at .ensures) in
+    let w = moved (c .before .before .before .before .before .before .before .loop .inv .scanned .stands) fromStr (c .before .before .before .before .before .before .loop-test .taken) (c .before .before .before .before .before .line-read-at .result) (c .before .before .before .before .before .line-read-at .ensures) .within in omega arith
 
 loop-again-3 : tie.Need-loop-again-3 Inv-loop μ-loop
 loop-again-3 c = pass-left (c .before .before .before .before .before .before .before .loop .inv) (c .before .before .before .before .before .before .loop-test .taken) (c .before .before .before .before .before .line-read-at .result) (c .before .before .before .before .before .line-read-at .ensures) _ _ (c .before .before .before .read .given .1) (c .before .if1 .left) (c .if2 .left)

@@ -1,7 +1,8 @@
 -- `push_plus` is `Push +5` of E7: what the call ensures, and the group's figures.
 use mathlib.Core.Path.{ap, _∙_}
 use mathlib.Core.List.{List}
-use Rattle.ops.specs.Ops.{Operation, kindsOf, operandsOf, onto}
+use Rattle.kinds.specs.Kinds.{Operation}
+use Rattle.ops.specs.Ops.{kindsOf, operandsOf, onto}
 use Rattle.ops.specs.Numbers.{parsedOpsNumbered}
 use Rattle.examples.specs.Runs.{zeros, nines}
 use Rattle.examples.proofs.Bench.{bench}

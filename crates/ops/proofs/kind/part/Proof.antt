@@ -8,7 +8,8 @@ use borrow.Author.Tests.{ne-eqb}
 use native.Mathlib.Omega.{arith}
 use lib.ListN.{length, getD}
 use denote.Ref.{now}
-use Rattle.ops.specs.Kinds.{FirstIs, kinds, parted}
+use Rattle.kinds.specs.Kinds.{kinds}
+use Rattle.ops.specs.Kinds.{FirstIs, parted}
 use Rattle.ops.specs.declared.kind.Parted.the-variants.{Unknown}
 use Rattle.ops.proofs.Words.{first-p, first-a, first-m, first-e, first-c, first-h, first-other, empty, starts}
 use borrow.Author.Needs.{needs}

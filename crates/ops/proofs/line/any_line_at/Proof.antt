@@ -4,6 +4,7 @@ use mathlib.Core.Path.{sym, _∙_}
 use native.Mathlib.Nat.{le-trans}
 use denote.Ref.{now}
 use Rattle.lines.proofs.Cursor.{step-line}
+use Rattle.ops.specs.Line.{fromStr}
 use Rattle.ops.proofs.Reached.{reached-next, reached-done}
 use borrow.Author.Needs.{needs}
 use Rattle.ops.proofs.line.any_line_at.Statement.{statement}
@@ -27,12 +28,12 @@ enum-told c = search needs
 returns : tie.Need-returns
 returns c =
     let a = c .before .before .before .before .before .before .args in
-    reached-next (now (a .text)) (a .at) (a .line) _ _ (sym (c .before .before .before .before .line-at .ensures) ∙ c .before .before .step .given .1) (c .read-line .ensures)
+    reached-next (now (a .text)) (a .at) fromStr (a .line) _ _ (sym (c .before .before .before .before .line-at .ensures) ∙ c .before .before .step .given .1) (c .read-line .ensures)
 
 returns-2 : tie.Need-returns-2
 returns-2 c =
     let a = c .before .before .before .before .args in
-    reached-done (now (a .text)) (a .at) (a .line) (sym (c .before .before .line-at .ensures) ∙ c .enum-told .given .1)
+    reached-done (now (a .text)) (a .at) fromStr (a .line) (sym (c .before .before .line-at .ensures) ∙ c .enum-told .given .1)
 
 pub any-line-at-spec : {M : Type 1} → statement M
 any-line-at-spec =

@@ -1,7 +1,8 @@
 -- `line::line_read_at` meets its contract: what is known from the start on is what the line says.
 -- Assumes nothing.
-use mathlib.Core.Path.{sym, subst}
+use mathlib.Core.Path.{refl, sym, subst}
 use denote.Ref.{now}
+use Rattle.ops.specs.Line.{fromStr}
 use Rattle.ops.specs.Passes.{KnownRead}
 use borrow.Author.Needs.{needs}
 use Rattle.ops.proofs.line.line_read_at.Statement.{statement}
@@ -25,12 +26,12 @@ any-line-at-requires c κs = search needs
 returns : tie.Need-returns
 returns c =
     let a = c .before .before .before .before .before .args in
-    sym (subst (KnownRead (now (a .text)) (a .at)) (c .before .known .given .1) (c .before .before .before .known-line-at .ensures) (a .line))
+    sym (subst (KnownRead (now (a .text)) (a .at)) (c .before .known .given .1) (c .before .before .before .known-line-at .ensures) fromStr (λ operand d e. refl) (a .line))
 
 returns-2 : tie.Need-returns-2
 returns-2 c =
     let a = c .before .before .before .before .before .args in
-    sym (subst (KnownRead (now (a .text)) (a .at)) (c .before .known2 .given .1) (c .before .before .before .known-line-at .ensures) (a .line))
+    sym (subst (KnownRead (now (a .text)) (a .at)) (c .before .known2 .given .1) (c .before .before .before .known-line-at .ensures) fromStr (λ operand d e. refl) (a .line))
 
 returns-3 : tie.Need-returns-3
 returns-3 c = search needs

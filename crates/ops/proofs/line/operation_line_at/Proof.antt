@@ -43,7 +43,7 @@ returns-2 c =
     let a = c .before .before .before .before .before .before .before .args in
     let text = now (a .text) in
     let o = subst (PlainRead text (a .first)) (c .before .before .before .plain .given .1) (c .before .before .before .before .before .plain-at .ensures) in
-    λ line. operation-read text (a .at) (a .first) (indent _ _ _ (c .before .before .before .before .before .before .before .pre)) line _ _ _ _ o
+    λ rule plain line. operation-read text (a .at) (a .first) (indent _ _ _ (c .before .before .before .before .before .before .before .pre)) rule line plain _ _ _ _ o
     (no-blanks text _ (operation-within text (a .first) _ _ _ (indent _ _ _ (c .before .before .before .before .before .before .before .pre) .fits) o)) (sym (c .before .one .ensures) ∙ c .if1 .taken)
 
 blanks-end-requires : tie.Need-blanks-end-requires
@@ -73,7 +73,7 @@ returns-4 c =
     let text = now (a .text) in
     let i = indent _ _ _ (start .pre) in
     let o = subst (PlainRead text (a .first)) (c .before .before .before .before .before .before .plain .given .1) (c .before .before .before .before .before .before .before .before .plain-at .ensures) in
-    λ line. operation-read text (a .at) (a .first) i line _ _ _ _ o
+    λ rule plain line. operation-read text (a .at) (a .first) i rule line plain _ _ _ _ o
     (subst (Blanks text _) (sym (c .before .before .blanks-end .ensures)) (blanks text _ (operation-within text (a .first) _ _ _ (i .fits) o)))
     (sym (c .before .one2 .ensures) ∙ not-false _ (c .if2 .left))
 

@@ -5,7 +5,7 @@ use mathlib.Core.Path.{sym, ap, _∙_}
 use native.Mathlib.Omega.{arith}
 use lib.ListN.{take, drop}
 use denote.Ref.{now}
-use Rattle.ops.specs.Line.{partRead}
+use Rattle.ops.specs.Line.{ruleOf, partRead}
 use Rattle.ops.proofs.Words.{rest-within}
 use Rattle.ops.proofs.Trimmed.{start-within, end-within, raw-length, skip-read, part-read}
 use borrow.Author.Needs.{needs}
@@ -36,7 +36,7 @@ returns c =
     let raw = take (a .end - a .start) (drop (a .start) (now (a .text))) in
     let first = c .before .before .before .trim-start in
     let last = c .before .before .trim-end in
-    sym (skip-read raw (now (first .result)) (now (last .result)) (first .ensures .text) (last .ensures .text) (a .line) (a .start) (sym (c .before .is-skipped .ensures) ∙ c .if1 .taken))
+    sym (skip-read raw (now (first .result)) (now (last .result)) (first .ensures .text) (last .ensures .text) (ruleOf (a .rule)) (a .line) (a .start) (sym (c .before .is-skipped .ensures) ∙ c .if1 .taken))
 
 sub-place : tie.Need-sub-place
 sub-place c =
@@ -97,8 +97,8 @@ returns-2 c =
     let raw = take (a .end - a .start) (drop (a .start) (now (a .text))) in
     let first = c .before .before .before .before .before .before .before .trim-start in
     let last = c .before .before .before .before .before .before .trim-end in
-    sym (part-read raw (now (first .result)) (now (last .result)) (first .ensures .text) (last .ensures .text) (a .line) (a .start) (c .before .before .before .part .result) (sym (c .before .before .before .before .before .is-skipped .ensures) ∙ c .before .before .before .before .if1 .left) (c .before .before .before .part .ensures)
-    ∙ ap (partRead (a .line) _ (now (last .result))) (c .before .p .given .1))
+    sym (part-read raw (now (first .result)) (now (last .result)) (first .ensures .text) (last .ensures .text) (ruleOf (a .rule)) (a .line) (a .start) (c .before .before .before .part .result) (sym (c .before .before .before .before .before .is-skipped .ensures) ∙ c .before .before .before .before .if1 .left) (c .before .before .before .part .ensures)
+    ∙ ap (partRead (ruleOf (a .rule)) (a .line) _ (now (last .result))) (c .before .p .given .1))
 
 returns-3 : tie.Need-returns-3
 returns-3 c =
@@ -107,8 +107,8 @@ returns-3 c =
     let first = c .before .before .before .before .before .before .before .before .trim-start in
     let last = c .before .before .before .before .before .before .before .trim-end in
     c .read-operand .ensures
-    ∙ sym (part-read raw (now (first .result)) (now (last .result)) (first .ensures .text) (last .ensures .text) (a .line) (a .start) (c .before .before .before .before .part .result) (sym (c .before .before .before .before .before .before .is-skipped .ensures) ∙ c .before .before .before .before .before .if1 .left) (c .before .before .before .before .part .ensures)
-    ∙ ap (partRead (a .line) _ (now (last .result))) (c .before .before .p2 .given .1))
+    ∙ sym (part-read raw (now (first .result)) (now (last .result)) (first .ensures .text) (last .ensures .text) (ruleOf (a .rule)) (a .line) (a .start) (c .before .before .before .before .part .result) (sym (c .before .before .before .before .before .before .is-skipped .ensures) ∙ c .before .before .before .before .before .if1 .left) (c .before .before .before .before .part .ensures)
+    ∙ ap (partRead (ruleOf (a .rule)) (a .line) _ (now (last .result))) (c .before .before .p2 .given .1))
 
 returns-4 : tie.Need-returns-4
 returns-4 c =
@@ -116,8 +116,8 @@ returns-4 c =
     let raw = take (a .end - a .start) (drop (a .start) (now (a .text))) in
     let first = c .before .before .before .before .before .before .trim-start in
     let last = c .before .before .before .before .before .trim-end in
-    sym (part-read raw (now (first .result)) (now (last .result)) (first .ensures .text) (last .ensures .text) (a .line) (a .start) (c .before .before .part .result) (sym (c .before .before .before .before .is-skipped .ensures) ∙ c .before .before .before .if1 .left) (c .before .before .part .ensures)
-    ∙ ap (partRead (a .line) _ (now (last .result))) (c .enum-told .given .1))
+    sym (part-read raw (now (first .result)) (now (last .result)) (first .ensures .text) (last .ensures .text) (ruleOf (a .rule)) (a .line) (a .start) (c .before .before .part .result) (sym (c .before .before .before .before .is-skipped .ensures) ∙ c .before .before .before .if1 .left) (c .before .before .part .ensures)
+    ∙ ap (partRead (ruleOf (a .rule)) (a .line) _ (now (last .result))) (c .enum-told .given .1))
 
 pub read-line-spec : {M : Type 1} → statement M
 read-line-spec =

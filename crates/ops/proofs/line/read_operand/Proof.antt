@@ -7,7 +7,7 @@ use lib.ListN.{length, take, drop}
 use denote.Ref.{now}
 use Rattle.byte.proofs.Parts.{rest}
 use Rattle.trim.proofs.Laws.{startTrimmed-length}
-use Rattle.ops.specs.Line.{ofNumber}
+use Rattle.ops.specs.Line.{ruleOf, ofNumber}
 use Rattle.ops.specs.declared.line.LineRead.the-variants.{Bad}
 use Rattle.ops.proofs.Trimmed.{operand-read}
 use borrow.Author.Needs.{needs}
@@ -29,8 +29,8 @@ trim-start-requires c κs = search needs
 trim-end-requires : tie.Need-trim-end-requires
 trim-end-requires c κs = search needs
 
-from-str-requires : tie.Need-from-str-requires
-from-str-requires c κs = search needs
+number-by-requires : tie.Need-number-by-requires
+number-by-requires c κs = search needs
 
 enum-known-v : tie.Need-enum-known-v
 enum-known-v c = search needs
@@ -58,7 +58,7 @@ returns c =
     let first = c .before .before .before .before .before .trim-start in
     let last = c .before .before .before .before .trim-end in
     sym (operand-read (take (length l - a .n) (drop (a .n) l)) (now (first .result)) (now (last .result)) (first .ensures .text) (last .ensures .text)
-    (a .kind) (a .line) (a .place) (a .n) l (c .before .before .before .from-str .result) (rest l (a .n)) (c .before .before .before .from-str .ensures)
+    (ruleOf (a .rule)) (a .kind) (a .line) (a .place) (a .n) l (c .before .before .before .number-by .result) (rest l (a .n)) (c .before .before .before .number-by .ensures)
     ∙ ap (ofNumber (a .kind) (a .line) _ _) (c .before .v .given .1))
 
 returns-2 : tie.Need-returns-2
@@ -69,7 +69,7 @@ returns-2 c =
     let last = c .before .before .before .before .trim-end in
     ap Bad (c .bad-number .ensures)
     ∙ sym (operand-read (take (length l - a .n) (drop (a .n) l)) (now (first .result)) (now (last .result)) (first .ensures .text) (last .ensures .text)
-    (a .kind) (a .line) (a .place) (a .n) l (c .before .before .before .from-str .result) (rest l (a .n)) (c .before .before .before .from-str .ensures)
+    (ruleOf (a .rule)) (a .kind) (a .line) (a .place) (a .n) l (c .before .before .before .number-by .result) (rest l (a .n)) (c .before .before .before .number-by .ensures)
     ∙ ap (ofNumber (a .kind) (a .line) _ _) (c .before .enum-told .given .1))
 
 pub read-operand-spec : {M : Type 1} → statement M
@@ -81,7 +81,7 @@ read-operand-spec =
     part-rest-end
     trim-start-requires
     trim-end-requires
-    from-str-requires
+    number-by-requires
     enum-known-v
     enum-told
     sub-start

@@ -20,7 +20,7 @@ add-t6 c = let f = indent _ _ _ (c .before .before .before .pre) .fits in search
 returns : tie.Need-returns
 returns c =
     let a = c .before .before .before .args in
-    λ line. blank-read (now (a .text)) (a .at) (a .first) (indent _ _ _ (c .before .before .before .pre)) line (sym (c .before .one .ensures) ∙ c .if1 .taken)
+    λ rule plain line. blank-read (now (a .text)) (a .at) (a .first) (indent _ _ _ (c .before .before .before .pre)) rule line (sym (c .before .one .ensures) ∙ c .if1 .taken)
 
 one-requires-2 : tie.Need-one-requires-2
 one-requires-2 c κs = search needs
@@ -39,7 +39,7 @@ returns-3 c =
     let a = c .before .before .before .before .before .before .before .args in
     let text = now (a .text) in
     let f = c .before .line-feed .ensures in
-    λ line. remark-read text (a .at) (a .first) (indent _ _ _ (c .before .before .before .before .before .before .before .pre)) line
+    λ rule plain line. remark-read text (a .at) (a .first) (indent _ _ _ (c .before .before .before .before .before .before .before .pre)) rule line
     (sym (c .before .before .before .one2 .ensures) ∙ not-false _ (c .before .before .if2 .left)) (subst (λ (n : ℕ). n < length text) f (c .if3 .taken))
     ∙ ap (λ (n : ℕ). record { read = Skip; next = n + 1 }) (sym f)
 

@@ -1,0 +1,155 @@
+-- What is read can be written, and reading that gives it again.
+use Prim.Native.Nat.{ℕ, zero, suc, _+_, _^_, _<_, _≤_}
+use mathlib.Core.Path.{_≡_, refl, sym, ap, ap₂, subst, _∙_}
+use mathlib.Core.List.{List, [], _∷_, map}
+use mathlib.Core.Bool.{Bool, true, false, cond, _&&_}
+use borrow.Author.Tests.{ltb-true}
+use native.Mathlib.Omega.{arith}
+use lib.Dec.{ltb}
+use lib.ListN.{length}
+use Rattle.byte.proofs.Tests.{by-bool, never}
+use Rattle.utf8.specs.Utf8.{utf8}
+use Rattle.lines.specs.Lines.{lines}
+use Rattle.trim.specs.Trim.{startTrimmed, trimmed}
+use Rattle.number.specs.Decimal.{allDigits, value, withoutPlus}
+use Rattle.number.specs.declared.Number.{Number}
+use Rattle.number.specs.declared.Number.the-variants.{Is, Invalid}
+use Rattle.kinds.specs.Kinds.{kindOf, Operation, operation}
+use Rattle.ops.specs.Kinds.{follows, parted}
+use Rattle.ops.specs.Line.{Rule, fromStr, ReadsDigits, ReadsWords, ofNumber, partRead, skipped, lineOf}
+use Rattle.ops.specs.Ops.{Reading, ops, refused, startOf, followedBy, thenRead, readLines, someRead, readBy, readText}
+use Rattle.ops.specs.Written.{writtenAll, cleared, IsOperation, IsRead, Each, none, one}
+use Rattle.ops.specs.declared.kind.Parted.{Parted}
+use Rattle.ops.specs.declared.kind.Parted.the-variants.{Alone, Before}
+use Rattle.ops.specs.declared.OpsError.{OpsError}
+use Rattle.ops.specs.declared.OpsError.the-variants.{NotUtf8}
+use Rattle.ops.specs.declared.line.LineRead.{LineRead}
+use Rattle.ops.specs.declared.line.LineRead.the-variants.{Skip, Op, Bad}
+use Rattle.ops.proofs.Words.{parted-at}
+use Rattle.ops.proofs.Trimmed.{skip-read, part-read}
+use Rattle.ops.proofs.Written.{reads-written-by, cleared-same}
+
+-- the numbers of `u64::from_str` fit 64 bits
+pub from-str-words : ReadsWords fromStr
+from-str-words operand t v e = go (ltb 0 (length s)) (allDigits s) e
+  where
+    s : List ℕ
+    s = withoutPlus t
+
+    same : Is (value s) ≡ Is v → value s ≡ v
+    same e = cc
+
+    large : Invalid ≡ Is v → ⊥
+    large e = let z : _≡_ {A = ℕ} 0 1 = cc in omega arith
+
+    fits : cond (ltb (value s) (2 ^ 64)) (Is (value s)) Invalid ≡ Is v → v < 2 ^ 64
+    fits e =
+        by-bool (ltb (value s) (2 ^ 64))
+        (λ b. omega (arith, ltb-true (value s) (2 ^ 64) b, same (sym (ap (λ (b : Bool). cond b (Is (value s)) Invalid) b) ∙ e)))
+        (λ b. absurd (large (sym (ap (λ (b : Bool). cond b (Is (value s)) Invalid) b) ∙ e)))
+
+    go : (a b : Bool) → cond (a && b && ltb (value s) (2 ^ 64)) (Is (value s)) Invalid ≡ Is v → v < 2 ^ 64
+    go true true e = fits e
+    go true false e = absurd (large e)
+    go false b e = absurd (large e)
+
+-- by a rule whose numbers fit 64 bits
+module _ (rule : Rule) (words : ReadsWords rule) where
+  number-read : (k line place len : ℕ) (x : Number) → k < 16 → follows (kindOf k .operand) ≡ true → ((n : ℕ) → x ≡ Is n → n < 2 ^ 64)
+      → (j v : ℕ) → ofNumber k line place len x ≡ Op j v → IsRead (operation j v)
+  number-read k line place len (Is n) h f w j v e =
+      let p : k ≡ j = cc in
+      let q : n ≡ v = cc in
+      subst IsRead (ap₂ operation p q)
+      (record { is = record { kind = h; operand = w n refl }; unused = cleared-same (operation k n) (λ g. never (sym g ∙ f)) })
+  number-read k line place len Invalid h f w j v e = absurd (let z : _≡_ {A = ℕ} 0 1 = cc in omega arith)
+
+  alone-read : (k : ℕ) → k < 16 → (j v : ℕ) → Op k 0 ≡ Op j v → IsRead (operation j v)
+  alone-read k h j v e =
+      let p : k ≡ j = cc in
+      let q : _≡_ {A = ℕ} 0 v = cc in
+      subst IsRead (ap₂ operation p q)
+      (record { is = record { kind = h; operand = omega arith }; unused = cleared-same (operation k 0) (λ g. refl) })
+
+  -- the operation of a line
+  line-read : (line start : ℕ) (l : List ℕ) (j v : ℕ) → lineOf rule line start l ≡ Op j v → IsRead (operation j v)
+  line-read line start l j v e =
+      by-bool (skipped (trimmed l))
+      (λ s. absurd (no-skip (sym (skip-read l (startTrimmed l) (trimmed l) refl refl rule line start s) ∙ e)))
+      (λ s.
+      let r = sym (part-read l (startTrimmed l) (trimmed l) refl refl rule line start (parted (trimmed l)) s refl) ∙ e in
+      parted-at (trimmed l)
+      (λ u. absurd (no-bad _ (sym (ap (partRead rule line _ (trimmed l)) u) ∙ r)))
+      (λ k h _ p. by-bool (follows (kindOf k .operand))
+      (λ f. number-read k line _ _ _ h f (words (kindOf k .operand) _) j v (sym (ap (partRead rule line _ (trimmed l)) (p ∙ ap (part k) f)) ∙ r))
+      (λ f. alone-read k h j v (sym (ap (partRead rule line _ (trimmed l)) (p ∙ ap (part k) f)) ∙ r))))
+    where
+      no-skip : Skip ≡ Op j v → ⊥
+      no-skip e = let z : _≡_ {A = ℕ} 0 1 = cc in omega arith
+
+      no-bad : (x : OpsError) → Bad x ≡ Op j v → ⊥
+      no-bad x e = let z : _≡_ {A = ℕ} 0 1 = cc in omega arith
+
+      part : ℕ → Bool → Parted
+      part k b = cond b (Before k (length (kindOf k .word) + 1)) (Alone k)
+
+  -- the operations of lines
+  joined-read : (o : Operation) (x : Reading) → IsRead o → ((os : List Operation) → x ≡ ops os → Each IsRead os)
+      → (os : List Operation) → followedBy o x ≡ ops os → Each IsRead os
+  joined-read o (ops ps) p more os e = let z : o ∷ ps ≡ os = cc in subst (Each IsRead) z (one p (more ps refl))
+  joined-read o (refused x) p more os e = absurd (let z : _≡_ {A = ℕ} 0 1 = cc in omega arith)
+
+  then-read : (line room : ℕ) (more : ℕ → Reading) (x : LineRead) → ((k v : ℕ) → x ≡ Op k v → IsRead (operation k v))
+      → ((room : ℕ) (os : List Operation) → more room ≡ ops os → Each IsRead os)
+      → (os : List Operation) → thenRead line room more x ≡ ops os → Each IsRead os
+  then-read line room more Skip here later os e = later room os e
+  then-read line zero more (Op k v) here later os e = absurd (let z : _≡_ {A = ℕ} 0 1 = cc in omega arith)
+  then-read line (suc room) more (Op k v) here later os e = joined-read (operation k v) (more room) (here k v refl) (later room) os e
+  then-read line room more (Bad x) here later os e = absurd (let z : _≡_ {A = ℕ} 0 1 = cc in omega arith)
+
+  lines-read : (text : List ℕ) (n : ℕ) (ls : List (List ℕ)) (room : ℕ) (os : List Operation) → readLines rule text n ls room ≡ ops os → Each IsRead os
+  lines-read text n [] room os e = let z : [] ≡ os = cc in subst (Each IsRead) z none
+  lines-read text n (l ∷ ls) room os e =
+      then-read (n + 1) room (readLines rule text (n + 1) ls) (lineOf rule (n + 1) (startOf n text) l)
+      (line-read (n + 1) (startOf n text) l) (λ room os e. lines-read text (n + 1) ls room os e) os e
+
+  -- what is read: one operation or more
+  pub is-read : (text : List ℕ) (room : ℕ) (os : List Operation) → readBy rule text room ≡ ops os → Each IsRead os × (0 < length os)
+  is-read text room os e =
+      by-bool (utf8 text)
+      (λ u. some (readLines rule text 0 (lines text) room) refl (sym (ap (whole (readLines rule text 0 (lines text) room)) u) ∙ e))
+      (λ u. absurd (no-refusal (sym (ap (whole (readLines rule text 0 (lines text) room)) u) ∙ e)))
+    where
+      whole : Reading → Bool → Reading
+      whole x b = cond b (someRead x) (refused NotUtf8)
+
+      no-refusal : {x : OpsError} → refused x ≡ ops os → ⊥
+      no-refusal e = let z : _≡_ {A = ℕ} 0 1 = cc in omega arith
+
+      same : (ps : List Operation) → ops ps ≡ ops os → ps ≡ os
+      same ps e = cc
+
+      some : (x : Reading) → readLines rule text 0 (lines text) room ≡ x → someRead x ≡ ops os → Each IsRead os × (0 < length os)
+      some (ops []) q e = absurd (no-refusal e)
+      some (ops (o ∷ ps)) q e = (lines-read text 0 (lines text) room os (q ∙ e), omega (arith, ap length (same (o ∷ ps) e)))
+      some (refused x) q e = absurd (no-refusal e)
+
+operations : {os : List Operation} → Each IsRead os → Each IsOperation os
+operations none = none
+operations (one p ps) = one (p .is) (operations ps)
+
+all-same : {os : List Operation} → Each IsRead os → map cleared os ≡ os
+all-same none = refl
+all-same (one {a = o} {l = os} p ps) = ap₂ (λ o os. o ∷ os) (p .unused) (all-same ps)
+
+-- what one rule read is, when written, read the same by every rule that reads digits
+pub read-again : (rule again : Rule) → ReadsWords rule → ReadsDigits again → (text : List ℕ) (room : ℕ) (os : List Operation) → readBy rule text room ≡ ops os
+    → (wide : ℕ) → length os ≤ wide → readBy again (writtenAll os) wide ≡ ops os
+read-again rule again words plain text room os e wide h =
+    let r = is-read rule words text room os e in
+    reads-written-by again plain none (operations (r .0)) (r .1) wide h ∙ ap ops (all-same (r .0))
+
+-- by document 01's rule
+pub text-again : (text : List ℕ) (room : ℕ) (os : List Operation) → readText text room ≡ ops os
+    → (wide : ℕ) → length os ≤ wide → readText (writtenAll os) wide ≡ ops os
+text-again text room os e wide h = read-again fromStr fromStr from-str-words (λ operand d e. refl) text room os e wide h
