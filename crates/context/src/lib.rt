@@ -3,7 +3,8 @@ ghost use mathlib.Core.Path.{_≡_};
 ghost use mathlib.Core.Bool.{_&&_};
 ghost use Prim.Native.Nat.{_+_, _≤_};
 ghost use lib.ListN.{length, drop};
-ghost use Rattle.context.specs.Gate.{equal, isHexDigit, allHexDigits, isNetwork, isGenesisId, gateOf, contextErrorNumbered, gateNumbered, Gated};
+ghost use Rattle.byte.specs.Equal.{equal};
+ghost use Rattle.context.specs.Gate.{isHexDigit, allHexDigits, isNetwork, isGenesisId, gateOf, contextErrorNumbered, gateNumbered, Gated};
 use numbered::Numbered;
 use numbered::plain;
 
