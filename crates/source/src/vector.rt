@@ -32,7 +32,8 @@ impl KeyValue {
 }
 
 pub fn json_u64_for_key(vector: &[u8], key: &[u8]) -> KeyValue
-    ensures { λ r. ⌜ (r ≡ vectorNumber (now (vector .entry)) (now (key .entry))) × (keyValueNumbered r ≡ keyValueNumbered (vectorNumber (now (vector .entry)) (now (key .entry)))) ⌝ }
+    ensures { λ r. ⌜ (r ≡ vectorNumber (now (vector .entry)) (now (key .entry)))
+        × (keyValueNumbered r ≡ keyValueNumbered (vectorNumber (now (vector .entry)) (now (key .entry)))) ⌝ }
 {
     let found = find_quoted(vector, key);
     let Found::At(at) = found else {
