@@ -5,13 +5,14 @@ use mathlib.Core.List.{List}
 use native.Mathlib.Omega.{arith}
 use borrow.Author.Tests.{lt-leb}
 use lib.ListN.{take, drop}
+use Rattle.numbered.specs.Outcome.{Outcome, is, refused}
 use Rattle.byte.proofs.Parts.{middle}
 use Rattle.expression.specs.declared.figures.Read.{Read}
 use Rattle.expression.specs.declared.ExprError.{ExprError}
 use Rattle.expression.specs.declared.Parsed.{Parsed}
 use Rattle.expression.specs.declared.Parsed.the-variants as Parsed
 use Rattle.expression.specs.Tree.{Tree, kOf}
-use Rattle.expression.specs.Parse.{Env, Meaning, tree, wrong, meaning}
+use Rattle.expression.specs.Parse.{Env, meaning}
 use Rattle.expression.specs.Figures.{Figures}
 use Rattle.expression.specs.Table.{Columns, Holds}
 use Rattle.expression.specs.Answer.{said, due, Short, Answers}
@@ -25,20 +26,20 @@ use Rattle.assembler.specs.Held.{Checks, ChecksAll, Within}
 use Rattle.assembler.proofs.Holding.{p-at-most}
 
 module _ (line : ℕ) where
-  refused-checks : (e : ExprError) (m : Meaning) → said (Parsed.Refused e) ≡ due m → Checks m line (Refused (Expression e line))
-  refused-checks e (wrong n) q f = cc
-  refused-checks e (tree t) q f = absurd (let z : _≡_ {A = ℕ} 0 1 = cc in omega arith)
+  refused-checks : (e : ExprError) (m : Outcome Tree) → said (Parsed.Refused e) ≡ due m → Checks m line (Refused (Expression e line))
+  refused-checks e (refused r) q f = cc
+  refused-checks e (is t) q f = absurd (let z : _≡_ {A = ℕ} 0 1 = cc in omega arith)
 
-  long-checks : (v : Read) (m : Meaning) → said (Parsed.Done v) ≡ due m → 32768 < v .k → Checks m line (Refused (TooLong line))
-  long-checks v (wrong n) q l f = absurd (let z : _≡_ {A = ℕ} 0 1 = cc in omega arith)
-  long-checks v (tree t) q l f =
+  long-checks : (v : Read) (m : Outcome Tree) → said (Parsed.Done v) ≡ due m → 32768 < v .k → Checks m line (Refused (TooLong line))
+  long-checks v (refused r) q l f = absurd (let z : _≡_ {A = ℕ} 0 1 = cc in omega arith)
+  long-checks v (is t) q l f =
       let k : v .k ≡ kOf t = cc in
       let b = lt-leb (kOf t) 32768 (omega arith) in
       rw b
 
-  done-checks : (v : Read) (m : Meaning) → said (Parsed.Done v) ≡ due m → Short m → v .k ≤ 32768 → Checks m line (Is v)
-  done-checks v (wrong n) q h l = absurd (let z : _≡_ {A = ℕ} 0 1 = cc in omega arith)
-  done-checks v (tree t) q h l =
+  done-checks : (v : Read) (m : Outcome Tree) → said (Parsed.Done v) ≡ due m → Short m → v .k ≤ 32768 → Checks m line (Is v)
+  done-checks v (refused r) q h l = absurd (let z : _≡_ {A = ℕ} 0 1 = cc in omega arith)
+  done-checks v (is t) q h l =
       let k : v .k ≡ kOf t = cc in
       (t, (refl, (omega arith, record { k = k; p = cc; value = cc; len = cc; short = h })))
 

@@ -31,25 +31,26 @@ use Rattle.assembler.specs.declared.state.Status.the-variants.{Going, Re
 use Rattle.assembler.specs.declared.state.State as Code
 use Rattle.assembler.specs.Part.{part}
 use Rattle.numbered.specs.Numbered.{plain}
-use Rattle.assembler.specs.State.{State, Outcome, goes, andThen, started}
-use Rattle.assembler.specs.Parameters.{parametersBound}
-use Rattle.assembler.specs.Body.{linesRead}
+use Rattle.assembler.specs.State.{State, started, each}
+use Rattle.numbered.specs.Outcome.{Outcome, is, refused, andThen}
+use Rattle.assembler.specs.Parameters.{parameterBound}
+use Rattle.assembler.specs.Body.{lineRead}
 use Rattle.assembler.specs.Numbers.{refusalNumbered}
 use Rattle.assembler.specs.Stored.{noBindings, noValues, nothingYet}
 use Rattle.assembler.specs.LastReturn.{Place, Met, bodyMet, metOf, Meets, Standing}
 use Rattle.assembler.specs.Held.{LastIs, Represents, Good, Leads, Follows, Within, isRefused}
-use Rattle.assembler.specs.Assembled.{Assembled, accepted, rejected, readable, bodyRead, compared, returned, concluded, functionRead, assembledTree}
-use Rattle.assembler.specs.Concluded.{Reached, rejectedFor, ConcludesBy, Concludes, ConcludesAll, Located}
+use Rattle.assembler.specs.Assembled.{readable, bodyRead, compared, returned, functionRead, placesOf, assembledTree}
+use Rattle.assembler.specs.Concluded.{Reached, rejectedFor, ConcludesBy, Concludes, concluded, ConcludesAll, Located}
 use Rattle.assembler.proofs.Holding.{holds-length}
 use Rattle.assembler.proofs.Sourced.{env-none}
 use Rattle.assembler.proofs.Meeting.{all-made, no-place}
 use Rattle.assembler.proofs.Leading.{leads-off, by-leads, represents-later, leads-later}
 
 -- an answer that is refused
-pub concludes-off : {s vector : List ℕ} {o : Assembled} {r : Assembly} {why : Refusal} → r ≡ rejectedFor why → o ≡ rejected (refusalNumbered why) → Concludes s vector o r
+pub concludes-off : {s vector : List ℕ} {o : Outcome (ℕ × Tree)} {r : Assembly} {why : Refusal} → r ≡ rejectedFor why → o ≡ refused (refusalNumbered why) → Concludes s vector o r
 concludes-off {s} {vector} {o} f e = subst (λ (x : Assembly). Concludes s vector o x) (sym f) (record { by = (e, refl) })
 
-pub concludes-on : {s vector : List ℕ} {o : Assembled} {r : Assembly} {t : Tree} (q : Reached s vector (r .state)) → q .st .last ≡ some t → o ≡ accepted (r .expected) t → Concludes s vector o r
+pub concludes-on : {s vector : List ℕ} {o : Outcome (ℕ × Tree)} {r : Assembly} {t : Tree} (q : Reached s vector (r .state)) → q .st .last ≡ some t → o ≡ is (r .expected, t) → Concludes s vector o r
 concludes-on {s} {vector} {o} {r} {t} q l e = record {
   by = subst (λ (x : Status). ConcludesBy x s vector o r) (sym (q .represents .going)) (record {
     reached = q;
@@ -83,14 +84,14 @@ module _ (s vector : List ℕ) (p : Places) (f : Located s p) where
   pub body-within : Within s (p .«body_start») (p .«body_end»)
   body-within = let o = order in record { short = f .short; ordered = o .body; fits = omega (arith, o .fits, f .short); inside = omega (arith, o .fits) }
 
-  module _ (first a : Code.State) (h : first ≡ nothingYet) (g : Follows (take (p .«params_start») s) first (λ st. parametersBound vector st (parameters (part s (p .«params_start») (p .«params_end»)))) (take (p .«params_end») s) a) where
-    led : Leads (take (p .«params_end») s) a (parametersBound vector started (parameters (part s (p .«params_start») (p .«params_end»)))) goes
+  module _ (first a : Code.State) (h : first ≡ nothingYet) (g : Follows (take (p .«params_start») s) first (λ st. each (parameterBound vector) 1 st (parameters (part s (p .«params_start») (p .«params_end»)))) (take (p .«params_end») s) a) where
+    led : Leads (take (p .«params_end») s) a (each (parameterBound vector) 1 started (parameters (part s (p .«params_start») (p .«params_end»)))) is
     led = g .leads started (started-represents (take (p .«params_start») s) first h)
 
-    pub params-off : isRefused (a .status) ≡ true → Leads s a (bodyRead s vector p) goes
+    pub params-off : isRefused (a .status) ≡ true → Leads s a (bodyRead s vector p) is
     params-off b = by-leads led
         (λ st q e. never (sym b ∙ ap isRefused (q .going)))
-        (λ why t e. leads-off t (ap (λ (u : Outcome). andThen u (λ st. linesRead st (lines (part s (p .«body_start») (p .«body_end»))))) e))
+        (λ why t e. leads-off t (ap (λ (u : Outcome State). andThen u (λ st. each lineRead 1 st (lines (part s (p .«body_start») (p .«body_end»))))) e))
 
     pub params-stand : isRefused (a .status) ≡ true → Standing s p a
     params-stand b = record { is = λ g. never (sym b ∙ ap isRefused g) }
@@ -101,13 +102,13 @@ module _ (s vector : List ℕ) (p : Places) (f : Located s p) where
           (λ st q e. record { st = st; represents = represents-later s (p .«params_end») (p .«body_start») (omega (arith, o .between)) (omega (arith, o .body, o .fits)) q })
           (λ why t e. never (sym (ap isRefused t) ∙ b))
 
-      pub body-leads : {r : Code.State} → Follows (take (p .«body_start») s) a (λ st. linesRead st (lines (part s (p .«body_start») (p .«body_end»)))) (take (p .«body_end») s) r → Leads s r (bodyRead s vector p) goes
+      pub body-leads : {r : Code.State} → Follows (take (p .«body_start») s) a (λ st. each lineRead 1 st (lines (part s (p .«body_start») (p .«body_end»)))) (take (p .«body_end») s) r → Leads s r (bodyRead s vector p) is
       body-leads {r} k = let o = order in by-leads led
           (λ st q e.
           let x = k .leads st (represents-later s (p .«params_end») (p .«body_start») (omega (arith, o .between)) (omega (arith, o .body, o .fits)) q) in
           let y = leads-later s (p .«body_end») (length s) (omega (arith, o .fits)) (omega arith) x in
-          let z = subst (λ (t : List ℕ). Leads t r (linesRead st (lines (part s (p .«body_start») (p .«body_end»)))) goes) (take-all (length s) s (omega arith)) y in
-          subst (λ (u : Outcome). Leads s r u goes) (sym (ap (λ (u : Outcome). andThen u (λ x. linesRead x (lines (part s (p .«body_start») (p .«body_end»))))) e)) z)
+          let z = subst (λ (t : List ℕ). Leads t r (each lineRead 1 st (lines (part s (p .«body_start») (p .«body_end»)))) is) (take-all (length s) s (omega arith)) y in
+          subst (λ (u : Outcome State). Leads s r u is) (sym (ap (λ (u : Outcome State). andThen u (λ x. each lineRead 1 x (lines (part s (p .«body_start») (p .«body_end»))))) e)) z)
           (λ why t e. never (sym (ap isRefused t) ∙ b))
 
       pub body-stands : {r : Code.State} → Meets s (p .«body_start») (p .«body_end») a r → Standing s p r
@@ -133,7 +134,7 @@ module _ (a : Code.State) (expected : ℕ) where
     is = λ s vector p f l m.
         by-leads l
         (λ st q e. never (sym (ap isRefused b) ∙ ap isRefused (q .going)))
-        (λ other t e. concludes-off refl (ap (concluded expected) e ∙ ap (λ (w : Refusal). rejected (refusalNumbered w)) (ap (refusalIn why) (sym t ∙ b))));
+        (λ other t e. concludes-off refl (ap (concluded expected) e ∙ ap (λ (w : Refusal). refused (refusalNumbered w)) (ap (refusalIn why) (sym t ∙ b))));
   }
 
   module _ (b : a .status ≡ Going) where
@@ -142,14 +143,14 @@ module _ (a : Code.State) (expected : ℕ) where
     by-reached {r} f = record {
       is = λ s vector p g l m.
           by-leads l
-          (λ st q e. subst (λ (o : Assembled). Concludes s vector o r) (sym (ap (concluded expected) e)) (f s vector (record { places = p; found = g; st = st; read = e; represents = q; place = m .is b })))
+          (λ st q e. subst (λ (o : Outcome (ℕ × Tree)). Concludes s vector o r) (sym (ap (concluded expected) e)) (f s vector (record { places = p; found = g; st = st; read = e; represents = q; place = m .is b })))
           (λ why t e. never (sym (ap isRefused t) ∙ ap isRefused b));
     }
 
     pub end-nothing : a .last ≡ Last.Nothing → ConcludesAll a expected (rejectedFor NoReturn)
     end-nothing e = by-reached (λ s vector q. concludes-off refl (go s (q .st .last) (subst (λ (x : Last). LastIs s (a .table) (a .values) x (q .st .last)) e (q .represents .last))))
       where
-        go : (s : List ℕ) (x : Option Tree) → LastIs s (a .table) (a .values) Last.Nothing x → returned expected x ≡ rejected (refusalNumbered NoReturn)
+        go : (s : List ℕ) (x : Option Tree) → LastIs s (a .table) (a .values) Last.Nothing x → returned expected x ≡ refused (refusalNumbered NoReturn)
         go s none h = refl
         go s (some t) h = absurd h
 
@@ -173,16 +174,16 @@ module _ (a : Code.State) (expected : ℕ) where
 
 -- both texts are readable, or one is not
 module _ (s vector : List ℕ) where
-  pub no-contract : readable s ≡ false → assembledTree s vector ≡ rejected (plain 1)
+  pub no-contract : readable s ≡ false → assembledTree s vector ≡ refused (plain 1)
   unfolding assembledTree
   no-contract e = rw e
 
   module _ (e : readable s ≡ true) where
-    pub no-vector : readable vector ≡ false → assembledTree s vector ≡ rejected (plain 2)
+    pub no-vector : readable vector ≡ false → assembledTree s vector ≡ refused (plain 2)
     unfolding assembledTree
     no-vector f = rw (e, f)
 
-    pub both-readable : readable vector ≡ true → assembledTree s vector ≡ functionRead s vector (functionOf s)
+    pub both-readable : readable vector ≡ true → assembledTree s vector ≡ andThen (placesOf (functionOf s)) (functionRead s vector)
     unfolding assembledTree
     both-readable f = rw (e, f)
 

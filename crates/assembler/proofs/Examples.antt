@@ -10,10 +10,11 @@ use Rattle.expression.specs.Tree.{Tree, num, bin, valueOf, kOf, pOf}
 use Rattle.expression.specs.Parse.{parseF, meaning}
 use Rattle.byte.specs.Ascii.{ascii}
 use Rattle.numbered.specs.Numbered.{plain, carrying}
-use Rattle.assembler.specs.State.{refused, started, each}
-use Rattle.assembler.specs.Body.{linesRead}
+use Rattle.assembler.specs.State.{started, each}
+use Rattle.numbered.specs.Outcome.{is, refused}
+use Rattle.assembler.specs.Body.{lineRead}
 use Rattle.number.specs.Decimal.{decimal}
-use Rattle.assembler.specs.Assembled.{accepted, rejected, assembledTree}
+use Rattle.assembler.specs.Assembled.{assembledTree}
 use Rattle.assembler.specs.LastReturn.{linesMet, lastReturn}
 use Rattle.assembler.specs.Output.{success, nothing, output, assembled}
 
@@ -28,7 +29,7 @@ tallyVector = ascii "{\"a\": 5, \"b\": 7, \"expected\": 24}"
 tallyTree : Tree
 tallyTree = bin mul (bin add (num 5) (num 7)) (num 2)
 
-tally-assembled : assembledTree tally tallyVector ≡ accepted 24 tallyTree
+tally-assembled : assembledTree tally tallyVector ≡ is (24, tallyTree)
 unfolding assembledTree each meaning parseF scan tally tallyVector tallyTree
 tally-assembled = refl
 
@@ -37,87 +38,87 @@ unfolding tallyTree
 tally-figures = (refl, (refl, refl))
 
 -- `let a = 1`, `let b = a`, `let a = 2`, `return b`
-kept-meaning : assembledTree (ascii "fn f(){let a = 1\nlet b = a\nlet a = 2\nreturn b}") (ascii "\"expected\":1") ≡ accepted 1 (num 1)
+kept-meaning : assembledTree (ascii "fn f(){let a = 1\nlet b = a\nlet a = 2\nreturn b}") (ascii "\"expected\":1") ≡ is (1, num 1)
 unfolding assembledTree each meaning parseF scan
 kept-meaning = refl
 
 -- `let x = 1`, `let x = x`, `return x`: the expression sees the older `x`
-older-name : assembledTree (ascii "fn f(){let x = 1\nlet x = x\nreturn x}") (ascii "\"expected\":1") ≡ accepted 1 (num 1)
+older-name : assembledTree (ascii "fn f(){let x = 1\nlet x = x\nreturn x}") (ascii "\"expected\":1") ≡ is (1, num 1)
 unfolding assembledTree each meaning parseF scan
 older-name = refl
 
 -- `let z = 1 / 0`, `return 1`
-unused-division : assembledTree (ascii "fn f(){let z = 1 / 0\nreturn 1}") (ascii "\"expected\":1") ≡ accepted 1 (num 1)
+unused-division : assembledTree (ascii "fn f(){let z = 1 / 0\nreturn 1}") (ascii "\"expected\":1") ≡ is (1, num 1)
 unfolding assembledTree each meaning parseF scan
 unused-division = refl
 
 -- `return a;` on line 2
-semicolon : assembledTree (ascii "fn f(){let a = 1\nreturn a;}") (ascii "\"expected\":1") ≡ rejected (carrying 13 (2 ∷ []))
+semicolon : assembledTree (ascii "fn f(){let a = 1\nreturn a;}") (ascii "\"expected\":1") ≡ refused (carrying 13 (2 ∷ []))
 unfolding assembledTree each meaning parseF scan
 semicolon = refl
 
 -- `let x = 1 // c` on line 3, behind an empty line and one that is a remark
-remark : assembledTree (ascii "fn f(){\n// r\nlet x = 1 // c}") (ascii "\"expected\":1") ≡ rejected (carrying 17 (3 ∷ []))
+remark : assembledTree (ascii "fn f(){\n// r\nlet x = 1 // c}") (ascii "\"expected\":1") ≡ refused (carrying 17 (3 ∷ []))
 unfolding assembledTree each meaning parseF scan
 remark = refl
 
 -- `return 2`, `return 1`
-last-return : assembledTree (ascii "fn f(){return 2\nreturn 1}") (ascii "\"expected\":1") ≡ accepted 1 (num 1)
+last-return : assembledTree (ascii "fn f(){return 2\nreturn 1}") (ascii "\"expected\":1") ≡ is (1, num 1)
 unfolding assembledTree each meaning parseF scan
 last-return = refl
 
 -- `return`, a tab and `1` is skipped
-tab : assembledTree (ascii "fn f(){return\t1}") (ascii "\"expected\":1") ≡ rejected (plain 22)
+tab : assembledTree (ascii "fn f(){return\t1}") (ascii "\"expected\":1") ≡ refused (plain 22)
 unfolding assembledTree each meaning parseF scan
 tab = refl
 
 -- `return 1 / 0`, an unused `return` too
-no-value : assembledTree (ascii "fn f(){return 1 / 0\nreturn 1 / 0}") (ascii "\"expected\":1") ≡ rejected (plain 23)
+no-value : assembledTree (ascii "fn f(){return 1 / 0\nreturn 1 / 0}") (ascii "\"expected\":1") ≡ refused (plain 23)
 unfolding assembledTree each meaning parseF scan
 no-value = refl
 
 -- `return 2`
-not-expected : assembledTree (ascii "fn f(){return 2}") (ascii "\"expected\":1") ≡ rejected (plain 24)
+not-expected : assembledTree (ascii "fn f(){return 2}") (ascii "\"expected\":1") ≡ refused (plain 24)
 unfolding assembledTree each meaning parseF scan
 not-expected = refl
 
 -- `let x 1` on line 1
-no-equals : assembledTree (ascii "fn f(){let x 1}") (ascii "\"expected\":1") ≡ rejected (carrying 12 (1 ∷ []))
+no-equals : assembledTree (ascii "fn f(){let x 1}") (ascii "\"expected\":1") ≡ refused (carrying 12 (1 ∷ []))
 unfolding assembledTree each meaning parseF scan
 no-equals = refl
 
 -- `let ) = 1`, `return )`
-parenthesis-name : assembledTree (ascii "fn f(){let ) = 1\nreturn )}") (ascii "\"expected\":1") ≡ accepted 1 (num 1)
+parenthesis-name : assembledTree (ascii "fn f(){let ) = 1\nreturn )}") (ascii "\"expected\":1") ≡ is (1, num 1)
 unfolding assembledTree each meaning parseF scan
 parenthesis-name = refl
 
 -- `12.5` in the vector
-fraction : assembledTree (ascii "fn f(a){return a}") (ascii "\"a\":12.5,\"expected\":12") ≡ accepted 12 (num 12)
+fraction : assembledTree (ascii "fn f(a){return a}") (ascii "\"a\":12.5,\"expected\":12") ≡ is (12, num 12)
 unfolding assembledTree each meaning parseF scan
 fraction = refl
 
 -- a place counts the parameters that are kept
-kept-places : assembledTree (ascii "fn f(a,,b:u64){return a}") (ascii "\"a\":1,\"b\":x,\"expected\":1") ≡ rejected (carrying 10 (2 ∷ []))
+kept-places : assembledTree (ascii "fn f(a,,b:u64){return a}") (ascii "\"a\":1,\"b\":x,\"expected\":1") ≡ refused (carrying 10 (2 ∷ []))
 unfolding assembledTree each meaning parseF scan
 kept-places = refl
 
 -- `expected` has the place 0
-no-expected : assembledTree (ascii "fn f(a){}") ([]) ≡ rejected (carrying 8 (0 ∷ []))
+no-expected : assembledTree (ascii "fn f(a){}") ([]) ≡ refused (carrying 8 (0 ∷ []))
 unfolding assembledTree each meaning parseF scan
 no-expected = refl
 
 -- no `}`
-unclosed : assembledTree (ascii "fn f(a){") (ascii "\"expected\":1") ≡ rejected (plain 7)
+unclosed : assembledTree (ascii "fn f(a){") (ascii "\"expected\":1") ≡ refused (plain 7)
 unfolding assembledTree each meaning parseF scan
 unclosed = refl
 
 -- bytes that are no UTF-8, as contract and as vector
-not-utf8 : (assembledTree (0xFF ∷ []) [] ≡ rejected (plain 1)) × (assembledTree [] (0xFF ∷ []) ≡ rejected (plain 2))
+not-utf8 : (assembledTree (0xFF ∷ []) [] ≡ refused (plain 1)) × (assembledTree [] (0xFF ∷ []) ≡ refused (plain 2))
 unfolding assembledTree
 not-utf8 = (refl, refl)
 
 -- 256 times `let x=1`, and once more
-bindings-all : linesRead started (replicate 257 (ascii "let x=1")) ≡ refused (plain 21)
+bindings-all : each lineRead 1 started (replicate 257 (ascii "let x=1")) ≡ refused (plain 21)
 unfolding each meaning parseF scan
 bindings-all = refl
 

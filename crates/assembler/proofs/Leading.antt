@@ -17,21 +17,22 @@ use Rattle.assembler.specs.declared.state.Status.{Status}
 use Rattle.assembler.specs.declared.state.Status.the-variants.{Going, Refused}
 use Rattle.assembler.specs.declared.state.State as Code
 use Rattle.assembler.specs.Part.{part}
-use Rattle.assembler.specs.State.{State, Outcome, goes, refused, bound}
+use Rattle.assembler.specs.State.{State, bound}
+use Rattle.numbered.specs.Outcome.{Outcome, is, refused}
 use Rattle.assembler.specs.Numbers.{refusalNumbered}
 use Rattle.assembler.specs.Stored.{numberIn, Bound}
 use Rattle.assembler.specs.Held.{LastIs, Represents, LeadsBy, Leads}
 use Rattle.assembler.proofs.Holding.{holds-length, holds-later, holds-more}
 use Rattle.assembler.proofs.Sourced.{env-later, stand-later, last-later, Gives, env-more, stand-more, last-more}
 
-module _ {s : List ℕ} {a : Code.State} {whole : Outcome} {rest : State → Outcome} where
+module _ {s : List ℕ} {a : Code.State} {whole : Outcome State} {rest : State → Outcome State} where
   pub leads-on : {st : State} → Represents s a st → whole ≡ rest st → Leads s a whole rest
   leads-on {st} r e = record { by = subst (λ (x : Status). LeadsBy x s a whole rest) (sym (r .going)) (st, (r, e)) }
 
   pub leads-off : {why : Refusal} → a .status ≡ Refused why → whole ≡ refused (refusalNumbered why) → Leads s a whole rest
   leads-off f e = record { by = subst (λ (x : Status). LeadsBy x s a whole rest) (sym f) e }
 
-pub by-leads : {P : Type 0} {s : List ℕ} {a : Code.State} {whole : Outcome} {rest : State → Outcome} → Leads s a whole rest
+pub by-leads : {P : Type 0} {s : List ℕ} {a : Code.State} {whole : Outcome State} {rest : State → Outcome State} → Leads s a whole rest
     → ((st : State) → Represents s a st → whole ≡ rest st → P)
     → ((why : Refusal) → a .status ≡ Refused why → whole ≡ refused (refusalNumbered why) → P)
     → P
@@ -51,12 +52,12 @@ module _ (s : List ℕ) (i e : ℕ) (h : i ≤ e) (k : e ≤ length s) where
     going = r .going;
   }
 
-  pub leads-later : {a : Code.State} {whole : Outcome} {rest : State → Outcome} → Leads (take i s) a whole rest → Leads (take e s) a whole rest
+  pub leads-later : {a : Code.State} {whole : Outcome State} {rest : State → Outcome State} → Leads (take i s) a whole rest → Leads (take e s) a whole rest
   leads-later l = by-leads l (λ st r w. leads-on (represents-later r) w) (λ why f w. leads-off f w)
 
 -- one binding more
 module _ (s : List ℕ) (a r : Code.State) (name expr : Span) (v : Read) {w : List ℕ} (b : Bound a name expr v w r) (o : name .start ≤ name .end) (k : name .end ≤ length s) (same : w ≡ part s (name .start) (name .end)) where
-  pub bound-leads : {st : State} {t : Tree} → Represents s a st → Figures t v → Gives s (st .env) expr (numberIn (v .value)) t → Leads s r (bound st (part s (name .start) (name .end)) t) goes
+  pub bound-leads : {st : State} {t : Tree} → Represents s a st → Figures t v → Gives s (st .env) expr (numberIn (v .value)) t → Leads s r (bound st (part s (name .start) (name .end)) t) is
   bound-leads {st} {t} q f g =
       let n = holds-length (q .holds) in
       by-leb 256 (a .table .count)

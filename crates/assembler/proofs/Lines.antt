@@ -10,7 +10,7 @@ use lib.Seq.{length-take-le}
 use Rattle.source.specs.declared.parameters.Span.{Span}
 use Rattle.expression.specs.declared.figures.Read.{Read}
 use Rattle.expression.specs.Tree.{Tree, kOf}
-use Rattle.expression.specs.Parse.{Env, Meaning, tree, wrong, meaning}
+use Rattle.expression.specs.Parse.{Env, meaning}
 use Rattle.expression.specs.Table.{columns}
 use Rattle.expression.proofs.Meaning.{meaning-empty}
 use Rattle.trim.specs.Trim.{trimmed}
@@ -22,7 +22,9 @@ use Rattle.assembler.specs.declared.state.State as Code
 use Rattle.assembler.specs.declared.statement.Statement.{Statement}
 use Rattle.assembler.specs.declared.statement.Statement.the-variants as Stmt
 use Rattle.assembler.specs.Part.{part}
-use Rattle.assembler.specs.State.{State, Outcome, goes, bound}
+use Rattle.assembler.specs.State.{State, bound}
+use Rattle.numbered.specs.Numbered.{plain}
+use Rattle.numbered.specs.Outcome.{Outcome, is, refused}
 use Rattle.assembler.specs.Statement.{binds, returns}
 use Rattle.assembler.specs.Body.{treeOr, performed, lineRead}
 use Rattle.assembler.specs.Places.{Inside, AllInside, Stands, statementAt, texts}
@@ -34,7 +36,7 @@ use Rattle.assembler.proofs.Sourced.{Gives}
 use Rattle.assembler.proofs.Leading.{leads-on, leads-off, represents-later, leads-later, bound-leads}
 use Rattle.assembler.proofs.Checking.{figures-small}
 
-tree-found : {m : Meaning} {t : Tree} (line : ℕ) (f : Tree → Outcome) → m ≡ tree t → kOf t ≤ 32768 → treeOr m line f ≡ f t
+tree-found : {m : Outcome Tree} {t : Tree} (line : ℕ) (f : Tree → Outcome State) → m ≡ is t → kOf t ≤ 32768 → treeOr m line f ≡ f t
 tree-found {t = t} line f e l = let b = le-leb (kOf t) 32768 l in rw (e, b)
 
 -- an expression from start to end of the contract s, on a line
@@ -55,7 +57,7 @@ module _ (s : List ℕ) (a : Code.State) (expr : Span) (w : Within s (expr .star
   part-in = part-take s (expr .end) (expr .end) (omega arith) (w .inside) (expr .start) (expr .end - expr .start) (omega (arith, w .ordered, length-take-le (expr .end) s (w .inside)))
 
   expression-refused : {why : Refusal} → ChecksAll behind (columns (a .table) (a .values)) line text (Refused why)
-      → (f : State → Tree → Outcome) → Follows before a (λ st. treeOr (meaning (st .env) text) line (f st)) behind (refusedAs a why)
+      → (f : State → Tree → Outcome State) → Follows before a (λ st. treeOr (meaning (st .env) text) line (f st)) behind (refusedAs a why)
   expression-refused k f = record { leads = λ st q. leads-off refl (k .is (st .env) (later q .holds) (f st)) }
 
   module _ {v : Read} (k : ChecksAll behind (columns (a .table) (a .values)) line text (Is v)) where
@@ -84,13 +86,13 @@ module _ (s : List ℕ) (a : Code.State) (expr : Span) (w : Within s (expr .star
     }
 
     -- an expression that is empty means no tree
-    gives : {env : Env} {t : Tree} → meaning env text ≡ tree t → Gives behind env expr (numberIn (v .value)) t
+    gives : {env : Env} {t : Tree} → meaning env text ≡ is t → Gives behind env expr (numberIn (v .value)) t
     gives {env} {t} e = record {
       ordered = w .ordered;
       inside = omega (arith, length-take-le (expr .end) s (w .inside));
       number = λ z.
           let y : expr .end - expr .start ≡ 0 = omega arith in
-          let u : wrong 14 ≡ tree t = sym (ap (λ (n : ℕ). meaning env (take n (drop (expr .start) s))) y ∙ meaning-empty env) ∙ e in
+          let u : refused (plain 14) ≡ is t = sym (ap (λ (n : ℕ). meaning env (take n (drop (expr .start) s))) y ∙ meaning-empty env) ∙ e in
           absurd (let c : _≡_ {A = ℕ} 0 1 = cc in omega arith);
       means = λ l. rw part-in e;
     }
@@ -103,7 +105,7 @@ module _ (s : List ℕ) (a : Code.State) (expr : Span) (w : Within s (expr .star
           let n = length-take-le (expr .end) s (w .inside) in
           let e : part behind (name .start) (name .end) ≡ part s (name .start) (name .end) = part-take s (expr .end) (expr .end) (omega arith) (w .inside) (name .start) (name .end - name .start) (let y = w .ordered in omega arith) in
           let z = tree-found line (bound st (part s (name .start) (name .end))) (x .1 .0) (x .1 .1 .0) in
-          subst (λ (u : Outcome). Leads behind r u goes) (ap (λ (u : List ℕ). bound st u (x .0)) e ∙ sym z) (bound-leads behind a r name expr v b o (let y = w .ordered in omega arith) (sym e) (later q) (x .1 .1 .1) (gives (x .1 .0)));
+          subst (λ (u : Outcome State). Leads behind r u is) (ap (λ (u : List ℕ). bound st u (x .0)) e ∙ sym z) (bound-leads behind a r name expr v b o (let y = w .ordered in omega arith) (sym e) (later q) (x .1 .1 .1) (gives (x .1 .0)));
     }
 
 -- the line from start to end of the contract
@@ -130,18 +132,18 @@ module _ (s : List ℕ) (start end : ℕ) (w : Within s start end) where
 
   -- what it makes of a state
   module _ (a : Code.State) (line : ℕ) where
-    abbrev read : State → Outcome
+    abbrev read : State → Outcome State
     read st = lineRead line st (part s start end)
 
     says : (r : Statement) → r ≡ statementAt s start end → (st : State) → read st ≡ performed line st (texts s r)
     says r e st = ap (performed line st) (sym (here r e .says))
 
     -- what a part of the line makes of a state is what the line does
-    wider : {f : State → Outcome} {r : Code.State} (p : Span) → Inside start end p → Follows (take (p .start) s) a f (take (p .end) s) r → ((st : State) → read st ≡ f st) → Follows (take start s) a read (take end s) r
+    wider : {f : State → Outcome State} {r : Code.State} (p : Span) → Inside start end p → Follows (take (p .start) s) a f (take (p .end) s) r → ((st : State) → read st ≡ f st) → Follows (take start s) a read (take end s) r
     wider {f} {r} p i g e = record {
       leads = λ st q.
           let x = g .leads st (represents-later s start (p .start) (i .low) (let y = w .inside in omega (arith, i .ordered, i .high)) q) in
-          leads-later s (p .end) end (i .high) (w .inside) (subst (λ (u : Outcome). Leads (take (p .end) s) r u goes) (sym (e st)) x);
+          leads-later s (p .end) end (i .high) (w .inside) (subst (λ (u : Outcome State). Leads (take (p .end) s) r u is) (sym (e st)) x);
     }
 
     good-within : (p : Span) → Inside start end p → Good (take start s) a → Good (take (p .start) s) a
@@ -183,7 +185,7 @@ module _ (s : List ℕ) (start end : ℕ) (w : Within s start end) where
       line-return g = wider expr (return-inside e) g (says _ e)
 
       pub return-refused : {why : Refusal} → ExprChecked expr (Refused why) → Follows (take start s) a read (take end s) (refusedAs a why)
-      return-refused k = line-return (expression-refused s a expr (return-within e) line k (λ st t. goes (record { env = st .env; last = some t })))
+      return-refused k = line-return (expression-refused s a expr (return-within e) line k (λ st t. is (record { env = st .env; last = some t })))
 
       pub return-follows : {v : Read} → ExprChecked expr (Is v) → Follows (take start s) a read (take end s) (returning a expr v)
       return-follows k = line-return (return-read s a expr (return-within e) line k)

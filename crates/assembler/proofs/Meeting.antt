@@ -2,11 +2,12 @@
 use Prim.Native.Nat.{ℕ, _+_}
 use mathlib.Core.Path.{_≡_, refl, sym, ap, ap₂, subst, _∙_}
 use mathlib.Core.List.{List, [], _∷_}
-use mathlib.Core.Bool.{Bool, true, false, cond}
+use mathlib.Core.Bool.{Bool, true, false}
 use mathlib.Core.Option.{some, none}
 use native.Mathlib.Omega.{arith}
 use lib.Dec.{ltb}
 use lib.ListN.{length, take}
+use Rattle.byte.specs.Need.{need}
 use Rattle.lines.specs.declared.Line.{Line}
 use Rattle.lines.specs.declared.Step.{Step}
 use Rattle.lines.specs.declared.Step.the-variants.{Next, Done}
@@ -26,8 +27,9 @@ use Rattle.assembler.specs.declared.statement.Statement.the-variants.{Le
 use Rattle.assembler.specs.declared.state.Last.{Last}
 use Rattle.assembler.specs.declared.state.Last.the-variants as Last
 use Rattle.assembler.specs.declared.state.State as Code
-use Rattle.assembler.specs.State.{State, Outcome, goes, refused, andThen, each}
-use Rattle.assembler.specs.Parameters.{Keyed, is, lacks, keyed, boundTo, parameterBound}
+use Rattle.assembler.specs.State.{State, bound, each}
+use Rattle.numbered.specs.Outcome.{Outcome, is, refused, andThen}
+use Rattle.assembler.specs.Parameters.{keyed, parameterBound}
 use Rattle.assembler.specs.Places.{statementAt}
 use Rattle.assembler.specs.Stored.{returning}
 use Rattle.assembler.specs.LastReturn.{Met, meeting, linesMet, bodyMet, placeOf, metOf, ReadToLast, Meets}
@@ -78,15 +80,15 @@ pub record Made (st : State) (names : List (List ℕ)) (x : State) : Type 0 wher
   pub count : length (x .env) ≡ length (st .env) + length names
   pub last : x .last ≡ st .last
 
-bound-on : (b : Bool) (st x : State) (r : Numbered) (f : State → Outcome) → andThen (cond b (goes st) (refused r)) f ≡ goes x → f st ≡ goes x
+bound-on : (b : Bool) (st x : State) (r : Numbered) (f : State → Outcome State) → andThen (need b (refused r) (is st)) f ≡ is x → f st ≡ is x
 bound-on true st x r f e = e
 bound-on false st x r f e = absurd (let z : _≡_ {A = ℕ} 0 1 = cc in omega arith)
 
-keyed-on : (k : Keyed) (st x : State) (name : List ℕ) (f : State → Outcome) → andThen (boundTo st name k) f ≡ goes x → (t : Tree) × (f (record { env = record { name = name; tree = t } ∷ st .env; last = st .last }) ≡ goes x)
+keyed-on : (k : Outcome ℕ) (st x : State) (name : List ℕ) (f : State → Outcome State) → andThen (andThen k (λ n. bound st name (num n))) f ≡ is x → (t : Tree) × (f (record { env = record { name = name; tree = t } ∷ st .env; last = st .last }) ≡ is x)
 keyed-on (is n) st x name f e = (num n, bound-on (ltb (length (st .env)) 256) _ x (plain 21) f e)
-keyed-on (lacks r) st x name f e = absurd (let z : _≡_ {A = ℕ} 0 1 = cc in omega arith)
+keyed-on (refused r) st x name f e = absurd (let z : _≡_ {A = ℕ} 0 1 = cc in omega arith)
 
-pub all-made : (vector : List ℕ) (n : ℕ) (st : State) (names : List (List ℕ)) (x : State) → each (parameterBound vector) n st names ≡ goes x → Made st names x
+pub all-made : (vector : List ℕ) (n : ℕ) (st : State) (names : List (List ℕ)) (x : State) → each (parameterBound vector) n st names ≡ is x → Made st names x
 unfolding each
 all-made vector n st [] x e = let f : st ≡ x = cc in subst (Made st []) f (record { count = omega arith; last = refl })
 all-made vector n st (name ∷ names) x e =

@@ -1,11 +1,12 @@
 -- Laws of a statement's places: they lie within the line, and hold the texts that the line says.
 use Prim.Native.Nat.{ℕ, _+_, _-_, _<_, _≤_}
 use mathlib.Core.Path.{_≡_, refl, sym, ap, _∙_}
-use mathlib.Core.List.{List, [], _∷_}
+use mathlib.Core.List.{List}
 use mathlib.Core.Bool.{true, false}
 use native.Mathlib.Omega.{arith}
 use lib.ListN.{length, take, drop, length-drop}
 use lib.Seq.{length-take-le}
+use Rattle.byte.specs.Ascii.{ascii}
 use Rattle.byte.proofs.Parts.{rest, inner}
 use Rattle.byte.proofs.Tests.{by-bool}
 use Rattle.search.specs.declared.Found.the-variants.{At, Nothing}
@@ -18,7 +19,7 @@ use Rattle.source.specs.declared.parameters.Span.{Span}
 use Rattle.assembler.specs.Part.{part}
 use Rattle.assembler.specs.declared.statement.Statement.{Statement}
 use Rattle.assembler.specs.declared.statement.Statement.the-variants.{Skipped, NoEquals, Let, Return}
-use Rattle.assembler.specs.Statement.{letWord, returnWord, returns, letOf, statement}
+use Rattle.assembler.specs.Statement.{returns, letOf, statement}
 use Rattle.assembler.specs.Places.{trimmedIn, letAt, trimmedAt, statementAt, texts, Inside, AllInside, Stands}
 
 module _ (s : List ℕ) (start end : ℕ) (h : start ≤ end) (k : end ≤ length s) where
@@ -61,18 +62,18 @@ module _ (s : List ℕ) where
   all-inside-more (Return expr) h k i = inside-more h k i
 
   module _ (start end : ℕ) (h : start ≤ end) (k : end ≤ length s) where
-    pub let-absent : firstAt (0x3D ∷ []) (part s start end) 0 ≡ Nothing → letAt s start end ≡ NoEquals
+    pub let-absent : firstAt (ascii "=") (part s start end) 0 ≡ Nothing → letAt s start end ≡ NoEquals
     let-absent e = rw e
 
-    pub let-found : (i : ℕ) → firstAt (0x3D ∷ []) (part s start end) 0 ≡ At i → letAt s start end ≡ Let (trimmedIn s start (start + i)) (trimmedIn s (start + i + 1) end)
+    pub let-found : (i : ℕ) → firstAt (ascii "=") (part s start end) 0 ≡ At i → letAt s start end ≡ Let (trimmedIn s start (start + i)) (trimmedIn s (start + i + 1) end)
     let-found i e = rw e
 
-    pub equals-inside : (i : ℕ) → firstAt (0x3D ∷ []) (part s start end) 0 ≡ At i → start + i + 1 ≤ end
-    equals-inside i e = omega (arith, in-text (0x3D ∷ []) (part s start end) 0 i e, part-length s start end h k)
+    pub equals-inside : (i : ℕ) → firstAt (ascii "=") (part s start end) 0 ≡ At i → start + i + 1 ≤ end
+    equals-inside i e = omega (arith, in-text (ascii "=") (part s start end) 0 i e, part-length s start end h k)
 
     let-stands : AllInside start end (letAt s start end) × (texts s (letAt s start end) ≡ letOf (part s start end))
     let-stands =
-        by-found (firstAt (0x3D ∷ []) (part s start end) 0)
+        by-found (firstAt (ascii "=") (part s start end) 0)
         (λ i e.
         let b = equals-inside i e in
         let n = trimmed-is s start (start + i) (omega arith) (omega arith) ∙ ap trimmed (sym (part-before s start end h k i (omega arith))) in
@@ -94,30 +95,30 @@ module _ (s : List ℕ) where
     pub word-inside : (w : List ℕ) → prefixOf w (part s start end) ≡ true → start + length w ≤ end
     word-inside w e = omega (arith, fits w (part s start end) e, part-length s start end h k)
 
-    pub at-let : prefixOf letWord (part s start end) ≡ true → trimmedAt s start end ≡ letAt s (start + 4) end
+    pub at-let : prefixOf (ascii "let ") (part s start end) ≡ true → trimmedAt s start end ≡ letAt s (start + 4) end
     at-let e = rw e
 
-    module _ (e : prefixOf letWord (part s start end) ≡ false) where
-      pub at-return : prefixOf returnWord (part s start end) ≡ true → trimmedAt s start end ≡ Return (trimmedIn s (start + 7) end)
+    module _ (e : prefixOf (ascii "let ") (part s start end) ≡ false) where
+      pub at-return : prefixOf (ascii "return ") (part s start end) ≡ true → trimmedAt s start end ≡ Return (trimmedIn s (start + 7) end)
       at-return f = rw (e, f)
 
-      pub at-neither : prefixOf returnWord (part s start end) ≡ false → trimmedAt s start end ≡ Skipped
+      pub at-neither : prefixOf (ascii "return ") (part s start end) ≡ false → trimmedAt s start end ≡ Skipped
       at-neither f = rw (e, f)
 
     trimmed-stands : Stands s start end (part s start end) (trimmedAt s start end)
     trimmed-stands =
-        by-bool (prefixOf letWord (part s start end))
+        by-bool (prefixOf (ascii "let ") (part s start end))
         (λ e.
-        let b = word-inside letWord e in
+        let b = word-inside (ascii "let ") e in
         let f = let-stands (start + 4) end b k in
         let g : part s (start + 4) end ≡ drop 4 (part s start end) = sym (part-from s start end h k 4 (omega arith)) in
         record {
           inside = rw e (all-inside-more (letAt s (start + 4) end) (omega arith) (omega arith) (f .0));
           says = rw e (f .1 ∙ ap letOf g);
         })
-        (λ e. by-bool (prefixOf returnWord (part s start end))
+        (λ e. by-bool (prefixOf (ascii "return ") (part s start end))
         (λ f.
-        let b = word-inside returnWord f in
+        let b = word-inside (ascii "return ") f in
         record {
           inside = rw (e, f) (inside-more (omega arith) (omega arith) (trimmed-inside s (start + 7) end b k));
           says = rw (e, f) (ap returns (trimmed-is s (start + 7) end b k ∙ ap trimmed (sym (part-from s start end h k 7 (omega arith)))));
@@ -149,4 +150,4 @@ module _ (s : List ℕ) where
     short-skipped g =
         let l = trimmedIn s start end in
         let i = trimmed-inside s start end h k in
-        at-neither (l .start) (l .end) (i .ordered) (omega arith) (no-word letWord g) (no-word returnWord (omega arith))
+        at-neither (l .start) (l .end) (i .ordered) (omega arith) (no-word (ascii "let ") g) (no-word (ascii "return ") (omega arith))

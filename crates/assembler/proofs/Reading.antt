@@ -19,7 +19,8 @@ use Rattle.assembler.specs.declared.refusal.Refusal.the-variants.{NoEqua
 use Rattle.assembler.specs.declared.state.State.{State}
 use Rattle.assembler.specs.declared.statement.Statement.the-variants as Stmt
 use Rattle.assembler.specs.Part.{part}
-use Rattle.assembler.specs.Body.{lineRead, linesRead}
+use Rattle.assembler.specs.State.{each}
+use Rattle.assembler.specs.Body.{lineRead}
 use Rattle.assembler.specs.Places.{statementAt}
 use Rattle.assembler.specs.Stored.{refusedAs, returning, Placed, Small, Bound}
 use Rattle.assembler.specs.Held.{Good, Follows, ChecksAll, Within, isRefused}
@@ -49,7 +50,7 @@ module _ {s : List ℕ} {start end : ℕ} (w : Within s start end) {first : Stat
   LineMakes r = Follows (take at s) a (λ st. lineRead line st (part s at (l .end))) (take (l .end) s) r
 
   abbrev AllMake : State → Type 0
-  AllMake r = Follows (take start s) first (λ st. linesRead st (lines (part s start end))) (take end s) r
+  AllMake r = Follows (take start s) first (λ st. each lineRead 1 st (lines (part s start end))) (take end s) r
 
   next : {r : State} → LineMakes r → r .status ≡ a .status → Lines s start end first (l .next) (line + 1) r
   next f b = turn-next w t item f b

@@ -8,13 +8,14 @@ use native.Mathlib.Omega.{arith}
 use borrow.Author.Tests.{ne-eqb}
 use lib.ListN.{length, getD, take}
 use lib.Seq.{length-take-le}
+use Rattle.numbered.specs.Outcome.{is}
 use Rattle.byte.proofs.Tests.{by-eqb}
 use Rattle.source.specs.declared.parameters.Span.{Span}
 use Rattle.expression.specs.declared.Bindings.{Bindings}
 use Rattle.expression.specs.declared.Values.{Values}
 use Rattle.expression.specs.declared.figures.Read.{Read}
 use Rattle.expression.specs.Tree.{Tree, num}
-use Rattle.expression.specs.Parse.{Env, tree, meaning}
+use Rattle.expression.specs.Parse.{Env, meaning}
 use Rattle.expression.specs.Table.{tagOf}
 use Rattle.expression.specs.Source.{Sources, sources, nameOf, expressionOf, envOf, treeOf, Stands, AllStand}
 use Rattle.assembler.specs.declared.state.State.{State}
@@ -126,7 +127,7 @@ pub record Gives (s : List ℕ) (env : Env) (expr : Span) (n : ℕ) (t : Tree) :
   pub ordered : expr .start ≤ expr .end
   pub inside : expr .end ≤ length s
   pub number : expr .end ≡ expr .start → t ≡ num n
-  pub means : expr .start < expr .end → meaning env (part s (expr .start) (expr .end)) ≡ tree t
+  pub means : expr .start < expr .end → meaning env (part s (expr .start) (expr .end)) ≡ is t
 
 abbrev envIn : List ℕ → State → Env
 envIn s a = envOf s (srcs a) (a .table .count)
@@ -158,7 +159,7 @@ module _ (s : List ℕ) {a r : State} {name expr : Span} {v : Read} {w : List �
   last-more x o q = last-same s s (a .table) (r .table) (a .values) (r .values) same-more (omega (arith, m .table .count)) (λ i e p h. refl) (omega arith) x o q
 
   module _ {t : Tree} (g : Gives s (envIn s a) expr (numberIn (v .value)) t) where
-    new-means : expr .start < expr .end → meaning (envOf s (srcs r) (a .table .count)) (expressionOf s (srcs r) (a .table .count)) ≡ tree t
+    new-means : expr .start < expr .end → meaning (envOf s (srcs r) (a .table .count)) (expressionOf s (srcs r) (a .table .count)) ≡ is t
     new-means l = rw (m .table .expr-start .here, m .table .expr-len .here, env-before) (g .means l)
 
     new-tree : treeOf s (srcs r) (a .table .count) ≡ t
@@ -184,7 +185,7 @@ module _ (s : List ℕ) {a r : State} {name expr : Span} {v : Read} {w : List �
         name = omega (arith, m .table .name-start .here, m .table .name-len .here);
         tag = rw (m .table .name-start .here, m .table .name-len .here) (m .values .tag .here ∙ ap tagOf e);
         inside = omega (arith, m .table .expr-start .here, m .table .expr-len .here, g .ordered, g .inside);
-        means = λ p. new-means (omega (arith, m .table .expr-len .here)) ∙ ap tree (sym new-tree);
+        means = λ p. new-means (omega (arith, m .table .expr-len .here)) ∙ ap is (sym new-tree);
       }
 
       pub stand-more : AllStand s (srcs a) (a .table .count) → AllStand s (srcs r) (r .table .count)

@@ -5,9 +5,11 @@ use mathlib.Core.List.{List, [], _∷_}
 use mathlib.Core.Bool.{Bool, true, false, cond}
 use mathlib.Core.Option.{Option, some, none}
 use native.Mathlib.Omega.{arith}
+use Rattle.numbered.specs.Outcome.{is}
+use Rattle.byte.specs.Equal.{equal}
 use Rattle.number.proofs.Decimal.{length-word}
 use Rattle.expression.specs.Tree.{Tree, num, bin, kOf, lenOf}
-use Rattle.expression.specs.Parse.{Env, sameText, lookup, meaning, tree}
+use Rattle.expression.specs.Parse.{Env, lookup, meaning}
 use Rattle.expression.specs.Grammar.{Derives, number, name, parentheses, alone, join}
 use Rattle.expression.proofs.Grammar.{grammar}
 use Rattle.expression.proofs.Reading.{line-most}
@@ -26,7 +28,7 @@ WordsOf (some t) = Words t
 
 lookup-words : (w : List ℕ) (env : Env) → WordsIn env → WordsOf (lookup w env)
 lookup-words w [] h = tt
-lookup-words w (b ∷ env) h = go (sameText w (b .name)) (lookup-words w env (h .1))
+lookup-words w (b ∷ env) h = go (equal w (b .name)) (lookup-words w env (h .1))
   where
     go : (q : Bool) → WordsOf (lookup w env) → WordsOf (cond q (some (b .tree)) (lookup w env))
     go true x = h .0
@@ -39,7 +41,7 @@ derives-words h (parentheses p) = derives-words h p
 derives-words h (alone p) = derives-words h p
 derives-words h (join p o q) = (derives-words h p, derives-words h q)
 
-pub meaning-words : (env : Env) (s : List ℕ) (t : Tree) → WordsIn env → meaning env s ≡ tree t → Words t
+pub meaning-words : (env : Env) (s : List ℕ) (t : Tree) → WordsIn env → meaning env s ≡ is t → Words t
 meaning-words env s t h e = derives-words h (grammar env s t .0 e .1 .1)
 
 -- the text of a tree is bounded by its k

@@ -1,17 +1,19 @@
 -- The refusals of an expression have the numbers 13 to 19.
 use Prim.Native.Nat.{ℕ, zero, suc, _^_, _≤_}
-use mathlib.Core.Path.{_≡_, sym, subst}
+use mathlib.Core.Path.{sym, subst}
 use mathlib.Core.List.{List, [], _∷_}
 use mathlib.Core.Option.{Option, some, none}
 use native.Mathlib.Omega.{arith}
 use borrow.Author.Tests.{eqb-true, eqb-false}
 use lib.Dec.{eqb, ltb}
+use Rattle.numbered.specs.Outcome as Outcome
+use Rattle.numbered.specs.Outcome.{Outcome, is}
 use Rattle.byte.proofs.Tests.{by-bool}
 use Rattle.word.specs.Apply.{Binary}
 use Rattle.number.specs.Decimal.{allDigits, value}
 use Rattle.token.specs.Token.{allowed, tokens}
 use Rattle.expression.specs.Tree.{Tree}
-use Rattle.expression.specs.Parse.{Env, lookup, Parse, done, refused, lone, expression, joins, operator, joined, closed, nested, named, literal, atom, parseF, moreF, enough, parsed, Meaning, tree, wrong, whole, meaning}
+use Rattle.expression.specs.Parse.{Env, lookup, Parse, done, refused, lone, expression, joins, operator, joined, closed, nested, named, literal, atom, parseF, moreF, enough, parsed, whole, meaning}
 use Rattle.expression.proofs.Steps.{more-refused, more-ends, more-joins, level-up, factor-opens, factor-atom}
 
 abbrev pub OfExpression : ℕ → Type 0
@@ -44,9 +46,9 @@ literal-ranged w ts = by-bool (ltb (value w) (2 ^ 64)) (λ e. rw e tt) (λ e. rw
 atom-ranged : (env : Env) (w : List ℕ) (ts : List (List ℕ)) → Ranged (atom env w ts)
 atom-ranged env w ts = by-bool (allDigits w) (λ e. rw e (literal-ranged w ts)) (λ e. rw e (named-ranged (lookup w env) ts))
 
-abbrev pub WrongIn : Meaning → Type 0
-WrongIn (tree t) = Unit {0}
-WrongIn (wrong n) = OfExpression n
+abbrev pub WrongIn : Outcome Tree → Type 0
+WrongIn (is t) = Unit {0}
+WrongIn (Outcome.refused r) = OfExpression (r .number)
 
 whole-ranged : (r : Parse) → Ranged r → WrongIn (whole r)
 whole-ranged (done t []) h = tt

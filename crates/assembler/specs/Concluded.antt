@@ -8,50 +8,55 @@ use Rattle.source.specs.declared.function.Places.{Places}
 use Rattle.source.specs.declared.function.Function.the-variants.{Found}
 use Rattle.source.specs.Function.{functionOf}
 use Rattle.expression.specs.Tree.{Tree}
+use Rattle.numbered.specs.Outcome.{Outcome, is, refused, andThen}
 use Rattle.assembler.specs.declared.assembly.Assembly.{Assembly}
 use Rattle.assembler.specs.declared.refusal.Refusal.{Refusal}
 use Rattle.assembler.specs.declared.state.Status.{Status}
 use Rattle.assembler.specs.declared.state.Status.the-variants.{Going, Refused}
 use Rattle.assembler.specs.declared.state.State as Code
-use Rattle.assembler.specs.State.{State, goes}
+use Rattle.assembler.specs.State.{State}
 use Rattle.assembler.specs.Numbers.{refusalNumbered}
 use Rattle.assembler.specs.Stored.{refusedAs, nothingYet}
 use Rattle.assembler.specs.LastReturn.{lastReturn, placeOf, Standing}
 use Rattle.assembler.specs.Held.{LastIs, Represents, Leads}
-use Rattle.assembler.specs.Assembled.{Assembled, accepted, rejected, bodyRead, concluded}
+use Rattle.assembler.specs.Assembled.{bodyRead, returned}
 
 -- the contract's body was read, and a is what it has come to
 pub record Reached (s vector : List ℕ) (a : Code.State) : Type 0 where
   pub places : Places
   pub found : functionOf s ≡ Found places
   pub st : State
-  pub read : bodyRead s vector places ≡ goes st
+  pub read : bodyRead s vector places ≡ is st
   pub represents : Represents s a st
   pub place : placeOf (a .last) ≡ lastReturn s places
 
 -- the state's last return means the tree t, which is accepted
-pub record Accepts (s vector : List ℕ) (o : Assembled) (r : Assembly) : Type 0 where
+pub record Accepts (s vector : List ℕ) (o : Outcome (ℕ × Tree)) (r : Assembly) : Type 0 where
   pub reached : Reached s vector (r .state)
   pub t : Tree
   pub last : reached .st .last ≡ some t
   pub returned : LastIs s (r .state .table) (r .state .values) (r .state .last) (some t)
-  pub accepts : o ≡ accepted (r .expected) t
+  pub accepts : o ≡ is (r .expected, t)
 
 -- an assembly that is refused
 abbrev pub rejectedFor : Refusal → Assembly
 rejectedFor why = record { state = refusedAs nothingYet why; expected = 0 }
 
-abbrev pub ConcludesBy : Status → List ℕ → List ℕ → Assembled → Assembly → Type 0
+abbrev pub ConcludesBy : Status → List ℕ → List ℕ → Outcome (ℕ × Tree) → Assembly → Type 0
 ConcludesBy Going s vector o r = Accepts s vector o r
-ConcludesBy (Refused why) s vector o r = (o ≡ rejected (refusalNumbered why)) × (r ≡ rejectedFor why)
+ConcludesBy (Refused why) s vector o r = (o ≡ refused (refusalNumbered why)) × (r ≡ rejectedFor why)
 
 -- the answer r says o of the contract s and its vector: its state holds the tree that is accepted, or the refusal
-pub record Concludes (s vector : List ℕ) (o : Assembled) (r : Assembly) : Type 0 where
+pub record Concludes (s vector : List ℕ) (o : Outcome (ℕ × Tree)) (r : Assembly) : Type 0 where
   pub by : ConcludesBy (r .state .status) s vector o r
+
+-- what the body's last return makes of it
+abbrev pub concluded : ℕ → Outcome State → Outcome (ℕ × Tree)
+concluded expected o = andThen o (λ st. returned expected (st .last))
 
 -- what is made of a state and the expected value, wherever the state was read
 pub record ConcludesAll (a : Code.State) (expected : ℕ) (r : Assembly) : Type 0 where
-  pub is : (s vector : List ℕ) (p : Places) → functionOf s ≡ Found p → Leads s a (bodyRead s vector p) goes → Standing s p a → Concludes s vector (concluded expected (bodyRead s vector p)) r
+  pub is : (s vector : List ℕ) (p : Places) → functionOf s ≡ Found p → Leads s a (bodyRead s vector p) is → Standing s p a → Concludes s vector (concluded expected (bodyRead s vector p)) r
 
 -- where the contract's function stands
 pub record Located (s : List ℕ) (p : Places) : Type 0 where

@@ -5,9 +5,10 @@ use mathlib.Core.List.{List}
 use mathlib.Core.Bool.{Bool, true, false}
 use mathlib.Core.Option.{Option, some, none}
 use lib.ListN.{length}
+use Rattle.numbered.specs.Outcome.{Outcome, is, refused}
 use Rattle.source.specs.declared.parameters.Span.{Span}
 use Rattle.expression.specs.Tree.{Tree, kOf}
-use Rattle.expression.specs.Parse.{Env, Meaning, tree, meaning}
+use Rattle.expression.specs.Parse.{Env, meaning}
 use Rattle.expression.specs.Figures.{Figures}
 use Rattle.expression.specs.declared.Bindings.{Bindings}
 use Rattle.expression.specs.declared.Values.{Values}
@@ -24,8 +25,7 @@ use Rattle.assembler.specs.declared.state.State as Code
 use Rattle.assembler.specs.declared.parameters.Number.{Number}
 use Rattle.assembler.specs.declared.parameters.Number.the-variants as Number
 use Rattle.assembler.specs.Part.{part}
-use Rattle.assembler.specs.Parameters.{Keyed, is, lacks}
-use Rattle.assembler.specs.State.{State, Outcome, goes, refused}
+use Rattle.assembler.specs.State.{State}
 use Rattle.assembler.specs.Body.{treeOr}
 use Rattle.assembler.specs.Numbers.{refusalNumbered}
 
@@ -35,7 +35,7 @@ pub record ReturnIs (s : List ℕ) (table : Bindings) (values : Values) (l : Ret
   pub few : l .count ≤ table .count
   pub ordered : l .start ≤ l .end
   pub inside : l .end ≤ length s
-  pub means : meaning (envOf s (sources table values) (l .count)) (part s (l .start) (l .end)) ≡ tree t
+  pub means : meaning (envOf s (sources table values) (l .count)) (part s (l .start) (l .end)) ≡ is t
 
 abbrev pub LastIs : List ℕ → Bindings → Values → Last → Option Tree → Type 0
 LastIs s table values Last.Nothing none = Unit {0}
@@ -59,22 +59,22 @@ pub record Good (s : List ℕ) (a : Code.State) : Type 0 where
   pub st : State
   pub represents : Represents s a st
 
-abbrev pub LeadsBy : Status → List ℕ → Code.State → Outcome → (State → Outcome) → Type 0
+abbrev pub LeadsBy : Status → List ℕ → Code.State → Outcome State → (State → Outcome State) → Type 0
 LeadsBy Going s a whole rest = (st : State) × (Represents s a st × (whole ≡ rest st))
 LeadsBy (Refused why) s a whole rest = whole ≡ refused (refusalNumbered why)
 
 -- the whole has come to a, and what is left to do of it is the rest; or a is its refusal
-pub record Leads (s : List ℕ) (a : Code.State) (whole : Outcome) (rest : State → Outcome) : Type 0 where
+pub record Leads (s : List ℕ) (a : Code.State) (whole : Outcome State) (rest : State → Outcome State) : Type 0 where
   pub by : LeadsBy (a .status) s a whole rest
 
 -- r is what f makes of a
-pub record Follows (s : List ℕ) (a : Code.State) (f : State → Outcome) (t : List ℕ) (r : Code.State) : Type 0 where
-  pub leads : (st : State) → Represents s a st → Leads t r (f st) goes
+pub record Follows (s : List ℕ) (a : Code.State) (f : State → Outcome State) (t : List ℕ) (r : Code.State) : Type 0 where
+  pub leads : (st : State) → Represents s a st → Leads t r (f st) is
 
 -- the figures of an expression on a line, whose k is 32,768 at most; or its refusal
-abbrev pub Checks : Meaning → ℕ → Checked → Type 0
-Checks m line (Checked.Is v) = (t : Tree) × ((m ≡ tree t) × ((kOf t ≤ 32768) × Figures t v))
-Checks m line (Checked.Refused why) = (follows : Tree → Outcome) → treeOr m line follows ≡ refused (refusalNumbered why)
+abbrev pub Checks : Outcome Tree → ℕ → Checked → Type 0
+Checks m line (Checked.Is v) = (t : Tree) × ((m ≡ is t) × ((kOf t ≤ 32768) × Figures t v))
+Checks m line (Checked.Refused why) = (follows : Tree → Outcome State) → treeOr m line follows ≡ refused (refusalNumbered why)
 
 -- in every environment that the table holds
 pub record ChecksAll (s : List ℕ) (c : Columns) (line : ℕ) (t : List ℕ) (r : Checked) : Type 0 where
@@ -93,6 +93,6 @@ pub record LetWithin (s : List ℕ) (name expr : Span) : Type 0 where
   pub between : name .end ≤ expr .start
   pub within : Within s (expr .start) (expr .end)
 
-abbrev pub keyedAs : Number → Keyed
+abbrev pub keyedAs : Number → Outcome ℕ
 keyedAs (Number.Is n) = is n
-keyedAs (Number.Refused why) = lacks (refusalNumbered why)
+keyedAs (Number.Refused why) = refused (refusalNumbered why)

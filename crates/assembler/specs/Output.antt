@@ -1,9 +1,10 @@
 -- What assembly answers and writes, for a contract, its vector, a stem and the room of the lent buffer.
 use Prim.Native.Nat.{ℕ}
 use mathlib.Core.List.{List, [], _∷_, _++_}
-use mathlib.Core.Bool.{Bool, cond, _&&_}
+use mathlib.Core.Bool.{Bool, _&&_}
 use lib.Dec.{leb, ltb}
 use lib.ListN.{length}
+use Rattle.byte.specs.Need.{need}
 use Rattle.utf8.specs.Utf8.{utf8}
 use Rattle.lines.specs.Lines.{feedFree}
 use Rattle.number.specs.Decimal.{decimal}
@@ -14,7 +15,8 @@ use Rattle.expression.specs.Tree.{Tree, kOf, pOf}
 use Rattle.expression.specs.Written.{opsOf}
 use Rattle.numbered.specs.declared.Numbered.{Numbered}
 use Rattle.numbered.specs.Numbered.{plain, carrying}
-use Rattle.assembler.specs.Assembled.{Assembled, accepted, rejected, assembledTree}
+use Rattle.numbered.specs.Outcome.{Outcome, is, refused}
+use Rattle.assembler.specs.Assembled.{assembledTree}
 
 -- not empty, at most 255 bytes, UTF-8, without a line feed
 abbrev pub stemFits : List ℕ → Bool
@@ -49,11 +51,11 @@ nothing r = record { answer = refusal r; text = [] }
 
 abbrev pub written : List ℕ → ℕ → Tree → ℕ → Assembly
 written text expected t room =
-    cond (leb (length text) room) (record { answer = success (length text) (kOf t) (pOf t) expected; text = text }) (nothing (plain 26))
+    need (leb (length text) room) (nothing (plain 26)) (record { answer = success (length text) (kOf t) (pOf t) expected; text = text })
 
-abbrev pub named : Assembled → List ℕ → ℕ → Assembly
-named (rejected r) stem room = nothing r
-named (accepted expected t) stem room = cond (stemFits stem) (written (output stem expected t) expected t room) (nothing (plain 25))
+abbrev pub named : Outcome (ℕ × Tree) → List ℕ → ℕ → Assembly
+named (refused r) stem room = nothing r
+named (is (expected, t)) stem room = need (stemFits stem) (nothing (plain 25)) (written (output stem expected t) expected t room)
 
 unfoldable pub assembled : List ℕ → List ℕ → List ℕ → ℕ → Assembly
 assembled contract vector stem room = named (assembledTree contract vector) stem room

@@ -1,8 +1,9 @@
 -- Where the parts of a statement stand in the contract.
 use Prim.Native.Nat.{ℕ, _+_, _≤_}
 use mathlib.Core.Path.{_≡_}
-use mathlib.Core.List.{List, [], _∷_}
+use mathlib.Core.List.{List}
 use mathlib.Core.Bool.{cond}
+use Rattle.byte.specs.Ascii.{ascii}
 use Rattle.search.specs.First.{prefixOf, firstAt}
 use Rattle.source.specs.Found.{foundOr}
 use Rattle.source.specs.Cursor.{trimmedSpan}
@@ -11,7 +12,6 @@ use Rattle.assembler.specs.declared.statement.Statement.{Statement}
 use Rattle.assembler.specs.declared.statement.Statement.the-variants.{Skipped, NoEquals, Let, Return}
 use Rattle.assembler.specs.Part.{part}
 use Rattle.assembler.specs.Statement as Said
-use Rattle.assembler.specs.Statement.{letWord, returnWord}
 
 -- the trimmed text of the part of s from one place to another
 abbrev pub trimmedIn : List ℕ → ℕ → ℕ → Span
@@ -19,11 +19,11 @@ trimmedIn s start end = let span = trimmedSpan (part s start end) in record { st
 
 -- what follows `let `
 abbrev pub letAt : List ℕ → ℕ → ℕ → Statement
-letAt s start end = foundOr (firstAt (0x3D ∷ []) (part s start end) 0) NoEquals (λ i. Let (trimmedIn s start (start + i)) (trimmedIn s (start + i + 1) end))
+letAt s start end = foundOr (firstAt (ascii "=") (part s start end) 0) NoEquals (λ i. Let (trimmedIn s start (start + i)) (trimmedIn s (start + i + 1) end))
 
 -- a line that is trimmed
 abbrev pub trimmedAt : List ℕ → ℕ → ℕ → Statement
-trimmedAt s start end = cond (prefixOf letWord (part s start end)) (letAt s (start + 4) end) (cond (prefixOf returnWord (part s start end)) (Return (trimmedIn s (start + 7) end)) Skipped)
+trimmedAt s start end = cond (prefixOf (ascii "let ") (part s start end)) (letAt s (start + 4) end) (cond (prefixOf (ascii "return ") (part s start end)) (Return (trimmedIn s (start + 7) end)) Skipped)
 
 abbrev pub statementAt : List ℕ → ℕ → ℕ → Statement
 statementAt s start end = let line = trimmedIn s start end in trimmedAt s (line .start) (line .end)

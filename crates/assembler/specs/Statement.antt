@@ -1,8 +1,9 @@
 -- What a trimmed line of the body says.
 use Prim.Native.Nat.{ℕ, _+_}
-use mathlib.Core.List.{List, [], _∷_}
+use mathlib.Core.List.{List}
 use mathlib.Core.Bool.{cond}
 use lib.ListN.{take, drop}
+use Rattle.byte.specs.Ascii.{ascii}
 use Rattle.search.specs.First.{prefixOf, firstAt}
 use Rattle.trim.specs.Trim.{trimmed}
 use Rattle.source.specs.Found.{foundOr}
@@ -14,18 +15,10 @@ pub data Statement : Type 0 where
   binds : List ℕ → List ℕ → Statement
   returns : List ℕ → Statement
 
--- `let `
-abbrev pub letWord : List ℕ
-letWord = 0x6C ∷ 0x65 ∷ 0x74 ∷ 0x20 ∷ []
-
--- `return `
-abbrev pub returnWord : List ℕ
-returnWord = 0x72 ∷ 0x65 ∷ 0x74 ∷ 0x75 ∷ 0x72 ∷ 0x6E ∷ 0x20 ∷ []
-
 -- what follows `let `, cut at its first `=`
 abbrev pub letOf : List ℕ → Statement
-letOf s = foundOr (firstAt (0x3D ∷ []) s 0) noEquals (λ i. binds (trimmed (take i s)) (trimmed (drop (i + 1) s)))
+letOf s = foundOr (firstAt (ascii "=") s 0) noEquals (λ i. binds (trimmed (take i s)) (trimmed (drop (i + 1) s)))
 
 -- empty lines, `//` lines and any that start with neither word are skipped
 abbrev pub statement : List ℕ → Statement
-statement s = cond (prefixOf letWord s) (letOf (drop 4 s)) (cond (prefixOf returnWord s) (returns (trimmed (drop 7 s))) skipped)
+statement s = cond (prefixOf (ascii "let ") s) (letOf (drop 4 s)) (cond (prefixOf (ascii "return ") s) (returns (trimmed (drop 7 s))) skipped)

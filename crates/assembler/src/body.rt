@@ -3,7 +3,8 @@ ghost use lib.ListN.{take};
 ghost use Rattle.lines.specs.Lines.{lines};
 ghost use Rattle.expression.specs.Table.{columns};
 ghost use Rattle.assembler.specs.Part.{part};
-ghost use Rattle.assembler.specs.Body.{linesRead};
+ghost use Rattle.assembler.specs.Body.{lineRead};
+ghost use Rattle.assembler.specs.State.{each};
 ghost use Rattle.assembler.specs.LastReturn.{ReadToLast, Meets};
 ghost use Rattle.assembler.specs.Held.{Good, Follows, ChecksAll, Within};
 use crate::refusal::Refusal;
@@ -34,7 +35,9 @@ pub enum Checked {
 // 65,536 bytes, and with a state that is not refused.
 pub fn read_body(contract: &[u8], start: usize, end: usize, a: State) -> State
     requires { ⌜ Within (now contract) start end × Good (take start (now contract)) a ⌝ }
-    ensures { λ r. ⌜ Follows (take start (now (contract .entry))) a (λ st. linesRead st (lines (part (now (contract .entry)) start end))) (take end (now (contract .entry))) r × Meets (now (contract .entry)) start end a r ⌝ }
+    ensures { λ r. ⌜ Follows (take start (now (contract .entry))) a
+        (λ st. each lineRead 1 st (lines (part (now (contract .entry)) start end))) (take end (now (contract .entry))) r
+        × Meets (now (contract .entry)) start end a r ⌝ }
 {
     let mut table = a.table;
     let mut values = a.values;

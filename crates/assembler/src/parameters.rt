@@ -6,7 +6,8 @@ ghost use Rattle.source.specs.Parameters.{parameters};
 ghost use Rattle.expression.specs.Tree.{num};
 ghost use Rattle.expression.specs.Figures.{Figures};
 ghost use Rattle.assembler.specs.Part.{part};
-ghost use Rattle.assembler.specs.Parameters.{keyed, parametersBound};
+ghost use Rattle.assembler.specs.Parameters.{keyed, parameterBound};
+ghost use Rattle.assembler.specs.State.{each};
 ghost use Rattle.assembler.specs.Stored.{Small};
 ghost use Rattle.assembler.specs.Held.{Follows, Within, keyedAs};
 use crate::refusal::Refusal;
@@ -33,7 +34,9 @@ pub enum Number {
 // most 65,536 bytes.
 pub fn bind_parameters(contract: &[u8], vector: &[u8], start: usize, end: usize, a: State) -> State
     requires { ⌜ Within (now contract) start end ⌝ }
-    ensures { λ r. ⌜ Follows (take start (now (contract .entry))) a (λ st. parametersBound (now (vector .entry)) st (parameters (part (now (contract .entry)) start end))) (take end (now (contract .entry))) r ⌝ }
+    ensures { λ r. ⌜ Follows (take start (now (contract .entry))) a
+        (λ st. each (parameterBound (now (vector .entry))) 1 st (parameters (part (now (contract .entry)) start end)))
+        (take end (now (contract .entry))) r ⌝ }
 {
     let mut table = a.table;
     let mut values = a.values;

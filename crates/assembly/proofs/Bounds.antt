@@ -10,7 +10,8 @@ use lib.ListN.{length}
 use Rattle.byte.proofs.Tests.{by-bool}
 use Rattle.number.proofs.Decimal.{length-word}
 use Rattle.expression.specs.Tree.{Tree}
-use Rattle.assembler.specs.Assembled.{Assembled, accepted, rejected, assembledTree}
+use Rattle.assembler.specs.Assembled.{assembledTree}
+use Rattle.numbered.specs.Outcome.{Outcome, is, refused}
 use Rattle.assembler.specs.Output.{Answer, success, refusal, stemFits, output, named, assembled}
 use Rattle.assembler.proofs.Words.{words-short}
 use Rattle.assembler.proofs.Accepted.{accepted-is, rejected-is, expected-word}
@@ -23,15 +24,15 @@ Refuses most (success written k p value) = Unit {0}
 Refuses most (refusal r) = (1 ≤ r .number) × (r .number ≤ most)
 
 module _ (contract vector stem : List ℕ) where
-  pub output-short : (v : ℕ) (t : Tree) → assembledTree contract vector ≡ accepted v t → stemFits stem ≡ true → length (output stem v t) ≤ 983440
+  pub output-short : (v : ℕ) (t : Tree) → assembledTree contract vector ≡ is (v, t) → stemFits stem ≡ true → length (output stem v t) ≤ 983440
   output-short v t e f =
       let a = accepted-is vector v t contract e in
       omega (arith, output-length stem v t, header-length stem v, words-short t (a .fits .0), a .fits .1, length-word v (expected-word a), stem-short stem f)
 
   module _ (room : ℕ) where
-    named-refuses : (x : Assembled) → assembledTree contract vector ≡ x → Refuses 26 (named x stem room .answer)
-    named-refuses (rejected r) e = let h = rejected-is vector r contract e in (h .0, omega (arith, h .1))
-    named-refuses (accepted v t) e =
+    named-refuses : (x : Outcome (ℕ × Tree)) → assembledTree contract vector ≡ x → Refuses 26 (named x stem room .answer)
+    named-refuses (refused r) e = let h = rejected-is vector r contract e in (h .0, omega (arith, h .1))
+    named-refuses (is (v, t)) e =
         by-bool (stemFits stem)
         (λ f. by-bool (leb (length (output stem v t)) room) (λ b. simp (f, b) tt) (λ b. simp (f, b) (omega arith, omega arith)))
         (λ f. simp f (omega arith, omega arith))
@@ -40,9 +41,9 @@ module _ (contract vector stem : List ℕ) where
     unfolding assembled
     refuses = named-refuses (assembledTree contract vector) refl
 
-    roomy-refuses : 983440 ≤ room → (x : Assembled) → assembledTree contract vector ≡ x → Refuses 25 (named x stem room .answer)
-    roomy-refuses h (rejected r) e = let g = rejected-is vector r contract e in (g .0, omega (arith, g .1))
-    roomy-refuses h (accepted v t) e =
+    roomy-refuses : 983440 ≤ room → (x : Outcome (ℕ × Tree)) → assembledTree contract vector ≡ x → Refuses 25 (named x stem room .answer)
+    roomy-refuses h (refused r) e = let g = rejected-is vector r contract e in (g .0, omega (arith, g .1))
+    roomy-refuses h (is (v, t)) e =
         by-bool (stemFits stem)
         (λ f. let b = le-leb (length (output stem v t)) room (omega (arith, output-short v t e f)) in simp (f, b) tt)
         (λ f. simp f (omega arith, omega arith))

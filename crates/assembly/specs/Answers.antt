@@ -7,7 +7,8 @@ use lib.ListN.{length}
 use Rattle.ops.specs.Ops.{onto}
 use Rattle.assembler.specs.declared.assembly.Assembly as Code
 use Rattle.assembler.specs.Numbers.{refusalNumbered}
-use Rattle.assembler.specs.Assembled.{Assembled}
+use Rattle.numbered.specs.Outcome.{Outcome}
+use Rattle.expression.specs.Tree.{Tree}
 use Rattle.assembler.specs.Concluded.{Accepts}
 use Rattle.assembler.specs.Output as Output
 use Rattle.assembler.specs.Output.{success, refusal, assemblyNumbered, stemFits, named}
@@ -29,9 +30,9 @@ pub record Assembles (a : Output.Assembly) (out after : List ℕ) (r : Answer) :
 pub record Ready (s stem : List ℕ) (a : Code.Assembly) : Type 0 where
   pub short : length stem ≤ 255
   pub vector : List ℕ
-  pub o : Assembled
+  pub o : Outcome (ℕ × Tree)
   pub accepts : Accepts s vector o a
 
 -- what is accepted is written where the stem fits
 pub record Writes (s stem : List ℕ) (a : Code.Assembly) (out after : List ℕ) (r : Answer) : Type 0 where
-  pub is : (vector : List ℕ) (o : Assembled) → Accepts s vector o a → stemFits stem ≡ true → Assembles (named o stem (length out)) out after r
+  pub is : (vector : List ℕ) (o : Outcome (ℕ × Tree)) → Accepts s vector o a → stemFits stem ≡ true → Assembles (named o stem (length out)) out after r

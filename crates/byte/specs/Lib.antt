@@ -3,3 +3,4 @@ pub mod Equal
 pub mod Need
 pub mod Range
 pub mod Part
+pub mod Texts

@@ -8,7 +8,8 @@ use lib.ListN.{length, getD, drop}
 use borrow.Author.Tests.{eq-eqb, eqb-true, not-true, not-false}
 use Rattle.byte.proofs.Tests.{never, and-left, and-right}
 use Rattle.byte.proofs.Parts.{next}
-use Rattle.context.specs.Gate.{equal, isHexDigit, allHexDigits}
+use Rattle.byte.specs.Equal.{equal}
+use Rattle.context.specs.Gate.{isHexDigit, allHexDigits}
 
 -- lists of different lengths differ
 pub equal-lengths : (s t : List ℕ) → (length s ≡ length t → ⊥) → equal s t ≡ false

@@ -2,39 +2,22 @@
 use Prim.Native.Nat.{ℕ}
 use mathlib.Core.Path.{_≡_}
 use mathlib.Core.List.{List, [], _∷_}
-use mathlib.Core.Bool.{Bool, true, false, _&&_, _||_}
+use mathlib.Core.Bool.{Bool, true, _&&_, _||_}
 use lib.Dec.{eqb}
 use lib.ListN.{length}
 use Rattle.numbered.specs.declared.Numbered.{Numbered}
 use Rattle.numbered.specs.Numbered.{plain}
+use Rattle.byte.specs.Ascii.{ascii}
+use Rattle.byte.specs.Equal.{equal}
+use Rattle.byte.specs.Need.{need}
 use Rattle.byte.specs.Range.{within}
 use Rattle.context.specs.declared.ContextError.{ContextError}
 use Rattle.context.specs.declared.ContextError.the-variants.{InvalidChainId, InvalidNetworkId, InvalidGenesisId, ProtocolMismatch, VmMismatch, GenesisMismatch}
 use Rattle.context.specs.declared.Gate.{Gate}
 use Rattle.context.specs.declared.Gate.the-variants.{Passed, Refused}
 
--- equality of lists as a test
-abbrev pub equal : List ℕ → List ℕ → Bool
-equal [] [] = true
-equal [] (b ∷ t) = false
-equal (a ∷ s) [] = false
-equal (a ∷ s) (b ∷ t) = eqb a b && equal s t
-
--- `atc`, `devnet`, `testnet` and `mainnet` in ASCII
-abbrev pub atc : List ℕ
-atc = 97 ∷ 116 ∷ 99 ∷ []
-
-abbrev pub devnet : List ℕ
-devnet = 100 ∷ 101 ∷ 118 ∷ 110 ∷ 101 ∷ 116 ∷ []
-
-abbrev pub testnet : List ℕ
-testnet = 116 ∷ 101 ∷ 115 ∷ 116 ∷ 110 ∷ 101 ∷ 116 ∷ []
-
-abbrev pub mainnet : List ℕ
-mainnet = 109 ∷ 97 ∷ 105 ∷ 110 ∷ 110 ∷ 101 ∷ 116 ∷ []
-
 abbrev pub isNetwork : List ℕ → Bool
-isNetwork s = (equal s devnet || equal s testnet) || equal s mainnet
+isNetwork s = (equal s (ascii "devnet") || equal s (ascii "testnet")) || equal s (ascii "mainnet")
 
 -- 0 to 9, A to F, a to f
 abbrev pub isHexDigit : ℕ → Bool
@@ -47,19 +30,14 @@ allHexDigits (a ∷ s) = isHexDigit a && allHexDigits s
 abbrev pub isGenesisId : List ℕ → Bool
 isGenesisId s = eqb (length s) 64 && allHexDigits s
 
--- the refusal e unless the test holds
-abbrev pub need : Bool → ContextError → Gate → Gate
-need true e g = g
-need false e g = Refused e
-
 abbrev pub gateOf : (chain network genesis protocol vm computed expectedProtocol expectedVm : List ℕ) → Gate
 gateOf chain network genesis protocol vm computed expectedProtocol expectedVm =
-    need (equal chain atc) InvalidChainId
-    (need (isNetwork network) InvalidNetworkId
-    (need (isGenesisId genesis) InvalidGenesisId
-    (need (equal protocol expectedProtocol) ProtocolMismatch
-    (need (equal vm expectedVm) VmMismatch
-    (need (equal genesis computed) GenesisMismatch
+    need (equal chain (ascii "atc")) (Refused InvalidChainId)
+    (need (isNetwork network) (Refused InvalidNetworkId)
+    (need (isGenesisId genesis) (Refused InvalidGenesisId)
+    (need (equal protocol expectedProtocol) (Refused ProtocolMismatch)
+    (need (equal vm expectedVm) (Refused VmMismatch)
+    (need (equal genesis computed) (Refused GenesisMismatch)
     Passed)))))
 
 -- document 01's number of each case

@@ -3,7 +3,9 @@ ghost use mathlib.Core.Path.{_≡_};
 ghost use mathlib.Core.Bool.{_&&_};
 ghost use Prim.Native.Nat.{_+_, _≤_};
 ghost use lib.ListN.{length, drop};
-ghost use Rattle.context.specs.Gate.{equal, isHexDigit, allHexDigits, isNetwork, isGenesisId, gateOf, contextErrorNumbered, gateNumbered, Gated};
+ghost use Rattle.byte.specs.Equal.{equal};
+ghost use Rattle.context.specs.Gate.{isHexDigit, allHexDigits, isNetwork, isGenesisId};
+ghost use Rattle.context.specs.Gate.{gateOf, contextErrorNumbered, gateNumbered, Gated};
 use numbered::Numbered;
 use numbered::plain;
 
@@ -60,7 +62,10 @@ pub fn execution_gate(
     expected_protocol: &[u8],
     expected_vm: &[u8],
 ) -> Gate
-    ensures { λ r. ⌜ Gated (gateOf (now («chain_id» .entry)) (now («network_id» .entry)) (now («genesis_id» .entry)) (now («protocol_version» .entry)) (now («vm_version» .entry)) (now («computed_genesis_id» .entry)) (now («expected_protocol» .entry)) (now («expected_vm» .entry))) r ⌝ }
+    ensures { λ r. ⌜ Gated (gateOf (now («chain_id» .entry)) (now («network_id» .entry)) (now («genesis_id» .entry))
+        (now («protocol_version» .entry)) (now («vm_version» .entry)) (now («computed_genesis_id» .entry))
+        (now («expected_protocol» .entry)) (now («expected_vm» .entry)))
+        r ⌝ }
 {
     if !same(chain_id, b"atc") {
         return Gate::Refused(ContextError::InvalidChainId);
@@ -103,7 +108,8 @@ fn same(a: &[u8], b: &[u8]) -> bool
 // Whether the n bytes from a place on are the same. No branch: a block compiles to vector code.
 fn agree(a: &[u8], b: &[u8], at: usize, n: usize) -> bool
     requires { ⌜ (at + n ≤ length (now a)) × (at + n ≤ length (now b)) ⌝ }
-    ensures { λ r. ⌜ equal (drop at (now (a .entry))) (drop at (now (b .entry))) ≡ (r && equal (drop (at + n) (now (a .entry))) (drop (at + n) (now (b .entry)))) ⌝ }
+    ensures { λ r. ⌜ equal (drop at (now (a .entry))) (drop at (now (b .entry)))
+        ≡ (r && equal (drop (at + n) (now (a .entry))) (drop (at + n) (now (b .entry)))) ⌝ }
 {
     let mut all = true;
     let mut k: usize = 0;

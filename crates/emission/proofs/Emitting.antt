@@ -7,10 +7,11 @@ use native.Mathlib.Omega.{arith}
 use lib.ListN.{length, getD, take, drop, set, length-append, length-set, drop-of-length-le}
 use lib.Seq.{length-take-le}
 use borrow.Author.Tests.{eq-eqb, ne-eqb}
+use Rattle.numbered.specs.Outcome.{is}
 use Rattle.byte.proofs.Parts.{middle}
 use Rattle.token.specs.Token.{tokens, tokenAt, scan}
 use Rattle.expression.specs.Tree.{num}
-use Rattle.expression.specs.Parse.{tree, meaning}
+use Rattle.expression.specs.Parse.{meaning}
 use Rattle.expression.specs.Source.{Sources, treeIn, expressionOf, envOf, treeOf, AllStand}
 use Rattle.expression.specs.Written.{textOf}
 use Rattle.writer.specs.Pieces.{Put, pushText, operatorsText}
@@ -218,7 +219,7 @@ module _ {s : List ℕ} {c : Sources} {b : ℕ} (few : b < 256) (a : AllStand s 
       few = omega arith;
       stand = λ i l. a i (omega arith);
       inside = omega (arith, stands);
-      is = ap (meaning (envOf s c b)) (sym between) ∙ a b (omega arith) .means h ∙ ap tree same-tree;
+      is = ap (meaning (envOf s c b)) (sym between) ∙ a b (omega arith) .means h ∙ ap is same-tree;
     }
 
     pub binding-text : textOf (treeOf s c b) ≡ textOf (treeBetween s c b start end)

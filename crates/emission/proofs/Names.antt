@@ -8,10 +8,11 @@ use native.Mathlib.Omega.{arith}
 use borrow.Author.Tests.{le-leb}
 use lib.Dec.{eqb}
 use lib.ListN.{getD}
+use Rattle.byte.specs.Equal.{equal}
 use Rattle.byte.proofs.Tests.{by-bool}
 use Rattle.expression.specs.declared.names.Found.{Found}
 use Rattle.expression.specs.declared.names.Found.the-variants.{At, Nothing}
-use Rattle.expression.specs.Parse.{lookup, sameText}
+use Rattle.expression.specs.Parse.{lookup}
 use Rattle.expression.specs.Table.{tagOf, called, found}
 use Rattle.expression.specs.Source.{Sources, nameOf, envOf, treeOf, AllStand}
 use Rattle.expression.proofs.Tags.{tag-same}
@@ -31,9 +32,9 @@ module _ (s : List ℕ) (c : Sources) (w : List ℕ) where
   looked (suc n) a =
       let more = looked n (λ i l. a i (omega arith)) in
       let x = a n (omega arith) in
-      let l : called s (c .names) (c .lens) (c .tags) n w ≡ (eqb (getD (c .tags) n 0) (tagOf w) && sameText w (nameOf s c n)) = simp (le-leb _ _ (x .name)) in
-      let q : called s (c .names) (c .lens) (c .tags) n w ≡ sameText w (nameOf s c n) = l ∙ tag-same (getD (c .tags) n 0) w (nameOf s c n) (x .tag) in
-      by-bool (sameText w (nameOf s c n))
+      let l : called s (c .names) (c .lens) (c .tags) n w ≡ (eqb (getD (c .tags) n 0) (tagOf w) && equal w (nameOf s c n)) = simp (le-leb _ _ (x .name)) in
+      let q : called s (c .names) (c .lens) (c .tags) n w ≡ equal w (nameOf s c n) = l ∙ tag-same (getD (c .tags) n 0) w (nameOf s c n) (x .tag) in
+      by-bool (equal w (nameOf s c n))
       (λ e.
       let f : found (suc n) s (c .names) (c .lens) (c .tags) w ≡ At n = rw (q ∙ e, found) in
       subst (Looked (suc n)) (sym f) (omega arith, simp e))

@@ -5,10 +5,11 @@ use mathlib.Core.List.{List, [], _∷_, _++_, append-nil, append-assoc}
 use mathlib.Core.Bool.{true, false}
 use native.Mathlib.Omega.{arith}
 use lib.ListN.{length}
+use Rattle.numbered.specs.Outcome.{is}
 use Rattle.word.specs.Apply.{Binary}
 use Rattle.token.specs.Token.{tokens}
 use Rattle.expression.specs.Tree.{Tree, bin}
-use Rattle.expression.specs.Parse.{Env, lone, operator, tree, meaning}
+use Rattle.expression.specs.Parse.{Env, lone, operator, meaning}
 use Rattle.expression.specs.Grammar.{Derives, number, name, parentheses, alone, join}
 use Rattle.expression.specs.Written.{textOf}
 use Rattle.expression.proofs.Steps.{lone-is}
@@ -125,7 +126,7 @@ ends {env} (join {l} {d} {ts} {us} {w} {op} {t} {u} h o g) low st small s =
     subst (λ (x : Binary). Ends env (suc l) st (ts ++ w ∷ us) (bin x t u)) (j .1)
     (join-ends w (omega arith) (omega arith) s (ends h low st small s) level (ends g (omega arith) (lone w ∷ st) (omega arith) (starts-top l (lone w) st (omega arith))))
 
-pub postfix : (env : Env) (s : List ℕ) (t : Tree) → meaning env s ≡ tree t → Walks env true [] (tokens s) (textOf t)
+pub postfix : (env : Env) (s : List ℕ) (t : Tree) → meaning env s ≡ is t → Walks env true [] (tokens s) (textOf t)
 postfix env s t e =
     let v = ends (meaning-derives env s t e .1) (omega arith) [] (omega arith) (starts-empty 2) in
     let p : popped 2 (v .top ++ []) ≡ v .top = v .popped 2 (omega arith) ∙ ap (λ (x : List ℕ). v .top ++ x) (starts-empty 2 .popped 2 (omega arith)) ∙ append-nil (v .top) in

@@ -4,8 +4,9 @@ use mathlib.Core.Path.{_≡_}
 use mathlib.Core.List.{List}
 use lib.ListN.{length, getD, take, drop}
 use lib.Seq.{slice}
+use Rattle.numbered.specs.Outcome.{is}
 use Rattle.expression.specs.Tree.{Tree}
-use Rattle.expression.specs.Parse.{tree, meaning}
+use Rattle.expression.specs.Parse.{meaning}
 use Rattle.expression.specs.Source.{Sources, treeIn, envOf, treeOf, AllStand}
 use Rattle.expression.specs.Written.{textOf}
 
@@ -19,7 +20,7 @@ module _ (s : List ℕ) (c : Sources) (count start end : ℕ) where
     pub few : count ≤ 256
     pub stand : AllStand s c count
     pub inside : end ≤ length s
-    pub is : meaning (envOf s c count) (drop start (take end s)) ≡ tree treeBetween
+    pub is : meaning (envOf s c count) (drop start (take end s)) ≡ is treeBetween
 
 -- what is marked as written, with a place and a length for each binding, stands before a place of the output
 pub record Kept (s : List ℕ) (c : Sources) (out : List ℕ) (to : ℕ) (places lengths : List ℕ) : Type 0 where

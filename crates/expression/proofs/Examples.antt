@@ -4,12 +4,14 @@ use mathlib.Core.List.{[], _∷_, _++_}
 use mathlib.Core.Option.{some, none}
 use Prim.Native.String.{String}
 use lib.ListN.{replicate}
+use Rattle.numbered.specs.Numbered.{plain}
+use Rattle.numbered.specs.Outcome.{is, refused}
 use Rattle.number.specs.Decimal.{decimal}
 use Rattle.word.specs.Apply.{add, mul}
 use Rattle.byte.specs.Ascii.{ascii}
 use Rattle.token.specs.Token.{scan}
 use Rattle.expression.specs.Tree.{Tree, num, bin}
-use Rattle.expression.specs.Parse.{Binding, Env, tree, wrong, parseF, meaning}
+use Rattle.expression.specs.Parse.{Binding, Env, parseF, meaning}
 use Rattle.expression.specs.Answer.{Answer, figures, due}
 use Rattle.expression.specs.Written.{textOf}
 
@@ -40,7 +42,7 @@ no-value = refl
 tally : Env
 tally = bind "s" (bin add (num 5) (num 7)) ∷ bind "b" (num 7) ∷ bind "a" (num 5) ∷ []
 
-tally-sum : meaning tally (ascii "a + b") ≡ tree (bin add (num 5) (num 7))
+tally-sum : meaning tally (ascii "a + b") ≡ is (bin add (num 5) (num 7))
 unfolding meaning parseF scan tally
 tally-sum = refl
 
@@ -57,11 +59,11 @@ star : answer (bind "*" (num 5) ∷ []) "* * *" ≡ figures 2 2 (some 25) 18
 unfolding meaning parseF scan decimal
 star = refl
 
-close-name : meaning (bind ")" (num 5) ∷ []) (ascii ")") ≡ tree (num 5)
+close-name : meaning (bind ")" (num 5) ∷ []) (ascii ")") ≡ is (num 5)
 unfolding meaning parseF scan
 close-name = refl
 
-close-inside : meaning (bind ")" (num 5) ∷ []) (ascii "())") ≡ tree (num 5)
+close-inside : meaning (bind ")" (num 5) ∷ []) (ascii "())") ≡ is (num 5)
 unfolding meaning parseF scan
 close-inside = refl
 
@@ -69,49 +71,49 @@ close-inside = refl
 newest : Env
 newest = bind "a" (num 2) ∷ bind "b" (num 1) ∷ bind "a" (num 1) ∷ []
 
-kept : meaning newest (ascii "b") ≡ tree (num 1)
+kept : meaning newest (ascii "b") ≡ is (num 1)
 unfolding meaning parseF scan newest
 kept = refl
 
-shadowed : meaning newest (ascii "a") ≡ tree (num 2)
+shadowed : meaning newest (ascii "a") ≡ is (num 2)
 unfolding meaning parseF scan newest
 shadowed = refl
 
 -- 64 parentheses are read, a 65th is refused
-deep : meaning [] (replicate 64 40 ++ 49 ∷ replicate 64 41) ≡ tree (num 1)
+deep : meaning [] (replicate 64 40 ++ 49 ∷ replicate 64 41) ≡ is (num 1)
 unfolding meaning parseF scan
 deep = refl
 
-too-deep : meaning [] (replicate 65 40 ++ 49 ∷ replicate 65 41) ≡ wrong 18
+too-deep : meaning [] (replicate 65 40 ++ 49 ∷ replicate 65 41) ≡ refused (plain 18)
 unfolding meaning parseF scan
 too-deep = refl
 
 -- 13 comes before what is met from left to right
-semicolon : meaning [] (ascii "a;") ≡ wrong 13
+semicolon : meaning [] (ascii "a;") ≡ refused (plain 13)
 unfolding meaning parseF scan
 semicolon = refl
 
-empty : meaning [] [] ≡ wrong 14
+empty : meaning [] [] ≡ refused (plain 14)
 unfolding meaning parseF scan
 empty = refl
 
-unclosed : meaning [] (ascii "(1") ≡ wrong 14
+unclosed : meaning [] (ascii "(1") ≡ refused (plain 14)
 unfolding meaning parseF scan
 unclosed = refl
 
 -- a literal of 2 ^ 64: met as a factor, where `)` is due, left over
-met : meaning [] (ascii "18446744073709551616") ≡ wrong 16
+met : meaning [] (ascii "18446744073709551616") ≡ refused (plain 16)
 unfolding meaning parseF scan
 met = refl
 
-due-close : meaning [] (ascii "(1 18446744073709551616)") ≡ wrong 15
+due-close : meaning [] (ascii "(1 18446744073709551616)") ≡ refused (plain 15)
 unfolding meaning parseF scan
 due-close = refl
 
-left-over : meaning [] (ascii "1 18446744073709551616") ≡ wrong 19
+left-over : meaning [] (ascii "1 18446744073709551616") ≡ refused (plain 19)
 unfolding meaning parseF scan
 left-over = refl
 
-unknown : meaning [] (ascii "1 // c") ≡ wrong 17
+unknown : meaning [] (ascii "1 // c") ≡ refused (plain 17)
 unfolding meaning parseF scan
 unknown = refl

@@ -9,6 +9,9 @@ use native.Mathlib.Omega.{arith}
 use borrow.Author.Tests.{ltb-true, eqb-true, eqb-false}
 use lib.Dec.{eqb, ltb}
 use lib.ListN.{length}
+use Rattle.numbered.specs.Numbered.{plain}
+use Rattle.numbered.specs.Outcome as Outcome
+use Rattle.numbered.specs.Outcome.{is}
 use Rattle.byte.proofs.Tests.{never, by-bool, by-or, between, and-left}
 use Rattle.word.specs.Apply.{Binary, add, sub, mul, div}
 use Rattle.number.specs.Decimal.{digit, allDigits, value}
@@ -19,7 +22,7 @@ use Rattle.token.proofs.LongestMatch.{longest-match}
 use Rattle.expression.specs.Tree.{Tree, num, bin}
 use Rattle.expression.specs.Environment.{Env, lookup}
 use Rattle.expression.specs.Grammar.{factor, expression, Operator, times, over, plus, minus, Derives, number, name, parentheses, alone, join}
-use Rattle.expression.specs.Parse.{Parse, done, refused, lone, joins, operator, joined, closed, nested, named, atom, parseF, moreF, enough, parsed, tree, wrong, whole, meaning}
+use Rattle.expression.specs.Parse.{Parse, done, refused, lone, joins, operator, joined, closed, nested, named, atom, parseF, moreF, enough, parsed, whole, meaning}
 use Rattle.expression.specs.Cycle.{Reads}
 use Rattle.expression.proofs.Steps.{lone-is, looser, Left, starts, turns, stops, closes, number-read, name-read, more-refused, more-ends, more-joins, level-up, factor-opens, factor-atom}
 
@@ -217,10 +220,10 @@ derives-accepted env ts t h =
     let e = append-nil ts in
     subst (λ (x : List (List ℕ)). parsed env x ≡ done t []) e (r .same (enough expression (ts ++ [])) (omega arith))
 
-not-tree : {P : Type 0} (n : ℕ) (t : Tree) → wrong n ≡ tree t → P
+not-tree : {P : Type 0} (n : ℕ) (t : Tree) → Outcome.refused (plain n) ≡ is t → P
 not-tree n t e = absurd (let z : _≡_ {A = ℕ} 0 1 = cc in omega arith)
 
-whole-is : (r : Parse) (t : Tree) → whole r ≡ tree t → r ≡ done t []
+whole-is : (r : Parse) (t : Tree) → whole r ≡ is t → r ≡ done t []
 whole-is (done u []) t e = let p : u ≡ t = cc in ap (λ (x : Tree). done x []) p
 whole-is (done u (w ∷ ts)) t e = not-tree 19 t e
 whole-is (refused n) t e = not-tree n t e
@@ -229,22 +232,22 @@ pub meaning-whole : (env : Env) (s : List ℕ) → allowed s ≡ true → meanin
 unfolding meaning
 meaning-whole env s a = rw (a, meaning)
 
-pub meaning-not-allowed : (env : Env) (s : List ℕ) → allowed s ≡ false → meaning env s ≡ wrong 13
+pub meaning-not-allowed : (env : Env) (s : List ℕ) → allowed s ≡ false → meaning env s ≡ Outcome.refused (plain 13)
 unfolding meaning
 meaning-not-allowed env s a = rw (a, meaning)
 
 -- a tree that a text means, by the tokens that the parser reads
-pub meaning-derives : (env : Env) (s : List ℕ) (t : Tree) → meaning env s ≡ tree t → (Tokens s (tokens s)) × Derives env expression 64 (tokens s) t
+pub meaning-derives : (env : Env) (s : List ℕ) (t : Tree) → meaning env s ≡ is t → (Tokens s (tokens s)) × Derives env expression 64 (tokens s) t
 meaning-derives env s t e =
     by-bool (allowed s)
     (λ a. let h = longest-match s (tokens s) .1 (a, refl) in (h, accepted-derives env (tokens s) t (tokens-some h) (whole-is (parsed env (tokens s)) t (sym (meaning-whole env s a) ∙ e))))
     (λ a. not-tree 13 t (sym (meaning-not-allowed env s a) ∙ e))
 
 -- a text means the tree t exactly where its tokens are an expression with that tree, with at most 64 parentheses open at once
-pub grammar : (env : Env) (s : List ℕ) (t : Tree) → (meaning env s ≡ tree t) ↔ ((ts : List (List ℕ)) × (Tokens s ts × Derives env expression 64 ts t))
+pub grammar : (env : Env) (s : List ℕ) (t : Tree) → (meaning env s ≡ is t) ↔ ((ts : List (List ℕ)) × (Tokens s ts × Derives env expression 64 ts t))
 grammar env s t = (λ e. (tokens s, meaning-derives env s t e), λ h. back (h .0) (h .1 .0) (h .1 .1))
   where
-    back : (ts : List (List ℕ)) → Tokens s ts → Derives env expression 64 ts t → meaning env s ≡ tree t
+    back : (ts : List (List ℕ)) → Tokens s ts → Derives env expression 64 ts t → meaning env s ≡ is t
     back ts k h =
         let l = longest-match s ts .0 k in
         meaning-whole env s (l .0) ∙ ap (λ (x : List (List ℕ)). whole (parsed env x)) (l .1) ∙ ap whole (derives-accepted env ts t h)

@@ -9,11 +9,12 @@ use borrow.Author.Tests.{eq-eqb, ne-eqb, le-leb, lt-leb}
 use lib.Dec.{eqb, leb}
 use lib.ListN.{length, getD, take, drop, length-drop}
 use lib.Seq.{length-take-le}
+use Rattle.byte.specs.Equal.{equal}
 use Rattle.byte.proofs.Tests.{by-bool}
 use Rattle.byte.proofs.Parts.{next}
 use Rattle.expression.specs.declared.names.Found.{Found}
 use Rattle.expression.specs.declared.names.Found.the-variants.{At, Nothing}
-use Rattle.expression.specs.Parse.{Binding, Env, sameText, lookup}
+use Rattle.expression.specs.Parse.{Binding, Env, lookup}
 use Rattle.expression.specs.Table.{Columns, entryAt, Tells, Told, tagOf, called, found}
 use Rattle.expression.proofs.Tags.{tag-same}
 
@@ -25,7 +26,7 @@ part s a n i h g =
 -- what is left of two parts of n bytes, from the byte i of each on
 module _ (s : List ℕ) (a b n i : ℕ) where
   abbrev pub sameFrom : Bool
-  sameFrom = sameText (take (n - i) (drop (a + i) s)) (take (n - i) (drop (b + i) s))
+  sameFrom = equal (take (n - i) (drop (a + i) s)) (take (n - i) (drop (b + i) s))
 
 module _ (s : List ℕ) (a b n i : ℕ) where
   pub same-more : i < n → a + n ≤ length s → b + n ≤ length s → getD s (a + i) 0 ≡ getD s (b + i) 0 → sameFrom s a b n i ≡ sameFrom s a b n (i + 1)
@@ -37,14 +38,14 @@ module _ (s : List ℕ) (a b n i : ℕ) where
   pub same-end : n ≤ i → sameFrom s a b n i ≡ true
   same-end h = let e : n - i ≡ 0 = omega arith in rw e
 
-pub same-start : (s : List ℕ) (a b n : ℕ) → sameText (take n (drop a s)) (take n (drop b s)) ≡ sameFrom s a b n 0
+pub same-start : (s : List ℕ) (a b n : ℕ) → equal (take n (drop a s)) (take n (drop b s)) ≡ sameFrom s a b n 0
 same-start s a b n =
     let e : n - 0 ≡ n = omega arith in
     let p : a + 0 ≡ a = omega arith in
     let q : b + 0 ≡ b = omega arith in
     rw (e, p, q)
 
-pub other-length : (v w : List ℕ) → (length v ≡ length w → ⊥) → sameText v w ≡ false
+pub other-length : (v w : List ℕ) → (length v ≡ length w → ⊥) → equal v w ≡ false
 other-length [] [] h = absurd (h refl)
 other-length [] (b ∷ w) h = refl
 other-length (a ∷ v) [] h = refl
@@ -55,7 +56,7 @@ other-length (a ∷ v) (b ∷ w) h =
 -- whether n bytes of a text from a on stand in it and are a given part
 module _ (s : List ℕ) (start len a n : ℕ) where
   abbrev pub isName : Bool
-  isName = leb (a + n) (length s) && sameText (take len (drop start s)) (take n (drop a s))
+  isName = leb (a + n) (length s) && equal (take len (drop start s)) (take n (drop a s))
 
 module _ (s : List ℕ) (start len a n : ℕ) where
   pub name-outside : length s < a + n → false ≡ isName s start len a n
@@ -67,8 +68,8 @@ module _ (s : List ℕ) (start len a n : ℕ) where
       let q = length-take-le n (drop a s) (let r = length-drop a s in omega arith) in
       sym (simp (le-leb (a + n) (length s) h) (other-length (take len (drop start s)) (take n (drop a s)) (λ e. d (omega arith))))
 
-  pub name-same : a + n ≤ length s → n ≡ len → sameText (take len (drop start s)) (take len (drop a s)) ≡ isName s start len a n
-  name-same h e = sym (simp (le-leb (a + n) (length s) h) (ap (λ (m : ℕ). sameText (take len (drop start s)) (take m (drop a s))) e))
+  pub name-same : a + n ≤ length s → n ≡ len → equal (take len (drop start s)) (take len (drop a s)) ≡ isName s start len a n
+  name-same h e = sym (simp (le-leb (a + n) (length s) h) (ap (λ (m : ℕ). equal (take len (drop start s)) (take m (drop a s))) e))
 
 -- binding i by its tag, and by its name where it has the tag
 module _ (s names lens tags : List ℕ) (start len i : ℕ) {t : ℕ} (g : t ≡ tagOf (take len (drop start s))) where
@@ -111,10 +112,10 @@ abbrev pub Looked : List ℕ → Columns → Env → List ℕ → Found → Type
 Looked s c env w (At i) = (b : Binding) × (Tells s (entryAt c i) b × (lookup w env ≡ some (b .tree)))
 Looked s c env w Nothing = lookup w env ≡ none
 
-called-as : (s : List ℕ) (c : Columns) (i : ℕ) (b : Binding) (w : List ℕ) → Tells s (entryAt c i) b → called s (c .names) (c .lens) (c .tags) i w ≡ sameText w (b .name)
+called-as : (s : List ℕ) (c : Columns) (i : ℕ) (b : Binding) (w : List ℕ) → Tells s (entryAt c i) b → called s (c .names) (c .lens) (c .tags) i w ≡ equal w (b .name)
 called-as s c i b w t =
-    let l : called s (c .names) (c .lens) (c .tags) i w ≡ (eqb (getD (c .tags) i 0) (tagOf w) && sameText w (take (getD (c .lens) i 0) (drop (getD (c .names) i 0) s))) = ap (λ (x : Bool). eqb (getD (c .tags) i 0) (tagOf w) && (x && sameText w (take (getD (c .lens) i 0) (drop (getD (c .names) i 0) s)))) (le-leb _ _ (t .inside)) in
-    l ∙ ap (λ (n : List ℕ). eqb (getD (c .tags) i 0) (tagOf w) && sameText w n) (sym (t .name)) ∙ tag-same (getD (c .tags) i 0) w (b .name) (t .tag)
+    let l : called s (c .names) (c .lens) (c .tags) i w ≡ (eqb (getD (c .tags) i 0) (tagOf w) && equal w (take (getD (c .lens) i 0) (drop (getD (c .names) i 0) s))) = ap (λ (x : Bool). eqb (getD (c .tags) i 0) (tagOf w) && (x && equal w (take (getD (c .lens) i 0) (drop (getD (c .names) i 0) s)))) (le-leb _ _ (t .inside)) in
+    l ∙ ap (λ (n : List ℕ). eqb (getD (c .tags) i 0) (tagOf w) && equal w n) (sym (t .name)) ∙ tag-same (getD (c .tags) i 0) w (b .name) (t .tag)
 
 older : (s : List ℕ) (c : Columns) (env env′ : Env) (w : List ℕ) (r : Found) → lookup w env′ ≡ lookup w env → Looked s c env w r → Looked s c env′ w r
 older s c env env′ w (At i) e (b, (t, q)) = (b, (t, e ∙ q))
@@ -128,7 +129,7 @@ looked s c (suc n) [] w t = absurd t
 looked s c (suc n) (b ∷ env) w (tells, told) =
     let more = looked s c n env w told in
     let q = called-as s c n b w tells in
-    by-bool (sameText w (b .name))
+    by-bool (equal w (b .name))
     (λ e. let f : found (suc n) s (c .names) (c .lens) (c .tags) w ≡ At n = rw (q ∙ e, found) in
     subst (Looked s c (b ∷ env) w) (sym f) (b, (tells, simp e)))
     (λ e. let f : found (suc n) s (c .names) (c .lens) (c .tags) w ≡ found n s (c .names) (c .lens) (c .tags) w = rw (q ∙ e, found) in

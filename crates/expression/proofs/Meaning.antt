@@ -5,6 +5,8 @@ use mathlib.Core.List.{List, [], _∷_}
 use mathlib.Core.Bool.{true, false}
 use native.Mathlib.Omega.{arith}
 use lib.ListN.{drop}
+use Rattle.numbered.specs.Numbered.{plain}
+use Rattle.numbered.specs.Outcome.{Outcome, is, refused}
 use Rattle.token.specs.Token.{allowed, scan, tokens, tokenAt, lastEnd}
 use Rattle.token.specs.declared.Token.{Token}
 use Rattle.token.proofs.LastEnd.{last-end}
@@ -14,7 +16,7 @@ use Rattle.expression.specs.declared.ExprError.the-variants.{InvalidChar
 use Rattle.expression.specs.declared.Parsed.{Parsed}
 use Rattle.expression.specs.declared.Parsed.the-variants.{Done, Refused}
 use Rattle.expression.specs.Tree.{Tree}
-use Rattle.expression.specs.Parse.{Env, done, enough, parseF, moreF, Meaning, tree, wrong, whole, meaning, expression}
+use Rattle.expression.specs.Parse.{Env, done, enough, parseF, moreF, whole, meaning, expression}
 use Rattle.expression.specs.Figures.{Figures}
 use Rattle.expression.specs.Table.{Columns, columnsOf, Told, few, Holds}
 use Rattle.expression.specs.Answer.{exprErrorNumbered, said, due, Short, EndsLast, Answers}
@@ -24,7 +26,7 @@ use Rattle.expression.proofs.Signs.{none-of, next-of}
 use Rattle.expression.proofs.Grammar.{meaning-whole, meaning-not-allowed}
 
 -- from what a text means to what is promised of it
-means : (s : List ℕ) (at : ℕ) (c : Columns) (r : Parsed) → EndsLast s r → ((env : Env) → Told s c (few (c .count)) env → (m : Meaning) × ((meaning env (drop at s) ≡ m) × ((said r ≡ due m) × Short m))) → Answers s at c r
+means : (s : List ℕ) (at : ℕ) (c : Columns) (r : Parsed) → EndsLast s r → ((env : Env) → Told s c (few (c .count)) env → (m : Outcome Tree) × ((meaning env (drop at s) ≡ m) × ((said r ≡ due m) × Short m))) → Answers s at c r
 means s at c r o f = record {
   is = λ env h. let x = f env h in x .1 .1 .0 ∙ sym (ap due (x .1 .0));
   short = λ env h. let x = f env h in subst Short (sym (x .1 .0)) (x .1 .1 .1);
@@ -32,9 +34,9 @@ means s at c r o f = record {
 }
 
 pub not-allowed : (s : List ℕ) (at : ℕ) (c : Columns) → allowed (drop at s) ≡ false → Answers s at c (Refused InvalidCharacter)
-not-allowed s at c e = means s at c _ tt (λ env h. (wrong 13, (meaning-not-allowed env (drop at s) e, (refl, tt))))
+not-allowed s at c e = means s at c _ tt (λ env h. (refused (plain 13), (meaning-not-allowed env (drop at s) e, (refl, tt))))
 
-figures-said : {t : Tree} {v : Read} → Figures t v → said (Done v) ≡ due (tree t)
+figures-said : {t : Tree} {v : Read} → Figures t v → said (Done v) ≡ due (is t)
 figures-said f = cc (f .k, f .p, f .value, f .len)
 
 -- the same columns with another count
@@ -67,13 +69,13 @@ module _ (s : List ℕ) (at : ℕ) (c : Columns) (n : ℕ) (few-is : n ≡ few (
   pub refused-answers : {e : ExprError} → Meets s at (recount n c) expression 64 (Refused e) → Answers s at c (Refused e)
   refused-answers {e} m = means s at c _ tt (λ env h.
       let x = m .means env (holds env h) in
-      (wrong (exprErrorNumbered e .number), (meaning-whole env (drop at s) a ∙ ap whole (x .same (enough expression (tokens (drop at s))) (omega arith)), (refl, tt))))
+      (refused (plain (exprErrorNumbered e .number)), (meaning-whole env (drop at s) a ∙ ap whole (x .same (enough expression (tokens (drop at s))) (omega arith)), (refl, tt))))
 
   pub done-answers : {v : Read} (ts : List (List ℕ)) → tokens (drop (v .next) s) ≡ ts → Meets s at (recount n c) expression 64 (Done v) → Answers s at c (wholeRead ts v)
   done-answers {v} [] q m = means s at c _ (read-ends (m .fine) q) (λ env h.
       let x = m .means env (holds env h) in
       let f = x .1 .1 in (
-        tree (x .0),
+        is (x .0),
         (
           meaning-whole env (drop at s) a ∙ ap whole (x .1 .0 .same (enough expression (tokens (drop at s))) (omega arith) ∙ ap (done (x .0)) q),
           (figures-said f, f .short),
@@ -81,7 +83,7 @@ module _ (s : List ℕ) (at : ℕ) (c : Columns) (n : ℕ) (few-is : n ≡ few (
       ))
   done-answers {v} (w ∷ ts) q m = means s at c _ tt (λ env h.
       let x = m .means env (holds env h) in
-      (wrong 19, (meaning-whole env (drop at s) a ∙ ap whole (x .1 .0 .same (enough expression (tokens (drop at s))) (omega arith) ∙ ap (done (x .0)) q), (refl, tt))))
+      (refused (plain 19), (meaning-whole env (drop at s) a ∙ ap whole (x .1 .0 .same (enough expression (tokens (drop at s))) (omega arith) ∙ ap (done (x .0)) q), (refl, tt))))
 
 -- the token that follows what was read
 module _ (s : List ℕ) (v : Read) (t : Token) (e : t ≡ tokenAt s (v .next)) where
@@ -92,6 +94,6 @@ module _ (s : List ℕ) (v : Read) (t : Token) (e : t ≡ tokenAt s (v .next)) w
   whole-more h = rw (next-of s (v .next) t e h .list)
 
 -- an empty text is no expression
-pub meaning-empty : (env : Env) → meaning env [] ≡ wrong 14
+pub meaning-empty : (env : Env) → meaning env [] ≡ refused (plain 14)
 unfolding meaning scan parseF moreF
 meaning-empty env = refl

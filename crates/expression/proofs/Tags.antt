@@ -9,23 +9,23 @@ use borrow.Author.Tests.{eqb-true, eq-eqb, lt-ltb, le-ltb, ltb-false, not-true}
 use lib.Dec.{eqb, ltb}
 use lib.ListN.{length, getD, take, drop, length-drop}
 use lib.Seq.{length-take-le, getD-take, getD-drop}
+use Rattle.byte.specs.Equal.{equal}
 use Rattle.byte.proofs.Tests.{never, and-left, and-right, by-bool, by-cond}
-use Rattle.expression.specs.Parse.{sameText}
 use Rattle.expression.specs.Table.{mix, tagOf, called, found, hasTag, isFree}
 
-same-is : (v w : List ℕ) → sameText v w ≡ true → v ≡ w
+same-is : (v w : List ℕ) → equal v w ≡ true → v ≡ w
 same-is [] [] e = refl
 same-is [] (b ∷ w) e = never e
 same-is (a ∷ v) [] e = never e
 same-is (a ∷ v) (b ∷ w) e =
-    let p = eqb-true a b (and-left (eqb a b) (sameText v w) e) in
-    let q = same-is v w (and-right (eqb a b) (sameText v w) e) in
+    let p = eqb-true a b (and-left (eqb a b) (equal v w) e) in
+    let q = same-is v w (and-right (eqb a b) (equal v w) e) in
     cc
 
 -- where a name has its tag, the tag's test changes no answer
-pub tag-same : (t : ℕ) (w name : List ℕ) → t ≡ tagOf name → (eqb t (tagOf w) && sameText w name) ≡ sameText w name
+pub tag-same : (t : ℕ) (w name : List ℕ) → t ≡ tagOf name → (eqb t (tagOf w) && equal w name) ≡ equal w name
 tag-same t w name e =
-    by-bool (sameText w name)
+    by-bool (equal w name)
     (λ h. simp (eq-eqb t (tagOf w) (e ∙ ap tagOf (sym (same-is w name h)))))
     (λ h. by-bool (eqb t (tagOf w)) (λ g. simp g) (λ g. simp (g, h)))
 

@@ -4,6 +4,7 @@ use mathlib.Core.Path.{_≡_}
 use mathlib.Core.List.{List}
 use lib.ListN.{drop}
 use mathlib.Core.Option.{Option}
+use Rattle.numbered.specs.Outcome.{Outcome, is, refused}
 use Rattle.numbered.specs.declared.Numbered.{Numbered}
 use Rattle.numbered.specs.Numbered.{plain}
 use Rattle.token.specs.Token.{lastEnd}
@@ -11,9 +12,9 @@ use Rattle.expression.specs.declared.ExprError.{ExprError}
 use Rattle.expression.specs.declared.ExprError.the-variants.{InvalidCharacter, UnexpectedEnd, UnbalancedParenthesis, InvalidLiteral, UnknownIdentifier, TooDeep, UnconsumedTokens}
 use Rattle.expression.specs.declared.Parsed.{Parsed}
 use Rattle.expression.specs.declared.Parsed.the-variants as Parsed
-use Rattle.expression.specs.Tree.{valueOf, kOf, pOf, lenOf}
+use Rattle.expression.specs.Tree.{Tree, valueOf, kOf, pOf, lenOf}
 use Rattle.expression.specs.Figures.{optionOf}
-use Rattle.expression.specs.Parse.{Env, Meaning, tree, wrong, meaning}
+use Rattle.expression.specs.Parse.{Env, meaning}
 use Rattle.expression.specs.Table.{Columns, Told, few}
 
 -- document 01's number of each refusal; the line is the caller's to add
@@ -35,14 +36,14 @@ abbrev pub said : Parsed → Answer
 said (Parsed.Done v) = figures (v .k) (v .p) (optionOf (v .value)) (v .len)
 said (Parsed.Refused e) = refusal (exprErrorNumbered e .number)
 
-abbrev pub due : Meaning → Answer
-due (tree t) = figures (kOf t) (pOf t) (valueOf t) (lenOf t)
-due (wrong n) = refusal n
+abbrev pub due : Outcome Tree → Answer
+due (is t) = figures (kOf t) (pOf t) (valueOf t) (lenOf t)
+due (refused r) = refusal (r .number)
 
 -- a tree's text is short: a line has at most 26 bytes, and an operator's at most 4
-abbrev pub Short : Meaning → Type 0
-Short (tree t) = lenOf t + 4 ≤ 30 * kOf t
-Short (wrong n) = Unit {0}
+abbrev pub Short : Outcome Tree → Type 0
+Short (is t) = lenOf t + 4 ≤ 30 * kOf t
+Short (refused r) = Unit {0}
 
 -- a tree is read up to the end of the text's last token
 abbrev pub EndsLast : List ℕ → Parsed → Type 0

@@ -5,11 +5,14 @@ use mathlib.Core.Bool.{Bool, true, false, cond, _||_}
 use mathlib.Core.Option.{Option, some, none}
 use lib.Dec.{eqb, ltb}
 use lib.ListN.{length}
+use Rattle.numbered.specs.Numbered.{plain}
+use Rattle.numbered.specs.Outcome as Outcome
+use Rattle.numbered.specs.Outcome.{Outcome, is}
 use Rattle.word.specs.Apply.{Binary, add, sub, mul, div}
 use Rattle.number.specs.Decimal.{allDigits, value}
 use Rattle.token.specs.Token.{allowed, tokens}
 use Rattle.expression.specs.Tree.{Tree, num, bin}
-pub use Rattle.expression.specs.Environment.{Binding, Env, sameText, lookup}
+pub use Rattle.expression.specs.Environment.{Binding, Env, lookup}
 pub use Rattle.expression.specs.Grammar.{factor, term, expression}
 
 -- the tree that is read and the tokens that follow, or the number of a refusal
@@ -82,15 +85,11 @@ enough l ts = 8 * length ts + suc l
 abbrev pub parsed : Env → List (List ℕ) → Parse
 parsed env ts = parseF (enough expression ts) expression env 64 ts
 
--- what a text means as a whole expression: its tree, or the number of the refusal
-pub data Meaning : Type 0 where
-  tree : Tree → Meaning
-  wrong : ℕ → Meaning
+abbrev pub whole : Parse → Outcome Tree
+whole (done t []) = is t
+whole (done t (w ∷ ts)) = Outcome.refused (plain 19)
+whole (refused n) = Outcome.refused (plain n)
 
-abbrev pub whole : Parse → Meaning
-whole (done t []) = tree t
-whole (done t (w ∷ ts)) = wrong 19
-whole (refused n) = wrong n
-
-unfoldable pub meaning : Env → List ℕ → Meaning
-meaning env s = elim (allowed s) [ true ↦ whole (parsed env (tokens s)) | false ↦ wrong 13 ]
+-- what a text means as a whole expression: its tree, or the refusal
+unfoldable pub meaning : Env → List ℕ → Outcome Tree
+meaning env s = elim (allowed s) [ true ↦ whole (parsed env (tokens s)) | false ↦ Outcome.refused (plain 13) ]

@@ -5,11 +5,12 @@ use mathlib.Core.List.{List, [], _∷_}
 use mathlib.Core.Bool.{cond}
 use lib.Dec.{eqb}
 use lib.ListN.{length, getD, take, drop}
+use Rattle.numbered.specs.Outcome.{Outcome, is, refused}
 use Rattle.expression.specs.declared.Bindings.{Bindings}
 use Rattle.expression.specs.declared.Values.{Values}
 use Rattle.expression.specs.Tree.{Tree, num}
 use Rattle.expression.specs.Table.{tagOf}
-use Rattle.expression.specs.Parse.{Env, Meaning, tree, wrong, meaning}
+use Rattle.expression.specs.Parse.{Env, meaning}
 
 -- where names start, their lengths and tags, where expressions start and their lengths, the values; oldest first
 pub record Sources : Type 0 where
@@ -27,9 +28,9 @@ abbrev pub sources : Bindings → Values → Sources
 sources b v = sourcesOf (b .«name_start») (b .«name_len») (v .tag) (b .«expr_start») (b .«expr_len») (v .value)
 
 -- the tree of what means one
-abbrev pub treeIn : Meaning → Tree
-treeIn (tree t) = t
-treeIn (wrong n) = num 0
+abbrev pub treeIn : Outcome Tree → Tree
+treeIn (is t) = t
+treeIn (refused r) = num 0
 
 module _ (s : List ℕ) (c : Sources) where
   abbrev pub nameOf : ℕ → List ℕ
@@ -55,7 +56,7 @@ module _ (s : List ℕ) (c : Sources) where
     pub name : getD (c .names) i 0 + getD (c .lens) i 0 ≤ length s
     pub tag : getD (c .tags) i 0 ≡ tagOf (nameOf i)
     pub inside : getD (c .starts) i 0 + getD (c .sizes) i 0 ≤ length s
-    pub means : 0 < getD (c .sizes) i 0 → meaning (envOf i) (expressionOf i) ≡ tree (treeOf i)
+    pub means : 0 < getD (c .sizes) i 0 → meaning (envOf i) (expressionOf i) ≡ is (treeOf i)
 
   -- so do the first n
   abbrev pub AllStand : ℕ → Type 0

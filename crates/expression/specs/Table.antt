@@ -6,12 +6,13 @@ use mathlib.Core.Bool.{Bool, true, false, not, cond, _&&_, _||_}
 use mathlib.Core.Option.{Option, some, none}
 use lib.Dec.{eqb, leb, ltb}
 use lib.ListN.{length, getD, take, drop}
+use Rattle.byte.specs.Equal.{equal}
 use Rattle.expression.specs.declared.Bindings.{Bindings}
 use Rattle.expression.specs.declared.Values.{Values}
 use Rattle.expression.specs.declared.names.Found.{Found}
 use Rattle.expression.specs.declared.names.Found.the-variants.{At, Nothing}
 use Rattle.expression.specs.Tree.{valueOf, kOf, pOf, lenOf}
-use Rattle.expression.specs.Parse.{Binding, Env, sameText}
+use Rattle.expression.specs.Parse.{Binding, Env}
 
 -- the tag of a name: a byte made of its first byte and its last two, which most names differ in
 abbrev pub mix : ℕ → ℕ → ℕ → ℕ
@@ -84,7 +85,7 @@ pub record Holds (s : List ℕ) (c : Columns) (env : Env) : Type 0 where
 
 -- whether binding i has the name w
 abbrev pub called : List ℕ → List ℕ → List ℕ → List ℕ → ℕ → List ℕ → Bool
-called s names lens tags i w = eqb (getD tags i 0) (tagOf w) && (leb (getD names i 0 + getD lens i 0) (length s) && sameText w (take (getD lens i 0) (drop (getD names i 0) s)))
+called s names lens tags i w = eqb (getD tags i 0) (tagOf w) && (leb (getD names i 0 + getD lens i 0) (length s) && equal w (take (getD lens i 0) (drop (getD names i 0) s)))
 
 -- the newest of the first n bindings that has the name w
 unfoldable pub found : ℕ → List ℕ → List ℕ → List ℕ → List ℕ → List ℕ → Found

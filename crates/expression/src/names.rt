@@ -4,7 +4,7 @@ ghost use mathlib.Core.Bool.{_&&_};
 ghost use Prim.Native.Nat.{_+_, _≤_, _<_};
 ghost use lib.Dec.{leb};
 ghost use lib.ListN.{length, take, drop};
-ghost use Rattle.expression.specs.Parse.{sameText};
+ghost use Rattle.byte.specs.Equal.{equal};
 ghost use Rattle.expression.specs.Table.{tagOf, mix, called, found, hasTag, isFree};
 use byte::either;
 
@@ -113,7 +113,7 @@ fn is_called<'a>(
 // Whether the size bytes from name on stand in the text and are the len bytes from start on.
 fn is_name(text: &[u8], start: usize, len: usize, name: usize, size: usize) -> bool
     requires { ⌜ (start + len ≤ length (now text)) × ((name < 65536) × (size < 65536)) ⌝ }
-    ensures { λ r. ⌜ r ≡ (leb (name + size) (length (now (text .entry))) && sameText (take len (drop start (now (text .entry)))) (take size (drop name (now (text .entry))))) ⌝ }
+    ensures { λ r. ⌜ r ≡ (leb (name + size) (length (now (text .entry))) && equal (take len (drop start (now (text .entry)))) (take size (drop name (now (text .entry))))) ⌝ }
 {
     if name + size > text.len() {
         return false;
@@ -126,7 +126,7 @@ fn is_name(text: &[u8], start: usize, len: usize, name: usize, size: usize) -> b
 
 fn is_same(text: &[u8], a: usize, b: usize, len: usize) -> bool
     requires { ⌜ (a + len ≤ length (now text)) × (b + len ≤ length (now text)) ⌝ }
-    ensures { λ r. ⌜ r ≡ sameText (take len (drop a (now (text .entry)))) (take len (drop b (now (text .entry)))) ⌝ }
+    ensures { λ r. ⌜ r ≡ equal (take len (drop a (now (text .entry)))) (take len (drop b (now (text .entry)))) ⌝ }
 {
     let mut i: usize = 0;
     while i < len {

@@ -2,9 +2,9 @@
 use Prim.Native.Nat.{ℕ, zero, suc, _+_, _-_, _<_, _≤_}
 use mathlib.Core.Path.{_≡_}
 use mathlib.Core.List.{List, [], _∷_}
-use mathlib.Core.Bool.{Bool, true, false}
+use mathlib.Core.Bool.{true, false}
 use lib.Dec.{eqb, ltb}
-use lib.ListN.{length, take, drop}
+use lib.ListN.{length, getD, take, drop}
 use Rattle.search.specs.declared.Found.{Found}
 use Rattle.search.specs.declared.Found.the-variants.{At, Nothing}
 use Rattle.search.specs.First.{firstAt}
@@ -26,13 +26,13 @@ abbrev pub span : List ℕ → ℕ
 span [] = 0
 span (a ∷ s) = elim (eqb a 10) [ true ↦ 1 | false ↦ suc (span s) ]
 
-abbrev pub headOf : List (List ℕ) → List ℕ
-headOf [] = []
-headOf (l ∷ ls) = l
-
 -- the first line without its ending
 abbrev pub firstLine : List ℕ → List ℕ
-firstLine s = headOf (lines s)
+firstLine s = getD (lines s) 0 []
+
+-- the first of lines
+abbrev pub headOf : List (List ℕ) → List ℕ
+headOf ls = getD ls 0 []
 
 abbrev pub lineFrom : List ℕ → ℕ → Line
 lineFrom s at = record { start = at; end = at + length (firstLine (drop at s)); next = at + span (drop at s) }

@@ -5,11 +5,7 @@ use Prim.Native.Nat.{ℕ}
 use mathlib.Core.List.{List, [], _∷_}
 use mathlib.Core.Bool.{Bool, true, false, _&&_}
 use lib.Dec.{eqb}
-
--- a text whose first line has one element more in front
-abbrev pub front : ℕ → List (List ℕ) → List (List ℕ)
-front a [] = (a ∷ []) ∷ []
-front a (l ∷ ls) = (a ∷ l) ∷ ls
+pub use Rattle.byte.specs.Texts.{front}
 
 -- a line feed comes next
 abbrev pub feedNext : List ℕ → Bool

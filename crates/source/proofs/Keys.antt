@@ -1,13 +1,15 @@
 -- Laws of the vector's number, by what each search finds.
 use Prim.Native.Nat.{ℕ, _+_}
 use mathlib.Core.Path.{_≡_}
-use mathlib.Core.List.{List, [], _∷_}
+use mathlib.Core.List.{List}
 use native.Mathlib.Omega.{arith}
 use lib.ListN.{length, drop, length-append}
+use Rattle.byte.specs.Ascii.{ascii}
 use Rattle.search.specs.declared.Found.the-variants.{At, Nothing}
 use Rattle.search.specs.First.{firstAt}
 use Rattle.trim.specs.Trim.{startTrimmed}
-use Rattle.source.specs.Vector.{quoted, leadingNumber, vectorNumber}
+use Rattle.number.specs.Decimal.{digits}
+use Rattle.source.specs.Vector.{quoted, ofDigits, vectorNumber}
 use Rattle.source.specs.declared.vector.KeyValue.the-variants.{NoKey, NoColon}
 
 pub quoted-length : (key : List ℕ) → length (quoted key) ≡ length key + 2
@@ -18,8 +20,8 @@ module _ (s key : List ℕ) where
   no-key e = rw e
 
   module _ (at : ℕ) (e : firstAt (quoted key) s 0 ≡ At at) where
-    pub no-colon : firstAt (0x3A ∷ []) s (at + length (quoted key)) ≡ Nothing → vectorNumber s key ≡ NoColon
+    pub no-colon : firstAt (ascii ":") s (at + length (quoted key)) ≡ Nothing → vectorNumber s key ≡ NoColon
     no-colon f = rw (e, f)
 
-    pub number-behind : (colon : ℕ) → firstAt (0x3A ∷ []) s (at + length (quoted key)) ≡ At colon → vectorNumber s key ≡ leadingNumber (startTrimmed (drop (colon + 1) s))
+    pub number-behind : (colon : ℕ) → firstAt (ascii ":") s (at + length (quoted key)) ≡ At colon → vectorNumber s key ≡ ofDigits (digits (startTrimmed (drop (colon + 1) s)))
     number-behind colon f = rw (e, f)

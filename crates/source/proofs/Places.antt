@@ -1,9 +1,10 @@
 -- Laws of the contract's function, by what each search finds, and where its parts stand.
 use Prim.Native.Nat.{ℕ, _+_, _<_, _≤_}
 use mathlib.Core.Path.{_≡_}
-use mathlib.Core.List.{List, [], _∷_}
+use mathlib.Core.List.{List}
 use native.Mathlib.Omega.{arith}
 use lib.ListN.{length}
+use Rattle.byte.specs.Ascii.{ascii}
 use Rattle.search.specs.declared.Found.the-variants.{At, Nothing}
 use Rattle.search.specs.First.{firstAt}
 use Rattle.source.specs.Function.{functionOf}
@@ -15,7 +16,7 @@ use Rattle.source.specs.declared.function.Function.the-variants.{Found, 
 use Rattle.source.proofs.Found.{by-found, in-text}
 
 abbrev pub fn : List ℕ
-fn = 0x66 ∷ 0x6E ∷ 0x20 ∷ []
+fn = ascii "fn "
 
 -- one search after the other
 module _ (s : List ℕ) where
@@ -23,22 +24,22 @@ module _ (s : List ℕ) where
   no-function e = rw e
 
   module _ (name : ℕ) (e1 : firstAt fn s 0 ≡ At name) where
-    pub no-parameters : firstAt (0x28 ∷ []) s (name + 3) ≡ Nothing → functionOf s ≡ Refused NoParameters
+    pub no-parameters : firstAt (ascii "(") s (name + 3) ≡ Nothing → functionOf s ≡ Refused NoParameters
     no-parameters e = rw (e1, e)
 
-    module _ (left : ℕ) (e2 : firstAt (0x28 ∷ []) s (name + 3) ≡ At left) where
-      pub unclosed-parameters : firstAt (0x29 ∷ []) s (left + 1) ≡ Nothing → functionOf s ≡ Refused UnclosedParameters
+    module _ (left : ℕ) (e2 : firstAt (ascii "(") s (name + 3) ≡ At left) where
+      pub unclosed-parameters : firstAt (ascii ")") s (left + 1) ≡ Nothing → functionOf s ≡ Refused UnclosedParameters
       unclosed-parameters e = rw (e1, e2, e)
 
-      module _ (right : ℕ) (e3 : firstAt (0x29 ∷ []) s (left + 1) ≡ At right) where
-        pub no-body : firstAt (0x7B ∷ []) s (right + 1) ≡ Nothing → functionOf s ≡ Refused NoBody
+      module _ (right : ℕ) (e3 : firstAt (ascii ")") s (left + 1) ≡ At right) where
+        pub no-body : firstAt (ascii "{") s (right + 1) ≡ Nothing → functionOf s ≡ Refused NoBody
         no-body e = rw (e1, e2, e3, e)
 
-        module _ (brace : ℕ) (e4 : firstAt (0x7B ∷ []) s (right + 1) ≡ At brace) where
-          pub unclosed-body : firstAt (0x7D ∷ []) s (brace + 1) ≡ Nothing → functionOf s ≡ Refused UnclosedBody
+        module _ (brace : ℕ) (e4 : firstAt (ascii "{") s (right + 1) ≡ At brace) where
+          pub unclosed-body : firstAt (ascii "}") s (brace + 1) ≡ Nothing → functionOf s ≡ Refused UnclosedBody
           unclosed-body e = rw (e1, e2, e3, e4, e)
 
-          pub function-found : (end : ℕ) → firstAt (0x7D ∷ []) s (brace + 1) ≡ At end
+          pub function-found : (end : ℕ) → firstAt (ascii "}") s (brace + 1) ≡ At end
               → functionOf s ≡ Found (record { «params_start» = left + 1; «params_end» = right; «body_start» = brace + 1; «body_end» = end })
           function-found end e = rw (e1, e2, e3, e4, e)
 
@@ -58,13 +59,13 @@ same-places p q g h = cc
 pub ordered : (s : List ℕ) (p : Places) → functionOf s ≡ Found p → Ordered s p
 ordered s p h =
     by-found (firstAt fn s 0) (λ name e1.
-    by-found (firstAt (0x28 ∷ []) s (name + 3)) (λ left e2.
-    by-found (firstAt (0x29 ∷ []) s (left + 1)) (λ right e3.
-    by-found (firstAt (0x7B ∷ []) s (right + 1)) (λ brace e4.
-    by-found (firstAt (0x7D ∷ []) s (brace + 1)) (λ end e5.
-    let i3 = in-text (0x29 ∷ []) s (left + 1) right e3 in
-    let i4 = in-text (0x7B ∷ []) s (right + 1) brace e4 in
-    let i5 = in-text (0x7D ∷ []) s (brace + 1) end e5 in
+    by-found (firstAt (ascii "(") s (name + 3)) (λ left e2.
+    by-found (firstAt (ascii ")") s (left + 1)) (λ right e3.
+    by-found (firstAt (ascii "{") s (right + 1)) (λ brace e4.
+    by-found (firstAt (ascii "}") s (brace + 1)) (λ end e5.
+    let i3 = in-text (ascii ")") s (left + 1) right e3 in
+    let i4 = in-text (ascii "{") s (right + 1) brace e4 in
+    let i5 = in-text (ascii "}") s (brace + 1) end e5 in
     let q = same-places _ _ h (function-found s name e1 left e2 right e3 brace e4 end e5) in
     rw q (record { params = omega arith; between = omega arith; body = omega arith; fits = omega arith }))
     (λ n. never-both _ p (unclosed-body s name e1 left e2 right e3 brace e4 n) h))

@@ -1,6 +1,7 @@
 -- The contract's function. Every search takes the first occurrence.
 use Prim.Native.Nat.{ℕ, _+_}
-use mathlib.Core.List.{List, [], _∷_}
+use mathlib.Core.List.{List}
+use Rattle.byte.specs.Ascii.{ascii}
 use Rattle.numbered.specs.declared.Numbered.{Numbered}
 use Rattle.numbered.specs.Numbered.{plain}
 use Rattle.search.specs.First.{firstAt}
@@ -14,11 +15,11 @@ use Rattle.source.specs.Found.{foundOr}
 -- The parameters stand between the parentheses, the body between the braces.
 abbrev pub functionOf : List ℕ → Function
 functionOf s =
-    foundOr (firstAt (0x66 ∷ 0x6E ∷ 0x20 ∷ []) s 0) (Refused NoFunction) (λ name.
-    foundOr (firstAt (0x28 ∷ []) s (name + 3)) (Refused NoParameters) (λ left.
-    foundOr (firstAt (0x29 ∷ []) s (left + 1)) (Refused UnclosedParameters) (λ right.
-    foundOr (firstAt (0x7B ∷ []) s (right + 1)) (Refused NoBody) (λ brace.
-    foundOr (firstAt (0x7D ∷ []) s (brace + 1)) (Refused UnclosedBody) (λ end.
+    foundOr (firstAt (ascii "fn ") s 0) (Refused NoFunction) (λ name.
+    foundOr (firstAt (ascii "(") s (name + 3)) (Refused NoParameters) (λ left.
+    foundOr (firstAt (ascii ")") s (left + 1)) (Refused UnclosedParameters) (λ right.
+    foundOr (firstAt (ascii "{") s (right + 1)) (Refused NoBody) (λ brace.
+    foundOr (firstAt (ascii "}") s (brace + 1)) (Refused UnclosedBody) (λ end.
     Found (record { «params_start» = left + 1; «params_end» = right; «body_start» = brace + 1; «body_end» = end }))))))
 
 -- document 01's number of each case

@@ -4,6 +4,7 @@ use mathlib.Core.List.{List, [], _∷_, _++_}
 use mathlib.Core.Bool.{cond}
 use lib.Dec.{ltb}
 use lib.ListN.{length, drop}
+use Rattle.byte.specs.Ascii.{ascii}
 use Rattle.numbered.specs.declared.Numbered.{Numbered}
 use Rattle.numbered.specs.Numbered.{plain, carrying}
 use Rattle.search.specs.First.{firstAt}
@@ -15,23 +16,19 @@ use Rattle.source.specs.declared.vector.KeyValue.the-variants.{Is, NoKey
 
 -- a key in double quotes
 abbrev pub quoted : List ℕ → List ℕ
-quoted key = 0x22 ∷ key ++ 0x22 ∷ []
+quoted key = ascii "\"" ++ key ++ ascii "\""
 
 -- the number that digits write, where there are any and it is below 2 ^ 64
 abbrev pub ofDigits : List ℕ → KeyValue
 ofDigits [] = NoDigit
 ofDigits (d ∷ ds) = cond (ltb (value (d ∷ ds)) (2 ^ 64)) (Is (value (d ∷ ds))) TooLarge
 
--- the number that a text starts with
-abbrev pub leadingNumber : List ℕ → KeyValue
-leadingNumber s = ofDigits (digits s)
-
 -- the first occurrence of the key in double quotes, the first `:` after it, White_Space, digits
 abbrev pub vectorNumber : List ℕ → List ℕ → KeyValue
 vectorNumber s key =
     foundOr (firstAt (quoted key) s 0) NoKey (λ at.
-    foundOr (firstAt (0x3A ∷ []) s (at + length (quoted key))) NoColon (λ colon.
-    leadingNumber (startTrimmed (drop (colon + 1) s))))
+    foundOr (firstAt (ascii ":") s (at + length (quoted key))) NoColon (λ colon.
+    ofDigits (digits (startTrimmed (drop (colon + 1) s)))))
 
 -- document 01's number of each case; the place of the key is the caller's to add
 abbrev pub keyValueNumbered : KeyValue → Numbered

@@ -41,7 +41,8 @@ pub enum Function {
 }
 
 pub fn find_function(contract: &[u8]) -> Function
-    ensures { λ r. ⌜ (r ≡ functionOf (now (contract .entry))) × (functionNumbered r ≡ functionNumbered (functionOf (now (contract .entry)))) ⌝ }
+    ensures { λ r. ⌜ (r ≡ functionOf (now (contract .entry)))
+        × (functionNumbered r ≡ functionNumbered (functionOf (now (contract .entry)))) ⌝ }
 {
     let name = search::find(contract, b"fn ", 0);
     let Found::At(name_at) = name else {

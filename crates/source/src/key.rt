@@ -123,7 +123,8 @@ fn mark_of(key: &[u8]) -> Mark
 // The first place of a key of quotes alone. It stands at no place whose window, as long as the key in double quotes, has another byte. No
 // byte is read more than twice.
 fn find_quotes(s: &[u8], key: &[u8], at: usize, stop: usize) -> Found
-    requires { ⌜ (at ≤ stop) × (stop + length (now key) + 1 ≡ length (now s)) × Quotes (quoted (now key)) 0 (length (now key) + 2) ⌝ }
+    requires { ⌜ (at ≤ stop) × (stop + length (now key) + 1 ≡ length (now s))
+        × Quotes (quoted (now key)) 0 (length (now key) + 2) ⌝ }
     ensures { λ r. ⌜ r ≡ firstAt (quoted (now (key .entry))) (now (s .entry)) at ⌝ }
 {
     let mut i = at;

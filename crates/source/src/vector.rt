@@ -1,6 +1,7 @@
 // The vector's numbers.
 ghost use mathlib.Core.Path.{_≡_};
-ghost use Rattle.source.specs.Vector.{leadingNumber, vectorNumber, keyValueNumbered};
+ghost use Rattle.number.specs.Decimal.{digits};
+ghost use Rattle.source.specs.Vector.{ofDigits, vectorNumber, keyValueNumbered};
 use crate::key::find_quoted;
 use number::Value;
 use numbered::Numbered;
@@ -31,7 +32,8 @@ impl KeyValue {
 }
 
 pub fn json_u64_for_key(vector: &[u8], key: &[u8]) -> KeyValue
-    ensures { λ r. ⌜ (r ≡ vectorNumber (now (vector .entry)) (now (key .entry))) × (keyValueNumbered r ≡ keyValueNumbered (vectorNumber (now (vector .entry)) (now (key .entry)))) ⌝ }
+    ensures { λ r. ⌜ (r ≡ vectorNumber (now (vector .entry)) (now (key .entry)))
+        × (keyValueNumbered r ≡ keyValueNumbered (vectorNumber (now (vector .entry)) (now (key .entry)))) ⌝ }
 {
     let found = find_quoted(vector, key);
     let Found::At(at) = found else {
@@ -48,7 +50,7 @@ pub fn json_u64_for_key(vector: &[u8], key: &[u8]) -> KeyValue
 
 // The number that a text starts with.
 fn leading_number(text: &[u8]) -> KeyValue
-    ensures { λ r. ⌜ r ≡ leadingNumber (now (text .entry)) ⌝ }
+    ensures { λ r. ⌜ r ≡ ofDigits (digits (now (text .entry))) ⌝ }
 {
     let run = number::digits_at(text, 0);
     if run.len == 0 {

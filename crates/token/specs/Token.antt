@@ -5,6 +5,7 @@ use mathlib.Core.Bool.{Bool, true, false, cond, _&&_, _||_}
 use lib.Dec.{eqb}
 use lib.ListN.{length, drop}
 use Rattle.byte.specs.Range.{within}
+use Rattle.byte.specs.Texts.{unlessEmpty}
 use Rattle.number.specs.Decimal.{digit}
 use Rattle.token.specs.declared.Token.{Token}
 
@@ -35,17 +36,12 @@ abbrev pub extends : List ℕ → ℕ → Bool
 extends [] b = false
 extends (a ∷ w) b = goesOn a b
 
--- a token that ends, before those that follow; where nothing was read there is none
-abbrev pub ended : List ℕ → List (List ℕ) → List (List ℕ)
-ended [] ts = ts
-ended (a ∷ w) ts = (a ∷ w) ∷ ts
-
--- the tokens where w is read of the first
+-- the tokens where w is read of the first; where nothing was read there is none
 unfoldable pub scan : List ℕ → List ℕ → List (List ℕ)
-scan w [] = ended w []
+scan w [] = unlessEmpty w []
 scan w (a ∷ s) = elim (extends w a) [
   | true ↦ scan (w ++ a ∷ []) s
-  | false ↦ ended w (elim (space a) [ true ↦ scan [] s | false ↦ scan (a ∷ []) s ])
+  | false ↦ unlessEmpty w (elim (space a) [ true ↦ scan [] s | false ↦ scan (a ∷ []) s ])
 ]
 
 abbrev pub tokens : List ℕ → List (List ℕ)

@@ -2,9 +2,16 @@
 use Prim.Native.Nat.{ℕ, _+_, _-_, _≤_}
 use mathlib.Core.Path.{_≡_}
 use mathlib.Core.List.{List, [], _∷_, reverse}
-use mathlib.Core.Bool.{cond}
+use mathlib.Core.Bool.{Bool, cond}
 use lib.ListN.{length, drop, take}
-use Rattle.trim.specs.Trim.{white3, startTrimmed, back}
+use Rattle.trim.specs.Trim.{white2, white3, startTrimmed, back}
+
+-- the tests of `back`
+abbrev pub back2 : ℕ → ℕ → Bool
+back2 b a = white2 a b
+
+abbrev pub back3 : ℕ → ℕ → ℕ → Bool
+back3 c b a = white3 a b c
 
 -- `f` takes n bytes, of the `room` that there are, off the start of `t`, and goes on with `u`; or n is 0 and `t` stays as it is
 pub record Step (f : List ℕ → List ℕ) (t u : List ℕ) (room n : ℕ) : Type 0 where

@@ -40,15 +40,9 @@ module _ (two : ℕ → ℕ → Bool) (three : ℕ → ℕ → ℕ → Bool) whe
 abbrev pub startTrimmed : List ℕ → List ℕ
 startTrimmed s = trimmedBy white2 white3 s
 
--- a text from its last byte to its first: the bytes of a character stand the other way round
-abbrev pub back2 : ℕ → ℕ → Bool
-back2 b a = white2 a b
-
-abbrev pub back3 : ℕ → ℕ → ℕ → Bool
-back3 c b a = white3 a b c
-
+-- the same of a text from its last byte to its first: the bytes of a character stand the other way round
 abbrev pub back : List ℕ → List ℕ
-back s = trimmedBy back2 back3 s
+back s = trimmedBy (λ b a. white2 a b) (λ c b a. white3 a b c) s
 
 abbrev pub endTrimmed : List ℕ → List ℕ
 endTrimmed s = reverse (back (reverse s))

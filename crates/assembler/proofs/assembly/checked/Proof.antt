@@ -1,9 +1,13 @@
 -- `assembler::assembly::checked` meets its contract: the refusals 1 to 24 in their order.
 -- Assumes nothing.
+use Prim.Native.Nat.{ℕ}
 use mathlib.Core.Path.{sym, ap, subst, _∙_}
 use borrow.Author.Tests.{not-true, not-false}
 use denote.Ref.{now}
-use Rattle.assembler.specs.Assembled.{Assembled, functionRead}
+use Rattle.numbered.specs.Outcome.{Outcome, andThen}
+use Rattle.source.specs.declared.function.Function.{Function}
+use Rattle.expression.specs.Tree.{Tree}
+use Rattle.assembler.specs.Assembled.{functionRead, placesOf}
 use Rattle.assembler.specs.Concluded.{Concludes}
 use Rattle.assembler.proofs.Concluding.{concludes-off, no-contract, no-vector, both-readable, readable-short}
 use borrow.Author.Needs.{needs}
@@ -44,10 +48,10 @@ read-function-requires : tie.Need-read-function-requires
 read-function-requires c κs = let a = c .before .before .before .before .before .before .before .before .before .before .args in let s = now (a .contract) in let v = now (a .vector) in record { short = readable-short s (sym (c .before .before .before .before .before .before .before .is-readable .ensures) ∙ not-false _ (c .before .before .before .before .before .before .if1 .left)); found = sym (c .before .before .before .find-function .ensures .0) ∙ c .before .function2 .given .1 }
 
 returns-3 : tie.Need-returns-3
-returns-3 c = let a = c .before .before .before .before .before .before .before .before .before .before .before .args in let s = now (a .contract) in let v = now (a .vector) in concludes-off (c .rejected3 .ensures) (both-readable s v (sym (c .before .before .before .before .before .before .before .before .is-readable .ensures) ∙ not-false _ (c .before .before .before .before .before .before .before .if1 .left)) (sym (c .before .before .before .before .before .before .is-readable2 .ensures) ∙ not-false _ (c .before .before .before .before .before .if2 .left)) ∙ ap (functionRead s v) (sym (c .before .before .before .before .find-function .ensures .0) ∙ c .before .before .function .given .1))
+returns-3 c = let a = c .before .before .before .before .before .before .before .before .before .before .before .args in let s = now (a .contract) in let v = now (a .vector) in concludes-off (c .rejected3 .ensures) (both-readable s v (sym (c .before .before .before .before .before .before .before .before .is-readable .ensures) ∙ not-false _ (c .before .before .before .before .before .before .before .if1 .left)) (sym (c .before .before .before .before .before .before .is-readable2 .ensures) ∙ not-false _ (c .before .before .before .before .before .if2 .left)) ∙ ap (λ (f : Function). andThen (placesOf f) (functionRead s v)) (sym (c .before .before .before .before .find-function .ensures .0) ∙ c .before .before .function .given .1))
 
 returns-4 : tie.Need-returns-4
-returns-4 c = let a = c .before .before .before .before .before .before .before .before .before .before .before .args in let s = now (a .contract) in let v = now (a .vector) in subst (λ (o : Assembled). Concludes s v o (c .read-function .result)) (sym (both-readable s v (sym (c .before .before .before .before .before .before .before .before .is-readable .ensures) ∙ not-false _ (c .before .before .before .before .before .before .before .if1 .left)) (sym (c .before .before .before .before .before .before .is-readable2 .ensures) ∙ not-false _ (c .before .before .before .before .before .if2 .left)) ∙ ap (functionRead s v) (sym (c .before .before .before .before .find-function .ensures .0) ∙ c .before .before .function2 .given .1))) (c .read-function .ensures)
+returns-4 c = let a = c .before .before .before .before .before .before .before .before .before .before .before .args in let s = now (a .contract) in let v = now (a .vector) in subst (λ (o : Outcome (ℕ × Tree)). Concludes s v o (c .read-function .result)) (sym (both-readable s v (sym (c .before .before .before .before .before .before .before .before .is-readable .ensures) ∙ not-false _ (c .before .before .before .before .before .before .before .if1 .left)) (sym (c .before .before .before .before .before .before .is-readable2 .ensures) ∙ not-false _ (c .before .before .before .before .before .if2 .left)) ∙ ap (λ (f : Function). andThen (placesOf f) (functionRead s v)) (sym (c .before .before .before .before .find-function .ensures .0) ∙ c .before .before .function2 .given .1))) (c .read-function .ensures)
 
 pub checked-spec : {M : Type 1} → statement M
 checked-spec =

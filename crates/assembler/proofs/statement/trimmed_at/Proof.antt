@@ -3,7 +3,7 @@
 use mathlib.Core.Path.{sym, _∙_}
 use native.Mathlib.Omega.{arith}
 use denote.Ref.{now}
-use Rattle.assembler.specs.Statement.{letWord, returnWord}
+use Rattle.byte.specs.Ascii.{ascii}
 use Rattle.assembler.proofs.Places.{word-inside, at-let, at-return, at-neither}
 use borrow.Author.Needs.{needs}
 use Rattle.assembler.proofs.statement.trimmed_at.Statement.{statement}
@@ -25,10 +25,10 @@ starts-with-requires : tie.Need-starts-with-requires
 starts-with-requires c κs = search needs
 
 add-let-at : tie.Need-add-let-at
-add-let-at c = let a = c .before .before .before .before .before in let s = now (a .args .contract) in let b = word-inside s (a .args .start) (a .args .end) (a .pre .0) (a .pre .1) letWord (sym (c .before .starts-with .ensures) ∙ c .if1 .taken) in omega arith
+add-let-at c = let a = c .before .before .before .before .before in let s = now (a .args .contract) in let b = word-inside s (a .args .start) (a .args .end) (a .pre .0) (a .pre .1) (ascii "let ") (sym (c .before .starts-with .ensures) ∙ c .if1 .taken) in omega arith
 
 let-at-requires : tie.Need-let-at-requires
-let-at-requires c κs = let a = c .before .before .before .before .before in let s = now (a .args .contract) in let b = word-inside s (a .args .start) (a .args .end) (a .pre .0) (a .pre .1) letWord (sym (c .before .starts-with .ensures) ∙ c .if1 .taken) in (omega arith, omega arith)
+let-at-requires c κs = let a = c .before .before .before .before .before in let s = now (a .args .contract) in let b = word-inside s (a .args .start) (a .args .end) (a .pre .0) (a .pre .1) (ascii "let ") (sym (c .before .starts-with .ensures) ∙ c .if1 .taken) in (omega arith, omega arith)
 
 returns : tie.Need-returns
 returns c = let a = c .before .before .before .before .before .before in let s = now (a .args .contract) in c .let-at .ensures ∙ sym (at-let s (a .args .start) (a .args .end) (a .pre .0) (a .pre .1) (sym (c .before .before .starts-with .ensures) ∙ c .before .if1 .taken))
@@ -40,10 +40,10 @@ starts-with-requires-2 : tie.Need-starts-with-requires-2
 starts-with-requires-2 c κs = search needs
 
 add-trimmed-part : tie.Need-add-trimmed-part
-add-trimmed-part c = let a = c .before .before .before .before .before .before .before .before in let s = now (a .args .contract) in let b = word-inside s (a .args .start) (a .args .end) (a .pre .0) (a .pre .1) returnWord (sym (c .before .starts-with2 .ensures) ∙ c .if2 .taken) in omega arith
+add-trimmed-part c = let a = c .before .before .before .before .before .before .before .before in let s = now (a .args .contract) in let b = word-inside s (a .args .start) (a .args .end) (a .pre .0) (a .pre .1) (ascii "return ") (sym (c .before .starts-with2 .ensures) ∙ c .if2 .taken) in omega arith
 
 trimmed-part-requires : tie.Need-trimmed-part-requires
-trimmed-part-requires c κs = let a = c .before .before .before .before .before .before .before .before in let s = now (a .args .contract) in let b = word-inside s (a .args .start) (a .args .end) (a .pre .0) (a .pre .1) returnWord (sym (c .before .starts-with2 .ensures) ∙ c .if2 .taken) in (omega arith, omega arith)
+trimmed-part-requires c κs = let a = c .before .before .before .before .before .before .before .before in let s = now (a .args .contract) in let b = word-inside s (a .args .start) (a .args .end) (a .pre .0) (a .pre .1) (ascii "return ") (sym (c .before .starts-with2 .ensures) ∙ c .if2 .taken) in (omega arith, omega arith)
 
 returns-2 : tie.Need-returns-2
 returns-2 c = let a = c .before .before .before .before .before .before .before .before .before in let s = now (a .args .contract) in let e = at-return s (a .args .start) (a .args .end) (a .pre .0) (a .pre .1) (sym (c .before .before .before .before .before .starts-with .ensures) ∙ c .before .before .before .before .if1 .left) (sym (c .before .before .starts-with2 .ensures) ∙ c .before .if2 .taken) in cc

@@ -1,6 +1,6 @@
 -- `expression::names::is_same` meets its contract: what is left of the two parts is the same exactly where they are.
 use lib.ListN.{take, drop}
-use Rattle.expression.specs.Parse.{sameText}
+use Rattle.byte.specs.Equal.{equal}
 use Rattle.expression.proofs.Lookup.{sameFrom, same-start, same-more, same-stop, same-end}
 use Prim.Native.Nat.{_-_, _≤_}
 use mathlib.Core.Path.{_≡_, sym, _∙_}
@@ -11,7 +11,7 @@ use Rattle.expression.proofs.names.is_same.Statement.{statement}
 use Rattle.expression.proofs.names.is_same.Tie as tie
 
 abbrev Inv-loop : tie.InvT-loop
-Inv-loop text a b len i₀ i = (i ≤ len) × (sameText (take len (drop a text)) (take len (drop b text)) ≡ sameFrom text a b len i)
+Inv-loop text a b len i₀ i = (i ≤ len) × (equal (take len (drop a text)) (take len (drop b text)) ≡ sameFrom text a b len i)
 
 abbrev μ-loop : tie.MeasureT-loop
 μ-loop text a b len i₀ i = len - i

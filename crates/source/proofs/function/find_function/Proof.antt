@@ -1,9 +1,10 @@
 -- `source::function::find_function` meets its contract: by what each search finds, from the place on that the one before gave.
 use Prim.Native.Nat.{ℕ, _+_}
 use mathlib.Core.Path.{_≡_, sym, _∙_}
-use mathlib.Core.List.{List, [], _∷_}
+use mathlib.Core.List.{List}
 use native.Mathlib.Omega.{arith}
 use denote.Ref.{now}
+use Rattle.byte.specs.Ascii.{ascii}
 use Rattle.search.specs.declared.Found.the-variants.{At}
 use Rattle.search.specs.First.{firstAt}
 use Rattle.source.specs.Function.{functionNumbered}
@@ -36,19 +37,19 @@ name-at c = sym (c .before .before .find .ensures) ∙ c .name .given .1
 abbrev text-left : tie.After-left → List ℕ
 text-left c = text-name (c .before .before .before .before)
 
-left-at : (c : tie.After-left) → firstAt (0x28 ∷ []) (text-left c) (c .before .before .before .before .name .given .0 .0 + 3) ≡ At (c .left .given .0 .0)
+left-at : (c : tie.After-left) → firstAt (ascii "(") (text-left c) (c .before .before .before .before .name .given .0 .0 + 3) ≡ At (c .left .given .0 .0)
 left-at c = sym (c .before .before .find-byte .ensures) ∙ c .left .given .1
 
 abbrev text-right : tie.After-right → List ℕ
 text-right c = text-left (c .before .before .before .before)
 
-right-at : (c : tie.After-right) → firstAt (0x29 ∷ []) (text-right c) (c .before .before .before .before .left .given .0 .0 + 1) ≡ At (c .right .given .0 .0)
+right-at : (c : tie.After-right) → firstAt (ascii ")") (text-right c) (c .before .before .before .before .left .given .0 .0 + 1) ≡ At (c .right .given .0 .0)
 right-at c = sym (c .before .before .find-byte2 .ensures) ∙ c .right .given .1
 
 abbrev text-brace : tie.After-brace → List ℕ
 text-brace c = text-right (c .before .before .before .before)
 
-brace-at : (c : tie.After-brace) → firstAt (0x7B ∷ []) (text-brace c) (c .before .before .before .before .right .given .0 .0 + 1) ≡ At (c .brace .given .0 .0)
+brace-at : (c : tie.After-brace) → firstAt (ascii "{") (text-brace c) (c .before .before .before .before .right .given .0 .0 + 1) ≡ At (c .brace .given .0 .0)
 brace-at c = sym (c .before .before .find-byte3 .ensures) ∙ c .brace .given .1
 
 returns : tie.Need-returns
@@ -72,7 +73,7 @@ returns-2 c =
     with-number functionNumbered (sym (no-parameters (text-name name) _ (name-at name) (sym (c .before .before .find-byte .ensures) ∙ c .enum-told2 .given .1)))
 
 add-params-start : tie.Need-add-params-start
-add-params-start c = let i = in-text (0x28 ∷ []) (text-left (c .before)) _ _ (left-at (c .before)) in omega arith
+add-params-start c = let i = in-text (ascii "(") (text-left (c .before)) _ _ (left-at (c .before)) in omega arith
 
 find-byte-requires-2 : tie.Need-find-byte-requires-2
 find-byte-requires-2 c κs = search needs
@@ -90,7 +91,7 @@ returns-3 c =
     with-number functionNumbered (sym (unclosed-parameters (text-left left) _ (name-at name) _ (left-at left) (sym (c .before .before .find-byte2 .ensures) ∙ c .enum-told3 .given .1)))
 
 add-after-params : tie.Need-add-after-params
-add-after-params c = let i = in-text (0x29 ∷ []) (text-right (c .before)) _ _ (right-at (c .before)) in omega arith
+add-after-params c = let i = in-text (ascii ")") (text-right (c .before)) _ _ (right-at (c .before)) in omega arith
 
 find-byte-requires-3 : tie.Need-find-byte-requires-3
 find-byte-requires-3 c κs = search needs
@@ -109,7 +110,7 @@ returns-4 c =
     with-number functionNumbered (sym (no-body (text-right right) _ (name-at name) _ (left-at left) _ (right-at right) (sym (c .before .before .find-byte3 .ensures) ∙ c .enum-told4 .given .1)))
 
 add-body-start : tie.Need-add-body-start
-add-body-start c = let i = in-text (0x7B ∷ []) (text-brace (c .before)) _ _ (brace-at (c .before)) in omega arith
+add-body-start c = let i = in-text (ascii "{") (text-brace (c .before)) _ _ (brace-at (c .before)) in omega arith
 
 find-byte-requires-4 : tie.Need-find-byte-requires-4
 find-byte-requires-4 c κs = search needs

@@ -1,15 +1,17 @@
 -- `source::vector::json_u64_for_key` meets its contract: by what each search finds, and the number behind the colon.
 use Prim.Native.Nat.{ℕ, _+_, _≤_}
 use mathlib.Core.Path.{_≡_, sym, ap, _∙_}
-use mathlib.Core.List.{List, [], _∷_}
+use mathlib.Core.List.{List}
 use native.Mathlib.Omega.{arith}
 use lib.ListN.{length}
 use denote.Ref.{now}
+use Rattle.byte.specs.Ascii.{ascii}
 use Rattle.byte.proofs.Parts.{rest}
 use Rattle.search.specs.declared.Found.the-variants.{At}
 use Rattle.search.specs.First.{firstAt}
 use Rattle.trim.specs.Trim.{startTrimmed}
-use Rattle.source.specs.Vector.{quoted, leadingNumber, keyValueNumbered}
+use Rattle.number.specs.Decimal.{digits}
+use Rattle.source.specs.Vector.{quoted, ofDigits, keyValueNumbered}
 use Rattle.source.proofs.Found.{in-text}
 use Rattle.source.proofs.Numbers.{with-number}
 use Rattle.source.proofs.Keys.{quoted-length, no-key, no-colon, number-behind}
@@ -51,10 +53,10 @@ add-after-key-2 c =
 find-byte-requires : tie.Need-find-byte-requires
 find-byte-requires c κs = search needs
 
-colon-sought : (c : tie.After-find-byte) → let f = c .before .before in c .find-byte .result ≡ firstAt (0x3A ∷ []) (vector f) (f .found .given .0 .0 + length (quoted (key f)))
+colon-sought : (c : tie.After-find-byte) → let f = c .before .before in c .find-byte .result ≡ firstAt (ascii ":") (vector f) (f .found .given .0 .0 + length (quoted (key f)))
 colon-sought c =
     let f = c .before .before in
-    c .find-byte .ensures ∙ ap (λ (n : ℕ). firstAt (0x3A ∷ []) (vector f) (f .found .given .0 .0 + n)) (sym (quoted-length (key f)))
+    c .find-byte .ensures ∙ ap (λ (n : ℕ). firstAt (ascii ":") (vector f) (f .found .given .0 .0 + n)) (sym (quoted-length (key f)))
 
 enum-known-colon : tie.Need-enum-known-colon
 enum-known-colon c = search needs
@@ -67,11 +69,11 @@ returns-2 c =
     let found = c .before .before .before .before in
     with-number keyValueNumbered (sym (no-colon (vector found) (key found) _ (key-at found) (sym (colon-sought (c .before .before)) ∙ c .enum-told2 .given .1)))
 
-colon-at : (c : tie.After-colon) → let f = c .before .before .before .before in firstAt (0x3A ∷ []) (vector f) (f .found .given .0 .0 + length (quoted (key f))) ≡ At (c .colon .given .0 .0)
+colon-at : (c : tie.After-colon) → let f = c .before .before .before .before in firstAt (ascii ":") (vector f) (f .found .given .0 .0 + length (quoted (key f))) ≡ At (c .colon .given .0 .0)
 colon-at c = sym (colon-sought (c .before .before)) ∙ c .colon .given .1
 
 colon-inside : (c : tie.After-colon) → c .colon .given .0 .0 + 1 ≤ length (vector (c .before .before .before .before))
-colon-inside c = in-text (0x3A ∷ []) (vector (c .before .before .before .before)) _ _ (colon-at c) .1
+colon-inside c = in-text (ascii ":") (vector (c .before .before .before .before)) _ _ (colon-at c) .1
 
 add-start : tie.Need-add-start
 add-start c = omega (arith, colon-inside (c .before))
@@ -97,7 +99,7 @@ returns-3 c =
     let found = colon .before .before .before .before in
     with-number keyValueNumbered
     (c .leading-number .ensures
-    ∙ ap leadingNumber (c .before .trim-start .ensures .text ∙ ap startTrimmed (rest (vector found) (colon .colon .given .0 .0 + 1)))
+    ∙ ap (λ (t : List ℕ). ofDigits (digits t)) (c .before .trim-start .ensures .text ∙ ap startTrimmed (rest (vector found) (colon .colon .given .0 .0 + 1)))
     ∙ sym (number-behind (vector found) (key found) _ (key-at found) _ (colon-at colon)))
 
 pub json-u64-for-key-spec : {M : Type 1} → statement M

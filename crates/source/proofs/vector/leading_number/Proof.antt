@@ -4,7 +4,7 @@ use lib.ListN.{length}
 use denote.Ref.{now}
 use Rattle.number.specs.Decimal.{digits}
 use Rattle.number.specs.declared.Digits.{Digits}
-use Rattle.source.specs.Vector.{leadingNumber}
+use Rattle.source.specs.Vector.{ofDigits}
 use Rattle.source.proofs.Numbers.{asKeyValue, no-digit, some-digits}
 use borrow.Author.Needs.{needs}
 use Rattle.source.proofs.vector.leading_number.Statement.{statement}
@@ -16,7 +16,7 @@ digits-at-requires c κs = search needs
 len-is : (c : tie.After-digits-at) → c .digits-at .result .len ≡ length (digits (now (c .before .before .args .text)))
 len-is c = ap (λ (d : Digits). d .len) (c .digits-at .ensures)
 
-number-is : (c : tie.Else1) → leadingNumber (now (c .before .before .before .before .args .text)) ≡ asKeyValue (c .before .before .digits-at .result .value)
+number-is : (c : tie.Else1) → ofDigits (digits (now (c .before .before .before .before .args .text))) ≡ asKeyValue (c .before .before .digits-at .result .value)
 number-is c =
     some-digits (digits (now (c .before .before .before .before .args .text))) (λ z. c .if1 .left (len-is (c .before .before) ∙ z))
     ∙ ap (λ (d : Digits). asKeyValue (d .value)) (sym (c .before .before .digits-at .ensures))
