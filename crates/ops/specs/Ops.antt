@@ -4,6 +4,7 @@ use mathlib.Core.Path.{_≡_}
 use mathlib.Core.List.{List, [], _∷_, _++_, map}
 use mathlib.Core.Bool.{cond}
 use lib.ListN.{length, getD, take, drop}
+pub use Rattle.kinds.specs.Kinds.{Operation}
 use Rattle.utf8.specs.Utf8.{utf8}
 use Rattle.lines.specs.Lines.{lines}
 use Rattle.lines.specs.Cursor.{span, lineAt}
@@ -18,10 +19,6 @@ use Rattle.ops.specs.declared.ParsedOps.{ParsedOps}
 use Rattle.ops.specs.declared.ParsedOps.the-variants.{Read, Refused}
 use Rattle.ops.specs.declared.line.LineRead.{LineRead}
 use Rattle.ops.specs.declared.line.LineRead.the-variants.{Skip, Op, Bad}
-
-pub record Operation : Type 0 where
-  pub kind : ℕ
-  pub operand : ℕ
 
 pub data Reading : Type 0 where
   ops : List Operation → Reading
