@@ -11,8 +11,8 @@ use Rattle.trim.specs.Trim.{trimmed, passed}
 use Rattle.ops.specs.Ops.{readText, answerOf, opsOf, kindsOf, operandsOf, onto, lineNumbered}
 use Rattle.ops.specs.Numbers.{parsedOpsNumbered}
 use Rattle.assembler.specs.Output.{Assembly, assemblyNumbered}
-use Rattle.vm.specs.Transition.{Result}
-use Rattle.vm.specs.Numbers.{answerNumbered}
+use Rattle.perform.specs.Numbers.{answerNumbered}
+use Rattle.perform.specs.Run.{Result}
 use Rattle.atc_vm.specs.Words.{Tells}
 
 pub record Assembled (a : Assembly) (out outAfter words : List ℕ) (r : ℕ) : Type 0 where

@@ -3,8 +3,8 @@ ghost use mathlib.Core.Path.{_≡_};
 ghost use lib.ListN.{length};
 ghost use Rattle.context.specs.Gate.{gateOf, gateNumbered};
 ghost use Rattle.assembler.specs.Output.{assembled};
-ghost use Rattle.vm.specs.Verify.{verifyOf};
-ghost use Rattle.vm.specs.Numbers.{checkNumbered};
+ghost use Rattle.checks.specs.Verify.{verifyOf};
+ghost use Rattle.checks.specs.Numbers.{checkNumbered};
 ghost use Rattle.vm.specs.Transition.{meteredOf, transitionOf};
 ghost use Rattle.atc_vm.specs.Words.{Tells};
 ghost use Rattle.atc_vm.specs.Calls.{Assembled, Read, Ran, placeNumbered};
@@ -12,8 +12,8 @@ use lines::Step;
 use numbered::Numbered;
 use numbered::carrying_two;
 use numbered::plain;
+use perform::State;
 use source::parameters::trimmed_span;
-use vm::State;
 
 fn tell(answer: &mut [u64; 8], n: Numbered) -> u64
     ensures { λ r. ⌜ Tells n (now (answer .exit)) r ⌝ }
@@ -31,7 +31,8 @@ pub extern "C" fn atc_assemble(
     out: &mut [u8],
     answer: &mut [u64; 8],
 ) -> u64
-    ensures { λ r. ⌜ Assembled (assembled (now (contract .entry)) (now (vector .entry)) (now (stem .entry)) (length (now (out .entry)))) (now (out .entry)) (now (out .exit)) (now (answer .exit)) r ⌝ }
+    ensures { λ r. ⌜ Assembled (assembled (now (contract .entry)) (now (vector .entry)) (now (stem .entry)) (length (now (out .entry))))
+        (now (out .entry)) (now (out .exit)) (now (answer .exit)) r ⌝ }
 {
     let assembled = assembly::assemble(contract, vector, stem, out);
     tell(answer, assembled.numbered())
@@ -44,7 +45,8 @@ pub extern "C" fn atc_parse_ops(
     operands: &mut [u64],
     answer: &mut [u64; 8],
 ) -> u64
-    ensures { λ r. ⌜ Read (now (text .entry)) (now (kinds .entry)) (now (operands .entry)) (now (kinds .exit)) (now (operands .exit)) (now (answer .exit)) r ⌝ }
+    ensures { λ r. ⌜ Read (now (text .entry)) (now (kinds .entry)) (now (operands .entry))
+        (now (kinds .exit)) (now (operands .exit)) (now (answer .exit)) r ⌝ }
 {
     let read = ops::parse_ops(text, kinds, operands);
     tell(answer, read.numbered())
@@ -80,7 +82,9 @@ pub extern "C" fn atc_execution_gate(
     expected_protocol: &[u8],
     expected_vm: &[u8],
 ) -> u64
-    ensures { λ r. ⌜ r ≡ gateNumbered (gateOf (now («chain_id» .entry)) (now («network_id» .entry)) (now («genesis_id» .entry)) (now («protocol_version» .entry)) (now («vm_version» .entry)) (now («computed_genesis_id» .entry)) (now («expected_protocol» .entry)) (now («expected_vm» .entry))) .number ⌝ }
+    ensures { λ r. ⌜ r ≡ gateNumbered (gateOf (now («chain_id» .entry)) (now («network_id» .entry)) (now («genesis_id» .entry))
+        (now («protocol_version» .entry)) (now («vm_version» .entry)) (now («computed_genesis_id» .entry))
+        (now («expected_protocol» .entry)) (now («expected_vm» .entry))) .number ⌝ }
 {
     let gate = context::execution_gate(
         chain_id,
@@ -105,7 +109,7 @@ pub extern "C" fn atc_verify(
 ) -> u64
     ensures { λ r. ⌜ Tells (checkNumbered (verifyOf (now (kinds .entry)) (now (operands .entry)) used)) (now (answer .exit)) r ⌝ }
 {
-    let check = vm::verify::verify(kinds, operands, used as usize);
+    let check = checks::verify(kinds, operands, used as usize);
     tell(answer, check.numbered())
 }
 
@@ -121,7 +125,18 @@ pub extern "C" fn atc_run_with_gas(
     used: u64,
     answer: &mut [u64; 8],
 ) -> u64
-    ensures { λ r. ⌜ Ran (meteredOf (now (kinds .entry)) (now (operands .entry)) caller «gas_limit» (now (stack .entry)) (now (work .entry)) (now (storage .entry)) (record { used = used })) (now (stack .exit)) (now (work .exit)) (now (storage .exit)) (now (answer .exit)) r ⌝ }
+    ensures { λ r. ⌜ Ran
+        (meteredOf (record {
+          kinds = now (kinds .entry);
+          operands = now (operands .entry);
+          caller = caller;
+          limit = «gas_limit»;
+          state = record { used = used };
+          stack = now (stack .entry);
+          work = now (work .entry);
+          storage = now (storage .entry);
+        }))
+        (now (stack .exit)) (now (work .exit)) (now (storage .exit)) (now (answer .exit)) r ⌝ }
 {
     let state = State {
         used: used as usize,
@@ -159,7 +174,22 @@ pub extern "C" fn atc_execute_state_transition_with_gas(
     used: u64,
     answer: &mut [u64; 8],
 ) -> u64
-    ensures { λ r. ⌜ Ran (transitionOf (gateOf (now («chain_id» .entry)) (now («network_id» .entry)) (now («genesis_id» .entry)) (now («protocol_version» .entry)) (now («vm_version» .entry)) (now («computed_genesis_id» .entry)) (now («expected_protocol» .entry)) (now («expected_vm» .entry))) (now (kinds .entry)) (now (operands .entry)) caller «gas_limit» (now (stack .entry)) (now (work .entry)) (now (storage .entry)) (record { used = used })) (now (stack .exit)) (now (work .exit)) (now (storage .exit)) (now (answer .exit)) r ⌝ }
+    ensures { λ r. ⌜ Ran
+        (transitionOf
+        (gateOf (now («chain_id» .entry)) (now («network_id» .entry)) (now («genesis_id» .entry))
+        (now («protocol_version» .entry)) (now («vm_version» .entry)) (now («computed_genesis_id» .entry))
+        (now («expected_protocol» .entry)) (now («expected_vm» .entry)))
+        (record {
+          kinds = now (kinds .entry);
+          operands = now (operands .entry);
+          caller = caller;
+          limit = «gas_limit»;
+          state = record { used = used };
+          stack = now (stack .entry);
+          work = now (work .entry);
+          storage = now (storage .entry);
+        }))
+        (now (stack .exit)) (now (work .exit)) (now (storage .exit)) (now (answer .exit)) r ⌝ }
 {
     let state = State {
         used: used as usize,
@@ -204,7 +234,22 @@ pub extern "C" fn atc_execute_state_transition(
     used: u64,
     answer: &mut [u64; 8],
 ) -> u64
-    ensures { λ r. ⌜ Ran (transitionOf (gateOf (now («chain_id» .entry)) (now («network_id» .entry)) (now («genesis_id» .entry)) (now («protocol_version» .entry)) (now («vm_version» .entry)) (now («computed_genesis_id» .entry)) (now («expected_protocol» .entry)) (now («expected_vm» .entry))) (now (kinds .entry)) (now (operands .entry)) caller 0 (now (stack .entry)) (now (work .entry)) (now (storage .entry)) (record { used = used })) (now (stack .exit)) (now (work .exit)) (now (storage .exit)) (now (answer .exit)) r ⌝ }
+    ensures { λ r. ⌜ Ran
+        (transitionOf
+        (gateOf (now («chain_id» .entry)) (now («network_id» .entry)) (now («genesis_id» .entry))
+        (now («protocol_version» .entry)) (now («vm_version» .entry)) (now («computed_genesis_id» .entry))
+        (now («expected_protocol» .entry)) (now («expected_vm» .entry)))
+        (record {
+          kinds = now (kinds .entry);
+          operands = now (operands .entry);
+          caller = caller;
+          limit = 0;
+          state = record { used = used };
+          stack = now (stack .entry);
+          work = now (work .entry);
+          storage = now (storage .entry);
+        }))
+        (now (stack .exit)) (now (work .exit)) (now (storage .exit)) (now (answer .exit)) r ⌝ }
 {
     atc_execute_state_transition_with_gas(
         chain_id,

@@ -9,9 +9,8 @@ use Rattle.ops.specs.Ops.{Reading, ops, refused, answerOf, opsOf, kindsOf, oper
 use Rattle.ops.specs.declared.OpsError.{OpsError}
 use Rattle.ops.specs.declared.ParsedOps.{ParsedOps}
 use Rattle.ops.specs.declared.ParsedOps.the-variants as parsed
-use Rattle.vm.specs.declared.Answer.{Answer}
-use Rattle.vm.specs.Numbers.{answerNumbered}
-use Rattle.vm.specs.Transition.{Meets}
+use Rattle.perform.specs.declared.Answer.{Answer}
+use Rattle.perform.specs.Run.{Meets}
 use Rattle.assembler.specs.declared.refusal.Refusal.{Refusal}
 use Rattle.assembler.specs.Output as Output
 use Rattle.assembler.specs.Output.{success}
@@ -21,44 +20,44 @@ use Rattle.assembly.specs.Answers.{Assembles}
 use Rattle.compile.specs.declared.Compiled.{Compiled}
 use Rattle.compile.specs.declared.Compiled.the-variants.{NotAssembled, NotRead, Ran}
 use Rattle.compiled.proofs.Sized.{sized-as}
-use Rattle.compiled.specs.Call.{Buffers, Call, assemblyOf, readingOf, transitionOn}
+use Rattle.compiled.specs.Call.{Compilation, Left, assemblyOf, readingOf, transitionOn}
 use Rattle.compile.specs.Answer.{ran}
 use Rattle.compile.specs.Compile.{thenRun, thenRead, compileOf, Composes}
 
-abbrev buffers : (out kinds operands stack work storage : List ℕ) → Buffers
+abbrev buffers : (out kinds operands stack work storage : List ℕ) → Left
 buffers out kinds operands stack work storage = record { out = out; kinds = kinds; operands = operands; stack = stack; work = work; storage = storage }
 
-module _ (x : Call) where
+module _ (x : Compilation) where
   -- a success of assembly, which leaves o in its buffer
   pub record Written (o : List ℕ) (n k p v : ℕ) : Type 0 where
     pub answer : success n k p v ≡ assemblyOf x .answer
-    pub buffer : o ≡ onto (assemblyOf x .text) (x .lent .out)
+    pub buffer : o ≡ onto (assemblyOf x .text) (x .out)
     pub text : take n o ≡ assemblyOf x .text
 
   -- a reading y that answers r and leaves ks and vs in its buffers
   record Reads (y : Reading) (r : ParsedOps) (ks vs : List ℕ) : Type 0 where
     pub answer : r ≡ answerOf y
-    pub kinds : ks ≡ onto (kindsOf (opsOf y)) (x .lent .kinds)
-    pub operands : vs ≡ onto (operandsOf (opsOf y)) (x .lent .operands)
+    pub kinds : ks ≡ onto (kindsOf (opsOf y)) (x .run .kinds)
+    pub operands : vs ≡ onto (operandsOf (opsOf y)) (x .run .operands)
 
   module _ {o : List ℕ} where
-    pub is-written : {r : assembly.Answer} {n k p v : ℕ} → Assembles (assemblyOf x) (x .lent .out) o r → r ≡ Success n k p v → Written o n k p v
+    pub is-written : {r : assembly.Answer} {n k p v : ℕ} → Assembles (assemblyOf x) (x .out) o r → r ≡ Success n k p v → Written o n k p v
     is-written {r} {n} b e =
-        let a = subst (λ (z : assembly.Answer). Assembles (assemblyOf x) (x .lent .out) o z) e b in
+        let a = subst (λ (z : assembly.Answer). Assembles (assemblyOf x) (x .out) o z) e b in
         let text = assemblyOf x .text in
         record {
           answer = a .answer;
           buffer = a .buffer;
-          text = ap (take n) (a .buffer) ∙ take-at text (drop (length text) (x .lent .out)) n (sized-as (x .contract) (x .vector) (x .stem) (length (x .lent .out)) (a .answer));
+          text = ap (take n) (a .buffer) ∙ take-at text (drop (length text) (x .out)) n (sized-as (x .contract) (x .vector) (x .stem) (length (x .out)) (a .answer));
         }
 
-    pub not-assembled : {r : assembly.Answer} {why : Refusal} → Assembles (assemblyOf x) (x .lent .out) o r → r ≡ Refused why
-        → Composes (compileOf x) (NotAssembled why) (buffers o (x .lent .kinds) (x .lent .operands) (x .lent .stack) (x .lent .work) (x .lent .storage))
+    pub not-assembled : {r : assembly.Answer} {why : Refusal} → Assembles (assemblyOf x) (x .out) o r → r ≡ Refused why
+        → Composes (compileOf x) (NotAssembled why) (buffers o (x .run .kinds) (x .run .operands) (x .run .stack) (x .run .work) (x .run .storage))
     unfolding compileOf
     not-assembled {r} {why} b e =
-        let a = subst (λ (z : assembly.Answer). Assembles (assemblyOf x) (x .lent .out) o z) e b in
-        let kept : o ≡ x .lent .out = a .buffer ∙ ap (λ (l : List ℕ). onto l (x .lent .out)) (sized-as (x .contract) (x .vector) (x .stem) (length (x .lent .out)) (a .answer)) in
-        subst (λ (z : Output.Answer). Composes (thenRead x z) (NotAssembled why) (buffers o (x .lent .kinds) (x .lent .operands) (x .lent .stack) (x .lent .work) (x .lent .storage))) (a .answer)
+        let a = subst (λ (z : assembly.Answer). Assembles (assemblyOf x) (x .out) o z) e b in
+        let kept : o ≡ x .out = a .buffer ∙ ap (λ (l : List ℕ). onto l (x .out)) (sized-as (x .contract) (x .vector) (x .stem) (length (x .out)) (a .answer)) in
+        subst (λ (z : Output.Answer). Composes (thenRead x z) (NotAssembled why) (buffers o (x .run .kinds) (x .run .operands) (x .run .stack) (x .run .work) (x .run .storage))) (a .answer)
         (record { answer = refl; number = refl; out = kept; kinds = refl; operands = refl; stack = refl; work = refl; storage = refl })
 
     module _ {n k p v : ℕ} (a : Written o n k p v) where
@@ -68,19 +67,19 @@ module _ (x : Call) where
       follows {r} {ks} {vs} {s} {w} {m} c = subst (λ (z : Output.Answer). Composes (thenRead x z) r (buffers o ks vs s w m)) (a .answer) c
 
       module _ {ks vs : List ℕ} where
-        reads : {q r : ParsedOps} → Parsed (take n o) (x .lent .kinds) (x .lent .operands) ks vs q → q ≡ r → Reads (readingOf x) r ks vs
+        reads : {q r : ParsedOps} → Parsed (take n o) (x .run .kinds) (x .run .operands) ks vs q → q ≡ r → Reads (readingOf x) r ks vs
         reads {q} b e =
-            let u = subst (λ (l : List ℕ). Parsed l (x .lent .kinds) (x .lent .operands) ks vs q) (a .text) b in
+            let u = subst (λ (l : List ℕ). Parsed l (x .run .kinds) (x .run .operands) ks vs q) (a .text) b in
             record { answer = sym e ∙ u .answer; kinds = u .kindsWritten; operands = u .operandsWritten }
 
-        stopped : {e : OpsError} (y : Reading) → Reads y (parsed.Refused e) ks vs → Composes (thenRun x n k p v y) (NotRead e) (buffers o ks vs (x .lent .stack) (x .lent .work) (x .lent .storage))
+        stopped : {e : OpsError} (y : Reading) → Reads y (parsed.Refused e) ks vs → Composes (thenRun x n k p v y) (NotRead e) (buffers o ks vs (x .run .stack) (x .run .work) (x .run .storage))
         stopped (ops os) r = absurd (let z : _≡_ {A = ℕ} 0 1 = cc (r .answer) in omega arith)
         stopped (refused e) r = record { answer = cc (r .answer); number = cc (r .answer); out = a .buffer; kinds = r .kinds; operands = r .operands; stack = refl; work = refl; storage = refl }
 
-        finished : {s w m : List ℕ} {j : ℕ} {t : Answer} (y : Reading) → Reads y (parsed.Read j) ks vs → Meets (transitionOn x ks vs) (x .state) t s w m → Composes (thenRun x n k p v y) (Ran n k p v j t) (buffers o ks vs s w m)
+        finished : {s w m : List ℕ} {j : ℕ} {t : Answer} (y : Reading) → Reads y (parsed.Read j) ks vs → Meets (transitionOn x ks vs) (x .run .state) t s w m → Composes (thenRun x n k p v y) (Ran n k p v j t) (buffers o ks vs s w m)
         finished (refused e) r q = absurd (let z : _≡_ {A = ℕ} 0 1 = cc (r .answer) in omega arith)
         finished {s} {w} {m} {j} {t} (ops os) r q =
-            let u = subst (λ (l : List ℕ). Meets (transitionOn x l (onto (operandsOf os) (x .lent .operands))) (x .state) t s w m) (r .kinds) (subst (λ (l : List ℕ). Meets (transitionOn x ks l) (x .state) t s w m) (r .operands) q) in
+            let u = subst (λ (l : List ℕ). Meets (transitionOn x l (onto (operandsOf os) (x .run .operands))) (x .run .state) t s w m) (r .kinds) (subst (λ (l : List ℕ). Meets (transitionOn x ks l) (x .run .state) t s w m) (r .operands) q) in
             let j-is : j ≡ length os = cc (r .answer) in
             record {
               answer = ap (λ (i : ℕ). ran n k p v i t) j-is ∙ ap (ran n k p v (length os)) (u .answer);
@@ -93,10 +92,10 @@ module _ (x : Call) where
               storage = u .storage;
             }
 
-        pub not-read : {r : ParsedOps} {e : OpsError} → Parsed (take n o) (x .lent .kinds) (x .lent .operands) ks vs r → r ≡ parsed.Refused e
-            → Composes (compileOf x) (NotRead e) (buffers o ks vs (x .lent .stack) (x .lent .work) (x .lent .storage))
+        pub not-read : {r : ParsedOps} {e : OpsError} → Parsed (take n o) (x .run .kinds) (x .run .operands) ks vs r → r ≡ parsed.Refused e
+            → Composes (compileOf x) (NotRead e) (buffers o ks vs (x .run .stack) (x .run .work) (x .run .storage))
         not-read q e = follows (stopped (readingOf x) (reads q e))
 
-        pub has-run : {r : ParsedOps} {j : ℕ} {t : Answer} {s w m : List ℕ} → Parsed (take n o) (x .lent .kinds) (x .lent .operands) ks vs r → r ≡ parsed.Read j → Meets (transitionOn x ks vs) (x .state) t s w m
+        pub has-run : {r : ParsedOps} {j : ℕ} {t : Answer} {s w m : List ℕ} → Parsed (take n o) (x .run .kinds) (x .run .operands) ks vs r → r ≡ parsed.Read j → Meets (transitionOn x ks vs) (x .run .state) t s w m
             → Composes (compileOf x) (Ran n k p v j t) (buffers o ks vs s w m)
         has-run q e t = follows (finished (readingOf x) (reads q e) t)

@@ -5,11 +5,11 @@ use mathlib.Core.Path.{_≡_, sym, ap, subst, _∙_}
 use lib.ListN.{length}
 use Rattle.ops.specs.declared.ParsedOps.the-variants.{Read}
 use Rattle.ops.specs.Ops.{Reading, ops, refused, answerOf, opsOf}
-use Rattle.vm.specs.declared.Answer.{Answer}
 use Rattle.ops.specs.Numbers.{parsedOpsNumbered}
-use Rattle.vm.specs.Numbers.{answerNumbered}
-use Rattle.vm.specs.Transition as Transition
-use Rattle.compiled.specs.Call.{Buffers, Call, readingOf}
+use Rattle.perform.specs.declared.Answer.{Answer}
+use Rattle.perform.specs.Numbers.{answerNumbered}
+use Rattle.perform.specs.Run as Run
+use Rattle.compiled.specs.Call.{Compilation, Left, readingOf, withProgram}
 use Rattle.compiled.specs.Statement.{Found, Hypotheses, Statement, foundBy, foundIn}
 use Rattle.compiled.proofs.CompileStatement.{compile-statement}
 use Rattle.compiled.proofs.Told.{read-told, used-told}
@@ -26,7 +26,7 @@ ran-is (NotAssembled why) e = absurd (let z : _≡_ {A = ℕ} 0 1 = cc in omega 
 ran-is (NotRead x) e = absurd (let z : _≡_ {A = ℕ} 0 1 = cc in omega arith)
 ran-is (Ran n k p v j a) e = cc
 
-module _ (x : Call) (n k p v : ℕ) where
+module _ (x : Compilation) (n k p v : ℕ) where
   -- where j operations are read
   abbrev finished : ℕ → Reading → Result
   finished j y = record { answer = ran n k p v j (runOn x (readIn x (opsOf y)) .answer); left = ranIn x (readIn x (opsOf y)) }
@@ -39,22 +39,28 @@ module _ (x : Call) (n k p v : ℕ) where
   unfolding compileOf
   finishes h q = ap (thenRead x) (h .accepts) ∙ read-is (readingOf x) (2 * k) q
 
-module _ (x : Call) {r : Compiled} {b : Buffers} (c : Composes (compileOf x) r b) where
+module _ (x : Compilation) {r : Compiled} {b : Left} (c : Composes (compileOf x) r b) where
   delivered : (n k p v : ℕ) → Hypotheses x n k p v → Delivered x n k p v r b
   delivered n k p v h =
       let st = compile-statement x n k p v h in
       let reads = read-told (answerOf (readingOf x)) (2 * k) (st .reads) in
       let d = subst (λ (z : Result). Composes z r b) (finishes x n k p v h reads) c in
-      let program : Buffers = readIn x (opsOf (readingOf x)) in
-      let t : Transition.Result = runOn x program in
-      let found : foundBy x ≡ foundIn (parsedOpsNumbered (Read (2 * k))) (answerNumbered (t .answer)) (x .state .used) b = λ i. record {
+      let program : Left = readIn x (opsOf (readingOf x)) in
+      let t : Run.Result = runOn x program in
+      let found : foundBy x ≡ foundIn (parsedOpsNumbered (Read (2 * k))) (answerNumbered (t .answer)) (x .run .state .used) b = λ i. record {
         reading = parsedOpsNumbered (reads i);
         kinds = sym (d .kinds) i;
         operands = sym (d .operands) i;
-        ending = record { numbered = answerNumbered (t .answer); used = used-told x (program .kinds) (program .operands) i; stack = sym (d .stack) i; work = sym (d .work) i; storage = sym (d .storage) i };
+        ending = record {
+          numbered = answerNumbered (t .answer);
+          used = used-told (x .context) (withProgram (x .run) (program .kinds) (program .operands)) i;
+          stack = sym (d .stack) i;
+          work = sym (d .work) i;
+          storage = sym (d .storage) i;
+        };
       } in
       record { transition = t .answer; answer = ran-is r (d .answer); states = subst (λ (y : Found). Statement x k p v y) found st }
 
--- both promises of a call
-pub both : {x : Call} {r : Compiled} {b : Buffers} → Composes (compileOf x) r b → Composes (compileOf x) r b × Delivers x r b
-both {x} c = (c, record { delivers = delivered x c })
+-- what a call promises
+pub delivers : {x : Compilation} {r : Compiled} {b : Left} → Composes (compileOf x) r b → Delivers x r b
+delivers {x} c = record { composes = c; states = delivered x c }

@@ -2,7 +2,7 @@
 use Prim.Native.Nat.{ℕ}
 use Rattle.numbered.specs.declared.Numbered.{Numbered}
 use Rattle.ops.specs.declared.OpsError.{OpsError}
-use Rattle.vm.specs.declared.Answer as vm
+use Rattle.perform.specs.declared.Answer as perform
 use Rattle.assembler.specs.Numbers.{refusalNumbered}
 use Rattle.compile.specs.declared.Compiled.{Compiled}
 use Rattle.compile.specs.declared.Compiled.the-variants.{NotAssembled, NotRead, Ran}
@@ -11,7 +11,7 @@ use Rattle.compile.specs.declared.Compiled.the-variants.{NotAssembled, N
 pub data Answer : Type 0 where
   notAssembled : Numbered → Answer
   notRead : OpsError → Answer
-  ran : (written k p value operations : ℕ) → vm.Answer → Answer
+  ran : (written k p value operations : ℕ) → perform.Answer → Answer
 
 abbrev pub answerOf : Compiled → Answer
 answerOf (NotAssembled why) = notAssembled (refusalNumbered why)

@@ -5,10 +5,10 @@ use mathlib.Core.List.{List}
 use lib.ListN.{length}
 use Rattle.kinds.specs.Kinds.{Operation}
 use Rattle.ops.specs.Ops.{Reading, ops, refused, kindsOf, operandsOf, onto}
-use Rattle.vm.specs.Transition as Transition
+use Rattle.perform.specs.Run as Run
 use Rattle.assembler.specs.Output as Output
 use Rattle.assembler.specs.Output.{success, refusal}
-use Rattle.compiled.specs.Call.{Buffers, Call, assemblyOf, readingOf, transitionOn}
+use Rattle.compiled.specs.Call.{Compilation, Left, assemblyOf, readingOf, transitionOn}
 use Rattle.compile.specs.declared.Compiled.{Compiled}
 use Rattle.compile.specs.Answer.{Answer, notAssembled, notRead, ran, answerOf}
 use Rattle.compile.specs.Numbers.{numbered, compiledNumbered}
@@ -16,43 +16,67 @@ use Rattle.compile.specs.Numbers.{numbered, compiledNumbered}
 -- the answer, and what is left in the buffers
 pub record Result : Type 0 where
   pub answer : Answer
-  pub left : Buffers
+  pub left : Left
 
--- the buffers when assembly has written its text, and then reading its operations
-abbrev pub assembledIn : Call → Buffers
+-- the buffers as they are lent; when assembly has written its text; and then reading its operations
+abbrev pub lent : Compilation → Left
+lent x = record {
+  out = x .out;
+  kinds = x .run .kinds;
+  operands = x .run .operands;
+  stack = x .run .stack;
+  work = x .run .work;
+  storage = x .run .storage;
+}
+
+abbrev pub assembledIn : Compilation → Left
 assembledIn x =
-    let b : Buffers = x .lent in
-    record { out = onto (assemblyOf x .text) (b .out); kinds = b .kinds; operands = b .operands; stack = b .stack; work = b .work; storage = b .storage }
+    let b : Left = lent x in
+    record {
+      out = onto (assemblyOf x .text) (b .out);
+      kinds = b .kinds;
+      operands = b .operands;
+      stack = b .stack;
+      work = b .work;
+      storage = b .storage;
+    }
 
-abbrev pub readIn : Call → List Operation → Buffers
+abbrev pub readIn : Compilation → List Operation → Left
 readIn x os =
-    let b : Buffers = assembledIn x in
-    record { out = b .out; kinds = onto (kindsOf os) (b .kinds); operands = onto (operandsOf os) (b .operands); stack = b .stack; work = b .work; storage = b .storage }
+    let b : Left = assembledIn x in
+    record {
+      out = b .out;
+      kinds = onto (kindsOf os) (b .kinds);
+      operands = onto (operandsOf os) (b .operands);
+      stack = b .stack;
+      work = b .work;
+      storage = b .storage;
+    }
 
 -- the transition takes all of both program buffers
-abbrev pub runOn : Call → Buffers → Transition.Result
+abbrev pub runOn : Compilation → Left → Run.Result
 runOn x b = transitionOn x (b .kinds) (b .operands)
 
-abbrev pub ranIn : Call → Buffers → Buffers
+abbrev pub ranIn : Compilation → Left → Left
 ranIn x b =
-    let t : Transition.Result = runOn x b in
+    let t : Run.Result = runOn x b in
     record { out = b .out; kinds = b .kinds; operands = b .operands; stack = t .stack; work = t .work; storage = t .storage }
 
 -- after a reading, assembly's success being n, k, p and v
-abbrev pub thenRun : Call → (n k p v : ℕ) → Reading → Result
+abbrev pub thenRun : Compilation → (n k p v : ℕ) → Reading → Result
 thenRun x n k p v (refused e) = record { answer = notRead e; left = assembledIn x }
 thenRun x n k p v (ops os) = record { answer = ran n k p v (length os) (runOn x (readIn x os) .answer); left = ranIn x (readIn x os) }
 
 -- after an assembly
-abbrev pub thenRead : Call → Output.Answer → Result
-thenRead x (refusal r) = record { answer = notAssembled r; left = x .lent }
+abbrev pub thenRead : Compilation → Output.Answer → Result
+thenRead x (refusal r) = record { answer = notAssembled r; left = lent x }
 thenRead x (success n k p v) = thenRun x n k p v (readingOf x)
 
-unfoldable pub compileOf : Call → Result
+unfoldable pub compileOf : Compilation → Result
 compileOf x = thenRead x (assemblyOf x .answer)
 
 -- a call's answer r and the buffers b at its exit are those of a result
-pub record Composes (c : Result) (r : Compiled) (b : Buffers) : Type 0 where
+pub record Composes (c : Result) (r : Compiled) (b : Left) : Type 0 where
   pub answer : answerOf r ≡ c .answer
   pub number : compiledNumbered r ≡ numbered (c .answer)
   pub out : b .out ≡ c .left .out

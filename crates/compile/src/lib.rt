@@ -2,13 +2,13 @@
 ghost use mathlib.Core.Path.{_≡_};
 ghost use Rattle.context.specs.Gate.{gateOf};
 ghost use Rattle.compile.specs.Numbers.{compiledNumbered};
-ghost use Rattle.compile.specs.Compile.{compileOf, Composes};
 ghost use Rattle.compile.specs.Delivery.{Delivers};
 use assembler::refusal::Refusal;
 use numbered::Numbered;
 use ops::OpsError;
 use ops::ParsedOps;
-use vm::State;
+use perform::Answer;
+use perform::State;
 
 // A refusal of assembly or reading ends the call. Otherwise: what assembly and reading gave, and the transition's answer.
 pub enum Compiled {
@@ -20,7 +20,7 @@ pub enum Compiled {
         p: u64,
         value: u64,
         operations: usize,
-        answer: vm::Answer,
+        answer: Answer,
     },
 }
 
@@ -67,8 +67,35 @@ pub fn compile(
     storage: &mut [u64],
     state: State,
 ) -> Compiled
-    ensures composes { λ r. ⌜ Composes (compileOf (record { contract = now (contract .entry); vector = now (vector .entry); stem = now (stem .entry); context = gateOf (now («chain_id» .entry)) (now («network_id» .entry)) (now («genesis_id» .entry)) (now («protocol_version» .entry)) (now («vm_version» .entry)) (now («computed_genesis_id» .entry)) (now («expected_protocol» .entry)) (now («expected_vm» .entry)); caller = caller; limit = «gas_limit»; state = state; lent = record { out = now (out .entry); kinds = now (kinds .entry); operands = now (operands .entry); stack = now (stack .entry); work = now (work .entry); storage = now (storage .entry) } })) r (record { out = now (out .exit); kinds = now (kinds .exit); operands = now (operands .exit); stack = now (stack .exit); work = now (work .exit); storage = now (storage .exit) }) ⌝ }
-    ensures states { λ r. ⌜ Delivers (record { contract = now (contract .entry); vector = now (vector .entry); stem = now (stem .entry); context = gateOf (now («chain_id» .entry)) (now («network_id» .entry)) (now («genesis_id» .entry)) (now («protocol_version» .entry)) (now («vm_version» .entry)) (now («computed_genesis_id» .entry)) (now («expected_protocol» .entry)) (now («expected_vm» .entry)); caller = caller; limit = «gas_limit»; state = state; lent = record { out = now (out .entry); kinds = now (kinds .entry); operands = now (operands .entry); stack = now (stack .entry); work = now (work .entry); storage = now (storage .entry) } }) r (record { out = now (out .exit); kinds = now (kinds .exit); operands = now (operands .exit); stack = now (stack .exit); work = now (work .exit); storage = now (storage .exit) }) ⌝ }
+    ensures { λ r. ⌜ Delivers
+        (record {
+          contract = now (contract .entry);
+          vector = now (vector .entry);
+          stem = now (stem .entry);
+          out = now (out .entry);
+          context = gateOf (now («chain_id» .entry)) (now («network_id» .entry)) (now («genesis_id» .entry))
+              (now («protocol_version» .entry)) (now («vm_version» .entry)) (now («computed_genesis_id» .entry))
+              (now («expected_protocol» .entry)) (now («expected_vm» .entry));
+          run = record {
+            kinds = now (kinds .entry);
+            operands = now (operands .entry);
+            caller = caller;
+            limit = «gas_limit»;
+            state = state;
+            stack = now (stack .entry);
+            work = now (work .entry);
+            storage = now (storage .entry);
+          };
+        })
+        r
+        (record {
+          out = now (out .exit);
+          kinds = now (kinds .exit);
+          operands = now (operands .exit);
+          stack = now (stack .exit);
+          work = now (work .exit);
+          storage = now (storage .exit);
+        }) ⌝ }
 {
     let assembled = assembly::assemble(contract, vector, stem, out);
     match assembled {

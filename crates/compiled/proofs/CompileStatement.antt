@@ -9,13 +9,13 @@ use lib.ListN.{length}
 use Rattle.byte.proofs.Tests.{by-bool}
 use Rattle.ops.specs.Ops.{Reading, ops, readText, answerOf, opsOf, kindsOf, operandsOf, onto}
 use Rattle.ops.specs.Numbers.{parsedOpsNumbered}
-use Rattle.vm.specs.Verify.{buffersFit}
+use Rattle.checks.specs.Verify.{buffersFit}
 use Rattle.expression.specs.Tree.{Tree, kOf, pOf}
 use Rattle.numbered.specs.declared.Numbered.{Numbered}
 use Rattle.numbered.specs.Numbered.{plain, carrying}
 use Rattle.assembler.specs.Assembled.{Assembled, accepted, rejected, assembledTree}
 use Rattle.assembler.specs.Output.{stemFits, operationsOf, output, success, refusal, named, assembled}
-use Rattle.compiled.specs.Call.{Call, readingOf}
+use Rattle.compiled.specs.Call.{Compilation, readingOf}
 use Rattle.compiled.specs.Statement.{Hypotheses, Statement, foundBy}
 use Rattle.assembler.proofs.Accepted.{accepted-is}
 use Rattle.compiled.proofs.Operations.{operations-length}
@@ -47,14 +47,14 @@ module _ (stem : List ℕ) (room n k p v : ℕ) where
       (λ b. not-success (plain 26) (simp (a, b) at e)))
       (λ a. not-success (plain 25) (simp a at e))
 
-pub compile-statement : (x : Call) (n k p v : ℕ) → Hypotheses x n k p v → Statement x k p v (foundBy x)
+pub compile-statement : (x : Compilation) (n k p v : ℕ) → Hypotheses x n k p v → Statement x k p v (foundBy x)
 unfolding assembled
 compile-statement x n k p v a =
-    let d = named-is (x .stem) (length (x .lent .out)) n k p v (assembledTree (x .contract) (x .vector)) (a .accepts) in
+    let d = named-is (x .stem) (length (x .out)) n k p v (assembledTree (x .contract) (x .vector)) (a .accepts) in
     let t = d .tree in
     let is = accepted-is (x .vector) v t (x .contract) (d .assembles) in
-    let kinds = x .lent .kinds in
-    let operands = x .lent .operands in
+    let kinds = x .run .kinds in
+    let operands = x .run .operands in
     let k-is = d .k-counts in
     let ks-room = a .kindsRoom in
     let vs-room = a .operandsRoom in
@@ -69,7 +69,7 @@ compile-statement x n k p v a =
     let count : length (operationsOf t) ≡ 2 * k = operations-length t ∙ ap (λ (i : ℕ). 2 * i) (sym k-is) in
     let ks-is : length kinds ≡ 2 * kOf t = omega arith in
     let vs-is : length operands ≡ 2 * kOf t = omega arith in
-    let fit : buffersFit (2 * kOf t) (2 * kOf t) (length (x .lent .stack)) (length (x .lent .work)) (length (x .lent .storage)) (x .state .used) ≡ true = rw (ks-is, vs-is) at (a .lent) in
+    let fit : buffersFit (2 * kOf t) (2 * kOf t) (length (x .run .stack)) (length (x .run .work)) (length (x .run .storage)) (x .run .state .used) ≡ true = rw (ks-is, vs-is) at (a .lent) in
     record {
       tree = t;
       assembles = d .assembles;
@@ -81,5 +81,5 @@ compile-statement x n k p v a =
       kindsFilled = ks-full;
       operandsFilled = vs-full;
       operations = count;
-      transition = rw (ks-full, vs-full, a .passes) (transition t v (is .value) (is .fits .0) (is .fits .1) (x .caller) (x .limit) (x .lent .stack) (x .lent .work) (x .lent .storage) (x .state) fit (a .used));
+      transition = rw (ks-full, vs-full, a .passes) (transition t v (is .value) (is .fits .0) (is .fits .1) (x .run) fit (a .used));
     }

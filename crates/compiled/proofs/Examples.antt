@@ -5,27 +5,26 @@ use mathlib.Core.Path.{_≡_, refl}
 use mathlib.Core.List.{List, [], _∷_}
 use mathlib.Core.Option.{some}
 use lib.ListN.{replicate}
+use Rattle.byte.specs.Ascii.{ascii}
 use Rattle.word.specs.Apply.{add}
 use Rattle.numbered.specs.declared.Numbered.{Numbered}
 use Rattle.numbered.specs.Numbered.{carrying, plain}
 use Rattle.number.specs.Decimal.{decimal}
 use Rattle.token.specs.Token.{scan}
-use Rattle.byte.specs.Ascii.{ascii}
 use Rattle.ops.specs.Ops.{Reading, opsOf, kindsOf, operandsOf, onto}
 use Rattle.context.specs.declared.Gate.the-variants as gate
-use Rattle.machine.specs.declared.Refusal.the-variants.{OutOfGas, StackLimitExceeded}
-use Rattle.machine.specs.Machine.{whole}
-use Rattle.vm.specs.declared.State.{State}
-use Rattle.vm.specs.declared.Answer.the-variants.{Success}
-use Rattle.vm.specs.Numbers.{answerNumbered}
-use Rattle.vm.specs.Transition.{ofRun}
+use Rattle.machine.specs.Machine.{outOfGas, stackLimitExceeded, whole}
+use Rattle.perform.specs.declared.State.{State}
+use Rattle.perform.specs.declared.Answer.the-variants.{Success}
+use Rattle.perform.specs.Numbers.{answerNumbered}
+use Rattle.perform.specs.Call.{Call}
+use Rattle.perform.specs.Run.{ofRun}
 use Rattle.expression.specs.Tree.{Tree, num, bin, valueOf, kOf, pOf}
 use Rattle.expression.specs.Parse.{parseF, meaning}
 use Rattle.assembler.specs.State.{each}
 use Rattle.assembler.specs.Assembled.{assembledTree}
-use Rattle.assembler.specs.Output.{output, assembled}
-use Rattle.compiled.specs.Counting.{program}
-use Rattle.compiled.specs.Call.{Buffers, Call, readingOf, transitionOn}
+use Rattle.assembler.specs.Output.{operationsOf, output, assembled}
+use Rattle.compiled.specs.Call.{Compilation, readingOf, transitionOn}
 use Rattle.compiled.specs.Statement.{gasOf, SucceedsWith, Hypotheses, Statement, foundBy}
 use Rattle.compiled.proofs.CompileStatement.{compile-statement}
 use Rattle.compiled.proofs.Told.{told}
@@ -38,15 +37,24 @@ tally = ascii "fn total (a, b) {\n  let s = a + b\n  return s * 2\n}\n"
 vector : List ℕ
 vector = ascii "{\"a\": 5, \"b\": 7, \"expected\": 24}"
 
--- buffers that hold what they may; no storage is lent
-abbrev lent : Buffers
-lent = record { out = replicate 4096 9; kinds = replicate 6 9; operands = replicate 6 9; stack = replicate 4096 9; work = []; storage = [] }
-
 abbrev unused : State
 unused = record { used = 0 }
 
-abbrev call : ℕ → ℕ → Call
-call caller g = record { contract = tally; vector = vector; stem = ascii "tally"; context = gate.Passed; caller = caller; limit = g; state = unused; lent = lent }
+-- buffers that hold what they may; no storage is lent
+abbrev run : ℕ → ℕ → Call
+run caller g = record {
+  kinds = replicate 6 9;
+  operands = replicate 6 9;
+  caller = caller;
+  limit = g;
+  state = unused;
+  stack = replicate 4096 9;
+  work = [];
+  storage = [];
+}
+
+abbrev call : ℕ → ℕ → Compilation
+call caller g = record { contract = tally; vector = vector; stem = ascii "tally"; out = replicate 4096 9; context = gate.Passed; run = run caller g }
 
 -- 67 bytes are written
 tally-accepted : (caller g : ℕ) → Hypotheses (call caller g) 67 3 2 24
@@ -58,7 +66,7 @@ tally-stated caller g = compile-statement (call caller g) 67 3 2 24 (tally-accep
 
 -- with a limit of 7 or more: 24, for 7 gas and 6 operations
 module _ (caller g : ℕ) (h : 7 ≤ g) where
-  tally-succeeds : SucceedsWith (tally-stated caller g .tree) 24 0 (lent .stack) (foundBy (call caller g) .ending)
+  tally-succeeds : SucceedsWith (tally-stated caller g .tree) 24 0 (replicate 4096 9) (foundBy (call caller g) .ending)
   tally-succeeds =
       let stated = tally-stated caller g in
       let k = stated .k-counts in
@@ -71,7 +79,7 @@ module _ (caller g : ℕ) (h : 7 ≤ g) where
   abbrev reading : Reading
   reading = readingOf (call caller g)
 
-  tally-answers : transitionOn (call caller g) (onto (kindsOf (opsOf reading)) (lent .kinds)) (onto (operandsOf (opsOf reading)) (lent .operands)) .answer ≡ Success 7 6 1 unused
+  tally-answers : transitionOn (call caller g) (onto (kindsOf (opsOf reading)) (replicate 6 9)) (onto (operandsOf (opsOf reading)) (replicate 6 9)) .answer ≡ Success 7 6 1 unused
   tally-answers = told (tally-runs .0)
 
 -- n sums
@@ -83,18 +91,18 @@ counts : (kOf (nest 4096) ≡ 4097) × (pOf (nest 4096) ≡ 4097) × (valueOf (n
 unfolding nest
 counts = (refl, refl, refl)
 
-at-4096 : meter (nest 4096) 4096 0 ≡ broke (OutOfGas 1 0)
+at-4096 : meter (nest 4096) 4096 0 ≡ broke (outOfGas 1 0)
 unfolding nest meter
 at-4096 = refl
 
-at-4097 : meter (nest 4096) 4097 0 ≡ broke StackLimitExceeded
+at-4097 : meter (nest 4096) 4097 0 ≡ broke stackLimitExceeded
 unfolding nest meter
 at-4097 = refl
 
-module _ (c room n : ℕ) (m used : List ℕ) (state : State) where
+module _ (x : Call) (c room : ℕ) (used : List ℕ) where
   -- the number of the answer under the limit g, and what it carries
   abbrev numbered : ℕ → Numbered
-  numbered g = answerNumbered (ofRun g state n m (whole (program (nest 4096)) c room g used) .answer)
+  numbered g = answerNumbered (ofRun x (whole (operationsOf (nest 4096)) c room g used) .answer)
 
   -- with 4096 the push that would meet 4,096 items is not paid, with 4097 it is
   short : numbered 4096 ≡ carrying 46 (1 ∷ 0 ∷ [])
@@ -112,6 +120,6 @@ at-12286 : meter (nest 4095) 12286 0 ≡ left 0
 unfolding nest meter
 at-12286 = refl
 
-at-12285 : meter (nest 4095) 12285 0 ≡ broke (OutOfGas 2 1)
+at-12285 : meter (nest 4095) 12285 0 ≡ broke (outOfGas 2 1)
 unfolding nest meter
 at-12285 = refl

@@ -5,25 +5,24 @@ use mathlib.Core.Path.{_≡_, refl, ap, _∙_}
 use mathlib.Core.List.{List, [], _∷_, _++_, map}
 use lib.ListN.{length, length-append}
 use Rattle.word.specs.Apply.{Binary, add, sub, mul, div, eq, lt}
-use Rattle.kinds.specs.Kinds.{Operation}
+use Rattle.kinds.specs.Kinds.{Operation, operation}
 use Rattle.ops.specs.Ops.{kindsOf, operandsOf}
 use Rattle.ops.specs.Written.{cleared, IsOperation, Each, none, one}
-use Rattle.machine.specs.Operation.{opOf, decode}
-use Rattle.vm.specs.declared.Check.the-variants.{Passed}
-use Rattle.vm.specs.Verify.{operationCheck, operationsCheck}
+use Rattle.machine.specs.Machine.{halt, decode}
+use Rattle.checks.specs.declared.Check.the-variants.{Passed}
+use Rattle.checks.specs.Verify.{operationCheck, operationsCheck}
 use Rattle.expression.specs.Tree.{Tree, num, bin, kOf}
 use Rattle.expression.specs.Written.{operatorOf, opsOf}
 use Rattle.expression.proofs.Written.{ops-length}
 use Rattle.assembler.specs.Output.{operationsOf}
-use Rattle.compiled.specs.Counting.{program}
 use Rattle.assembler.proofs.Words.{Words}
 
 pub record Fine (o : Operation) : Type 0 where
   pub writable : IsOperation o
   pub same : cleared o ≡ o
-  pub passes : (n : ℕ) → operationCheck n (o .kind) (o .operand) ≡ Passed
+  pub passes : (n : ℕ) → operationCheck n o ≡ Passed
 
-each-append : {P : Operation → Type 0} {a b : List Operation} → Each P a → Each P b → Each P (a ++ b)
+pub each-append : {P : Operation → Type 0} {a b : List Operation} → Each P a → Each P b → Each P (a ++ b)
 each-append none q = q
 each-append (one p ps) q = one p (each-append ps q)
 
@@ -35,10 +34,10 @@ operator-fine div = record { writable = omega arith; same = refl; passes = λ n.
 operator-fine eq = record { writable = omega arith; same = refl; passes = λ n. refl }
 operator-fine lt = record { writable = omega arith; same = refl; passes = λ n. refl }
 
-number-fine : (n : ℕ) → n < 2 ^ 64 → Fine (record { kind = 0; operand = n })
+number-fine : (n : ℕ) → n < 2 ^ 64 → Fine (operation 0 n)
 number-fine n h = record { writable = omega arith; same = refl; passes = λ n. refl }
 
-halt-fine : Fine (record { kind = 15; operand = 0 })
+halt-fine : Fine halt
 halt-fine = record { writable = omega arith; same = refl; passes = λ n. refl }
 
 ops-fine : (t : Tree) → Words t → Each Fine (opsOf t)
@@ -53,7 +52,7 @@ k-positive (num n) = omega arith
 k-positive (bin op l r) = omega (arith, k-positive l)
 
 pub operations-length : (t : Tree) → length (operationsOf t) ≡ 2 * kOf t
-operations-length t = omega (arith, length-append (opsOf t) (record { kind = 15; operand = 0 } ∷ []), ops-length t)
+operations-length t = omega (arith, length-append (opsOf t) (halt ∷ []), ops-length t)
 
 pub all-writable : {os : List Operation} → Each Fine os → Each IsOperation os
 all-writable none = none
@@ -68,11 +67,8 @@ unfolding operationsCheck
 all-pass n none = refl
 all-pass n (one {a = o} {l = os} p ps) = rw (p .passes n) (all-pass n ps)
 
-decoded : (os : List Operation) → decode (kindsOf os) (operandsOf os) ≡ map (λ o. opOf (o .kind) (o .operand)) os
+-- the two buffers hold the program
+pub decoded : (os : List Operation) → decode (kindsOf os) (operandsOf os) ≡ os
 unfolding decode
 decoded [] = refl
-decoded (o ∷ os) = rw (decoded os)
-
--- the two buffers hold the tree's program
-pub decoded-program : (t : Tree) → decode (kindsOf (operationsOf t)) (operandsOf (operationsOf t)) ≡ program t
-decoded-program t = decoded (operationsOf t)
+decoded (o ∷ os) = ap (λ (l : List Operation). o ∷ l) (decoded os)

@@ -6,6 +6,7 @@ use mathlib.Core.List.{List, [], _∷_, _++_, append-assoc, append-nil}
 use mathlib.Core.Bool.{true, _&&_}
 use lib.Dec.{leb, ltb}
 use lib.ListN.{length, drop-of-length-le}
+use Rattle.byte.specs.Ascii.{ascii}
 use Rattle.byte.proofs.Tests.{and-left, and-right, between}
 use Rattle.utf8.specs.Utf8.{utf8}
 use Rattle.utf8.proofs.Lead.{one-is}
@@ -14,7 +15,6 @@ use Rattle.lines.specs.Lines.{feedFree}
 use Rattle.lines.proofs.Written.{free-cons, free-append}
 use Rattle.number.specs.Decimal.{digit, allDigits, decimal}
 use Rattle.number.proofs.Decimal.{allDigits-decimal}
-use Rattle.byte.specs.Ascii.{ascii}
 use Rattle.ops.specs.Ops.{ops, readText, onto}
 use Rattle.ops.specs.Written.{writtenAll, remarks, IsRemark, Each, none, one}
 use Rattle.ops.proofs.Written.{reads-written}

@@ -2,29 +2,30 @@
 use Prim.Native.Nat.{ℕ}
 use native.Mathlib.Omega.{arith}
 use mathlib.Core.Path.{_≡_, refl, sym, ap, _∙_}
-use mathlib.Core.List.{List, [], _∷_}
+use mathlib.Core.List.{[], _∷_}
 use mathlib.Core.Bool.{cond}
 use lib.Dec.{eqb}
 use lib.ListN.{length, getD, take}
 use Rattle.numbered.specs.declared.Numbered.{Numbered}
 use Rattle.context.specs.declared.ContextError.the-variants as context
-use Rattle.machine.specs.declared.Refusal.{Refusal}
-use Rattle.machine.specs.declared.Refusal.the-variants as refusal
-use Rattle.machine.specs.Operation.{decode}
-use Rattle.machine.specs.Machine.{Outcome, next, done, stop, whole}
+use Rattle.context.specs.declared.Gate.{Gate}
+use Rattle.machine.specs.Machine.{Outcome, next, done, stop, decode, whole}
+use Rattle.checks.specs.declared.Refusal.{Refusal}
+use Rattle.checks.specs.declared.Refusal.the-variants as refusal
+use Rattle.checks.specs.declared.Check.{Check}
+use Rattle.checks.specs.declared.Check.the-variants as check
+use Rattle.checks.specs.Verify.{gateCheck}
 use Rattle.ops.specs.declared.OpsError.the-variants as error
 use Rattle.ops.specs.declared.ParsedOps.{ParsedOps}
 use Rattle.ops.specs.declared.ParsedOps.the-variants as parsed
 use Rattle.ops.specs.Numbers.{parsedOpsNumbered}
-use Rattle.vm.specs.Numbers.{answerNumbered}
-use Rattle.vm.specs.declared.Check.{Check}
-use Rattle.vm.specs.declared.Check.the-variants as check
-use Rattle.vm.specs.Verify.{gateCheck}
-use Rattle.vm.specs.Transition.{Result, untouched, ofRun, afterCheck, checksOf}
-use Rattle.vm.specs.declared.Answer.{Answer}
-use Rattle.vm.specs.declared.Answer.the-variants.{Success, Refused}
+use Rattle.perform.specs.declared.Answer.{Answer}
+use Rattle.perform.specs.declared.Answer.the-variants.{Success, Refused}
+use Rattle.perform.specs.Numbers.{answerNumbered}
+use Rattle.perform.specs.Call.{Call}
+use Rattle.perform.specs.Run.{Result, refusalOf, ofRun}
+use Rattle.vm.specs.Transition.{afterCheck, checksOf, transitionOf}
 use Rattle.numbered.specs.Numbered.{carrying}
-use Rattle.compiled.specs.Call.{Call, transitionOn}
 use Rattle.compiled.specs.Statement.{usedAfter}
 
 -- the refusal of a number and its first two words
@@ -113,20 +114,16 @@ refused-used refusal.DivisionByZero used = refl
 refused-used (refusal.StorageLimitExceeded slots) used = refl
 refused-used refusal.OutsideStorage used = refl
 
-module _ (x : Call) (ks vs : List ℕ) where
-  abbrev result : Result
-  result = transitionOn x ks vs
+pub used-told : (context : Gate) (x : Call) → transitionOf context x .state .used ≡ usedAfter (answerNumbered (transitionOf context x .answer)) (x .state .used)
+used-told context x =
+    go (checksOf (gateCheck context) check.Passed x)
+    (whole (decode (x .kinds) (x .operands)) (x .caller) (length (x .storage)) (x .limit) (take (x .state .used) (x .storage)))
+  where
+    after : Check → Outcome → Result
+    after z o = afterCheck z x (ofRun x o)
 
-  pub used-told : result .state .used ≡ usedAfter (answerNumbered (result .answer)) (x .state .used)
-  used-told =
-      go (checksOf (gateCheck (x .context)) ks vs (x .lent .stack) (x .lent .work) (x .lent .storage) (x .state .used))
-      (whole (decode ks vs) (x .caller) (length (x .lent .storage)) (x .limit) (take (x .state .used) (x .lent .storage)))
-    where
-      after : Check → Outcome → Result
-      after z o = afterCheck z (λ f. untouched f (x .state) (x .lent .stack) (x .lent .work) (x .lent .storage)) (ofRun (x .limit) (x .state) (length (x .lent .stack)) (x .lent .storage) o)
-
-      go : (z : Check) (o : Outcome) → after z o .state .used ≡ usedAfter (answerNumbered (after z o .answer)) (x .state .used)
-      go (check.Refused f) o = sym (refused-used f (x .state .used))
-      go check.Passed (next h fr) = refl
-      go check.Passed (stop f) = sym (refused-used f (x .state .used))
-      go check.Passed (done h fr) = refl
+    go : (z : Check) (o : Outcome) → after z o .state .used ≡ usedAfter (answerNumbered (after z o .answer)) (x .state .used)
+    go (check.Refused f) o = sym (refused-used f (x .state .used))
+    go check.Passed (next h fr) = refl
+    go check.Passed (stop f) = sym (refused-used (refusalOf f) (x .state .used))
+    go check.Passed (done h fr) = refl

@@ -3,10 +3,9 @@ use mathlib.Core.Path.{refl}
 use Rattle.number.specs.Decimal.{decimal}
 use Rattle.token.specs.Token.{scan}
 use Rattle.expression.specs.Parse.{parseF, meaning}
-use Rattle.machine.specs.Operation.{decode}
-use Rattle.machine.specs.Machine.{runOf, whole}
-use Rattle.vm.specs.Verify.{operationsCheck}
-use Rattle.vm.specs.Transition.{up}
+use Rattle.machine.specs.Machine.{decode, runOf, whole}
+use Rattle.checks.specs.Verify.{operationsCheck}
+use Rattle.perform.specs.Run.{up}
 use Rattle.assembler.specs.State.{each}
 use Rattle.assembler.specs.Assembled.{assembledTree}
 use Rattle.assembler.specs.Output.{output, assembled}

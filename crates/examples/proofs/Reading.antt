@@ -8,9 +8,10 @@ use lib.Seq.{take-at}
 use Rattle.ops.specs.declared.ParsedOps.{ParsedOps}
 use Rattle.kinds.specs.Kinds.{Operation}
 use Rattle.ops.specs.Ops.{Reading, ops, refused, readText, answerOf, opsOf, onto, kindsOf, operandsOf, Parsed}
-use Rattle.vm.specs.declared.Answer.{Answer}
-use Rattle.vm.specs.Transition.{meteredOf, Meets}
-use Rattle.examples.specs.Runs.{operations, countOf, ran, zeros, plainly, four, onFour, Ends, Stores, nines, Fills}
+use Rattle.perform.specs.declared.Answer.{Answer}
+use Rattle.perform.specs.Run.{Meets}
+use Rattle.vm.specs.Transition.{meteredOf}
+use Rattle.examples.specs.Runs.{operations, countOf, call, ran, zeros, plainly, four, onFour, Ends, Stores, nines, Fills}
 
 pub counted : (r : Reading) → countOf (answerOf r) ≡ length (opsOf r)
 counted (ops os) = refl
@@ -55,11 +56,12 @@ front text ks vs ks′ vs′ r n m p e =
       operands = ap₂ take count atOperands ∙ operands-front os vs;
     }
 
-pub runs : (text : List ℕ) (n g : ℕ) (ks vs s w m s′ w′ m′ : List ℕ) (a : Answer) → Front text n ks vs → Meets (meteredOf (take n ks) (take n vs) 7 g s w m (record { used = 0 })) (record { used = 0 }) a s′ w′ m′ → Meets (ran text g s w m) (record { used = 0 }) a s′ w′ m′
+pub runs : (text : List ℕ) (n g : ℕ) (ks vs s w m s′ w′ m′ : List ℕ) (a : Answer) → Front text n ks vs
+    → Meets (meteredOf (call (take n ks) (take n vs) g s w m)) (record { used = 0 }) a s′ w′ m′ → Meets (ran text g s w m) (record { used = 0 }) a s′ w′ m′
 unfolding ran
 runs text n g ks vs s w m s′ w′ m′ a f h =
-    subst (λ (l : List ℕ). Meets (meteredOf (kindsOf (operations text)) l 7 g s w m (record { used = 0 })) (record { used = 0 }) a s′ w′ m′) (f .operands)
-    (subst (λ (l : List ℕ). Meets (meteredOf l (take n vs) 7 g s w m (record { used = 0 })) (record { used = 0 }) a s′ w′ m′) (f .kinds) h)
+    subst (λ (l : List ℕ). Meets (meteredOf (call (kindsOf (operations text)) l g s w m)) (record { used = 0 }) a s′ w′ m′) (f .operands)
+    (subst (λ (l : List ℕ). Meets (meteredOf (call l (take n vs) g s w m)) (record { used = 0 }) a s′ w′ m′) (f .kinds) h)
 
 -- runs on buffers that are known
 pub ends : (text : List ℕ) (g : ℕ) (s s′ w′ m′ : List ℕ) (a : Answer) → s ≡ zeros → Meets (ran text g s zeros zeros) (record { used = 0 }) a s′ w′ m′ → Ends (plainly text g) a s′

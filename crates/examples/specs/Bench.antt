@@ -8,12 +8,12 @@ use Rattle.numbered.specs.Numbered.{plain, carrying}
 use Rattle.ops.specs.Ops.{readText, answerOf}
 use Rattle.ops.specs.Numbers.{parsedOpsNumbered}
 use Rattle.context.specs.Gate.{gateOf, gateNumbered}
-use Rattle.vm.specs.Numbers.{answerNumbered}
+use Rattle.perform.specs.Numbers.{answerNumbered}
 use Rattle.assembler.specs.Output.{Assembly, assembled, assemblyNumbered}
-use Rattle.compiled.specs.Call.{Call}
+use Rattle.compiled.specs.Call.{Compilation}
 use Rattle.compile.specs.Numbers.{numbered}
 use Rattle.compile.specs.Compile.{compileOf}
-use Rattle.examples.specs.Runs.{operations, zeros, plainly, four, onFour}
+use Rattle.examples.specs.Runs.{operations, call, zeros, plainly, four, onFour}
 
 abbrev pub tally : List ℕ
 tally = ascii "fn total (a, b) {\n  let s = a + b\n  return s * 2\n}\n"
@@ -29,16 +29,14 @@ abbrev pub tallyAssembled : Assembly
 tallyAssembled = assembled tally tallyVector (ascii "tally") 4096
 
 -- through the three calls in a row, by caller 7 with a limit of 7 and this stack
-abbrev pub tallyCall : List ℕ → Call
+abbrev pub tallyCall : List ℕ → Compilation
 tallyCall stack = record {
   contract = tally;
   vector = tallyVector;
   stem = ascii "tally";
+  out = replicate 67 0;
   context = gateOf (ascii "atc") (ascii "devnet") (replicate 64 97) (ascii "1") (ascii "2") (replicate 64 97) (ascii "1") (ascii "2");
-  caller = 7;
-  limit = 7;
-  state = record { used = 0 };
-  lent = record { out = replicate 67 0; kinds = replicate 6 0; operands = replicate 6 0; stack = stack; work = four; storage = four };
+  run = call (replicate 6 0) (replicate 6 0) 7 stack four four;
 }
 
 abbrev pub precedence : List ℕ
@@ -80,7 +78,10 @@ pub record Bench : Type 0 where
   -- E8: `Push` alone is 30
   pub e8 : parsedOpsNumbered (answerOf (readText (ascii "Push") 4096)) ≡ carrying 30 (1 ∷ 0 ∷ 4 ∷ [])
   -- E9: `7 - 2 * 3` is 1, `8 / 2 / 2` is 2
-  pub e9-precedence : assemblyNumbered (assembled precedence (ascii "{\"expected\": 1}") (ascii "f") 4096 .answer) ≡ carrying 0 (62 ∷ 3 ∷ 3 ∷ 1 ∷ [])
-  pub e9-left : assemblyNumbered (assembled leftToRight (ascii "{\"expected\": 2}") (ascii "f") 4096 .answer) ≡ carrying 0 (62 ∷ 3 ∷ 2 ∷ 2 ∷ [])
+  pub e9-precedence : assemblyNumbered (assembled precedence (ascii "{\"expected\": 1}") (ascii "f") 4096 .answer)
+      ≡ carrying 0 (62 ∷ 3 ∷ 3 ∷ 1 ∷ [])
+  pub e9-left : assemblyNumbered (assembled leftToRight (ascii "{\"expected\": 2}") (ascii "f") 4096 .answer)
+      ≡ carrying 0 (62 ∷ 3 ∷ 2 ∷ 2 ∷ [])
   -- E10: 64 `A` against 64 `a` is 40
-  pub e10 : gateNumbered (gateOf (ascii "atc") (ascii "devnet") (replicate 64 65) (ascii "1") (ascii "2") (replicate 64 97) (ascii "1") (ascii "2")) ≡ plain 40
+  pub e10 : gateNumbered (gateOf (ascii "atc") (ascii "devnet") (replicate 64 65) (ascii "1") (ascii "2")
+      (replicate 64 97) (ascii "1") (ascii "2")) ≡ plain 40

@@ -7,8 +7,10 @@ use Rattle.kinds.specs.Kinds.{Operation}
 use Rattle.ops.specs.Ops.{readText, answerOf, opsOf, kindsOf, operandsOf, onto}
 use Rattle.ops.specs.declared.ParsedOps.{ParsedOps}
 use Rattle.ops.specs.declared.ParsedOps.the-variants.{Read, Refused}
-use Rattle.vm.specs.declared.Answer.{Answer}
-use Rattle.vm.specs.Transition.{Result, meteredOf}
+use Rattle.perform.specs.declared.Answer.{Answer}
+use Rattle.perform.specs.Call.{Call}
+use Rattle.perform.specs.Run.{Result}
+use Rattle.vm.specs.Transition.{meteredOf}
 
 -- a text that is refused has none
 abbrev pub operations : List ℕ → List Operation
@@ -18,9 +20,21 @@ abbrev pub countOf : ParsedOps → ℕ
 countOf (Read n) = n
 countOf (Refused e) = 0
 
--- with this limit, stack, work and storage
+-- a call by caller 7 with this program, limit, stack, work and storage
+abbrev pub call : (kinds operands : List ℕ) → ℕ → (s w m : List ℕ) → Call
+call kinds operands g s w m = record {
+  kinds = kinds;
+  operands = operands;
+  caller = 7;
+  limit = g;
+  state = record { used = 0 };
+  stack = s;
+  work = w;
+  storage = m;
+}
+
 unfoldable pub ran : List ℕ → ℕ → (s w m : List ℕ) → Result
-ran text g s w m = meteredOf (kindsOf (operations text)) (operandsOf (operations text)) 7 g s w m (record { used = 0 })
+ran text g s w m = meteredOf (call (kindsOf (operations text)) (operandsOf (operations text)) g s w m)
 
 abbrev pub zeros : List ℕ
 zeros = replicate 4096 0

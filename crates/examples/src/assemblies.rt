@@ -13,7 +13,8 @@ use assembly::assemble;
 
 pub fn tally(out: &mut [u8; 4096]) -> Answer
     requires { ⌜ now out ≡ zeros ⌝ }
-    ensures { λ a. ⌜ Gives (assemblyNumbered (answerOf a)) (carrying 0 (67 ∷ 3 ∷ 2 ∷ 24 ∷ [])) (now (out .exit)) (onto tallyOps zeros) ⌝ }
+    ensures { λ a. ⌜ Gives (assemblyNumbered (answerOf a)) (carrying 0 (67 ∷ 3 ∷ 2 ∷ 24 ∷ []))
+        (now (out .exit)) (onto tallyOps zeros) ⌝ }
 {
     assemble(
         b"fn total (a, b) {\n  let s = a + b\n  return s * 2\n}\n",

@@ -8,7 +8,7 @@ ghost use Rattle.examples.specs.Numbers.{Gives};
 ghost use Rattle.examples.specs.Runs.{zeros};
 use compile::Compiled;
 use compile::compile;
-use vm::State;
+use perform::State;
 
 pub fn tally(stack: &mut [u64; 4096]) -> Compiled
     requires { ⌜ now stack ≡ zeros ⌝ }

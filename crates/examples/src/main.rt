@@ -84,7 +84,7 @@ fn e7() {
     io::write_all(1, b"\n");
 }
 
-fn run_line(name: &[u8], a: vm::Answer) {
+fn run_line(name: &[u8], a: perform::Answer) {
     io::write_all(1, name);
     show::run(a);
     io::write_all(1, b"\n");

@@ -11,7 +11,8 @@ use ops::parse_ops;
 
 pub fn push_plus(kinds: &mut [u8; 4096], operands: &mut [u64; 4096]) -> ParsedOps
     requires { ⌜ (now kinds ≡ nines) × (now operands ≡ zeros) ⌝ }
-    ensures { λ r. ⌜ Gives (parsedOpsNumbered r) (carrying 0 (1 ∷ [])) (now (operands .exit)) (5 ∷ replicate 4095 0) × (now (kinds .exit) ≡ 0 ∷ replicate 4095 9) ⌝ }
+    ensures { λ r. ⌜ Gives (parsedOpsNumbered r) (carrying 0 (1 ∷ [])) (now (operands .exit)) (5 ∷ replicate 4095 0)
+        × (now (kinds .exit) ≡ 0 ∷ replicate 4095 9) ⌝ }
 {
     read(b"Push +5", kinds, operands)
 }

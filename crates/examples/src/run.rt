@@ -1,10 +1,10 @@
 // Runs of ops text by caller 7 with no storage used.
 ghost use mathlib.Core.Path.{_≡_};
-ghost use Rattle.vm.specs.Transition.{Meets};
+ghost use Rattle.perform.specs.Run.{Meets};
 ghost use Rattle.examples.specs.Runs.{countOf, ran, zeros, plainly, four, onFour, Ends, Stores};
 use ops::ParsedOps;
-use vm::Answer;
-use vm::State;
+use perform::Answer;
+use perform::State;
 
 // All buffers 4,096 long.
 pub fn plain(text: &[u8], limit: u64, stack: &mut [u64; 4096]) -> Answer
@@ -27,7 +27,8 @@ pub fn on_four(text: &[u8], storage: &mut [u64; 4]) -> Answer
 }
 
 fn run(text: &[u8], limit: u64, stack: &mut [u64], work: &mut [u64], storage: &mut [u64]) -> Answer
-    ensures { λ a. ⌜ Meets (ran (now (text .entry)) limit (now (stack .entry)) (now (work .entry)) (now (storage .entry))) (record { used = 0 }) a (now (stack .exit)) (now (work .exit)) (now (storage .exit)) ⌝ }
+    ensures { λ a. ⌜ Meets (ran (now (text .entry)) limit (now (stack .entry)) (now (work .entry)) (now (storage .entry)))
+        (record { used = 0 }) a (now (stack .exit)) (now (work .exit)) (now (storage .exit)) ⌝ }
 {
     let mut kinds = [0u8; 4096];
     let mut operands = [0u64; 4096];

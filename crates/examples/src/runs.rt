@@ -3,13 +3,13 @@ ghost use mathlib.Core.Path.{_≡_};
 ghost use mathlib.Core.List.{[], _∷_};
 ghost use lib.ListN.{replicate};
 ghost use Rattle.numbered.specs.Numbered.{plain, carrying};
-ghost use Rattle.vm.specs.Numbers.{answerNumbered};
+ghost use Rattle.perform.specs.Numbers.{answerNumbered};
 ghost use Rattle.examples.specs.Numbers.{Gives};
 ghost use Rattle.examples.specs.Runs.{zeros, four, plainly, Ends};
 ghost use Rattle.examples.specs.Bench.{tallyOps};
 use crate::run::on_four;
 use crate::run::plain;
-use vm::Answer;
+use perform::Answer;
 
 pub fn tally(stack: &mut [u64; 4096]) -> Answer
     requires { ⌜ now stack ≡ zeros ⌝ }

@@ -1,9 +1,10 @@
 // Answers and entries of buffers, each number behind a space.
+use checks::Refusal;
 use compile::Compiled;
 use context::Gate;
-use machine::Refusal;
 use ops::OpsError;
 use ops::ParsedOps;
+use perform::Answer;
 
 // 0 and the four values of a success. A refusal is not told apart here.
 pub fn assembly(a: assembly::Answer) {
@@ -58,9 +59,9 @@ fn part(line: usize, place: usize, len: usize) {
     number(len as u64);
 }
 
-pub fn run(a: vm::Answer) {
+pub fn run(a: Answer) {
     match a {
-        vm::Answer::Success {
+        Answer::Success {
             gas_spent,
             operations,
             items,
@@ -72,7 +73,7 @@ pub fn run(a: vm::Answer) {
             number(items as u64);
             number(state.used as u64);
         }
-        vm::Answer::Refused(f) => {
+        Answer::Refused(f) => {
             let refusal = f.numbered();
             number(refusal.number);
             run_values(f);

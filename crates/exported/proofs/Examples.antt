@@ -4,20 +4,19 @@ use native.Mathlib.Omega.{arith}
 use mathlib.Core.Path.{refl}
 use mathlib.Core.List.{List, [], _∷_, _++_}
 use lib.ListN.{replicate}
+use Rattle.byte.specs.Ascii.{ascii}
 use Rattle.numbered.specs.Numbered.{carrying}
 use Rattle.number.specs.Decimal.{decimal}
 use Rattle.token.specs.Token.{scan}
-use Rattle.byte.specs.Ascii.{ascii}
 use Rattle.context.specs.Gate.{gateOf}
-use Rattle.machine.specs.Operation.{decode}
-use Rattle.machine.specs.Machine.{runOf, whole}
-use Rattle.vm.specs.Verify.{operationsCheck}
-use Rattle.vm.specs.Transition.{up}
+use Rattle.machine.specs.Machine.{decode, runOf, whole}
+use Rattle.checks.specs.Verify.{operationsCheck}
+use Rattle.perform.specs.Run.{up}
 use Rattle.expression.specs.Parse.{parseF, meaning}
 use Rattle.assembler.specs.State.{each}
 use Rattle.assembler.specs.Assembled.{assembledTree}
 use Rattle.assembler.specs.Output.{output, assembled}
-use Rattle.compiled.specs.Call.{Call}
+use Rattle.compiled.specs.Call.{Compilation}
 use Rattle.compiled.specs.Statement.{Statement, foundIn}
 use Rattle.exported.specs.Exports.{Given, InRow, Lends}
 use Rattle.exported.proofs.ExportedStatement.{exported-statement}
@@ -35,16 +34,23 @@ abbrev genesis : List ℕ
 genesis = replicate 64 97
 
 -- by caller 7; the buffers hold what they may, and no storage is used
-abbrev tally : Call
+abbrev tally : Compilation
 tally = record {
   contract = contract;
   vector = vector;
   stem = ascii "tally";
+  out = replicate 70 9;
   context = gateOf (ascii "atc") (ascii "devnet") genesis (ascii "1") (ascii "1") genesis (ascii "1") (ascii "1");
-  caller = 7;
-  limit = 7;
-  state = record { used = 0 };
-  lent = record { out = replicate 70 9; kinds = replicate 6 9; operands = replicate 6 9; stack = replicate 4096 9; work = 9 ∷ []; storage = 8 ∷ [] };
+  run = record {
+    kinds = replicate 6 9;
+    operands = replicate 6 9;
+    caller = 7;
+    limit = 7;
+    state = record { used = 0 };
+    stack = replicate 4096 9;
+    work = 9 ∷ [];
+    storage = 8 ∷ [];
+  };
 }
 
 abbrev given : Given

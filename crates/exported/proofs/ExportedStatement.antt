@@ -14,11 +14,11 @@ use Rattle.context.specs.declared.Gate.{Gate}
 use Rattle.context.specs.declared.Gate.the-variants.{Passed, Refused}
 use Rattle.context.specs.Gate.{gateNumbered}
 use Rattle.ops.specs.Ops.{opsOf, kindsOf, operandsOf, onto}
-use Rattle.vm.specs.Numbers.{answerNumbered}
-use Rattle.vm.specs.Verify.{buffersFit}
+use Rattle.checks.specs.Verify.{buffersFit}
+use Rattle.perform.specs.Numbers.{answerNumbered}
 use Rattle.assembler.specs.Output.{Answer, success, refusal, assemblyNumbered}
 use Rattle.assembly.proofs.Bounds.{Refuses, refuses}
-use Rattle.compiled.specs.Call.{Call, assemblyOf, readingOf, transitionOn}
+use Rattle.compiled.specs.Call.{Compilation, assemblyOf, readingOf, withProgram, transitionOn}
 use Rattle.compiled.specs.Statement.{Found, Hypotheses, Statement, foundBy, foundIn, usedAfter}
 use Rattle.compiled.proofs.CompileStatement.{compile-statement}
 use Rattle.compiled.proofs.Sized.{sized-as}
@@ -54,7 +54,7 @@ gate-passed (Refused GenesisMismatch) e = absurd (omega arith)
 fits : (ks vs s w m used : ℕ) → ks ≡ vs → 4096 ≤ s → w ≡ m → used ≤ m → buffersFit ks vs s w m used ≡ true
 fits ks vs s w m used a b c d = rw (eq-eqb ks vs a, le-leb 4096 s b, eq-eqb w m c, le-leb used m d)
 
-module _ (x : Call) (n k p v : ℕ) (y : Given) (row : InRow x n y) (lends : Lends x n k p v y) where
+module _ (x : Compilation) (n k p v : ℕ) (y : Given) (row : InRow x n y) (lends : Lends x n k p v y) where
   abbrev ks : List ℕ
   ks = y .left .kinds
 
@@ -62,7 +62,7 @@ module _ (x : Call) (n k p v : ℕ) (y : Given) (row : InRow x n y) (lends : Len
   vs = y .left .operands
 
   accepts : assemblyOf x .answer ≡ success n k p v
-  accepts = success-told (assemblyOf x .answer) n k p v (refuses (x .contract) (x .vector) (x .stem) (length (x .lent .out))) (tells-is (row .assembles .tells) ∙ lends .accepts)
+  accepts = success-told (assemblyOf x .answer) n k p v (refuses (x .contract) (x .vector) (x .stem) (length (x .out))) (tells-is (row .assembles .tells) ∙ lends .accepts)
 
   hypotheses : Hypotheses x n k p v
   hypotheses = record {
@@ -70,7 +70,7 @@ module _ (x : Call) (n k p v : ℕ) (y : Given) (row : InRow x n y) (lends : Len
     kindsRoom = lends .kinds;
     operandsRoom = lends .operands;
     passes = gate-passed (x .context) (lends .passes);
-    lent = fits (length (x .lent .kinds)) (length (x .lent .operands)) (length (x .lent .stack)) (length (x .lent .work)) (length (x .lent .storage)) (x .state .used) (lends .kinds ∙ sym (lends .operands)) (lends .stack) (lends .work) (lends .within);
+    lent = fits (length (x .run .kinds)) (length (x .run .operands)) (length (x .run .stack)) (length (x .run .work)) (length (x .run .storage)) (x .run .state .used) (lends .kinds ∙ sym (lends .operands)) (lends .stack) (lends .work) (lends .within);
     used = lends .used;
   }
 
@@ -78,16 +78,16 @@ module _ (x : Call) (n k p v : ℕ) (y : Given) (row : InRow x n y) (lends : Len
   text-is : take n (y .left .out) ≡ assemblyOf x .text
   text-is =
       let text = assemblyOf x .text in
-      ap (take n) (row .assembles .buffer) ∙ take-at text (drop (length text) (x .lent .out)) n (sized-as (x .contract) (x .vector) (x .stem) (length (x .lent .out)) (sym accepts))
+      ap (take n) (row .assembles .buffer) ∙ take-at text (drop (length text) (x .out)) n (sized-as (x .contract) (x .vector) (x .stem) (length (x .out)) (sym accepts))
 
-  reads : Read (assemblyOf x .text) (x .lent .kinds) (x .lent .operands) ks vs (y .reading .words) (y .reading .number)
-  reads = subst (λ (l : List ℕ). Read l (x .lent .kinds) (x .lent .operands) ks vs (y .reading .words) (y .reading .number)) text-is (row .reads)
+  reads : Read (assemblyOf x .text) (x .run .kinds) (x .run .operands) ks vs (y .reading .words) (y .reading .number)
+  reads = subst (λ (l : List ℕ). Read l (x .run .kinds) (x .run .operands) ks vs (y .reading .words) (y .reading .number)) text-is (row .reads)
 
   abbrev readKinds : List ℕ
-  readKinds = onto (kindsOf (opsOf (readingOf x))) (x .lent .kinds)
+  readKinds = onto (kindsOf (opsOf (readingOf x))) (x .run .kinds)
 
   abbrev readOperands : List ℕ
-  readOperands = onto (operandsOf (opsOf (readingOf x))) (x .lent .operands)
+  readOperands = onto (operandsOf (opsOf (readingOf x))) (x .run .operands)
 
   abbrev RanOn : List ℕ → List ℕ → Type 0
   RanOn l m = Ran (transitionOn x l m) (y .left .stack) (y .left .work) (y .left .storage) (y .transition .words) (y .transition .number)
@@ -98,19 +98,19 @@ module _ (x : Call) (n k p v : ℕ) (y : Given) (row : InRow x n y) (lends : Len
   told : answerNumbered (transitionOn x readKinds readOperands .answer) ≡ y .transition
   told = tells-is (runs .tells)
 
-  found : foundBy x ≡ foundIn (y .reading) (y .transition) (x .state .used) (y .left)
+  found : foundBy x ≡ foundIn (y .reading) (y .transition) (x .run .state .used) (y .left)
   found = λ i. record {
     reading = tells-is (reads .tells) i;
     kinds = sym (reads .kindsWritten) i;
     operands = sym (reads .operandsWritten) i;
     ending = record {
       numbered = told i;
-      used = (used-told x readKinds readOperands ∙ ap (λ (m : Numbered). usedAfter m (x .state .used)) told) i;
+      used = (used-told (x .context) (withProgram (x .run) readKinds readOperands) ∙ ap (λ (m : Numbered). usedAfter m (x .run .state .used)) told) i;
       stack = sym (runs .stackLeft) i;
       work = sym (runs .workLeft) i;
       storage = sym (runs .storageLeft) i;
     };
   }
 
-  pub exported-statement : Statement x k p v (foundIn (y .reading) (y .transition) (x .state .used) (y .left))
+  pub exported-statement : Statement x k p v (foundIn (y .reading) (y .transition) (x .run .state .used) (y .left))
   exported-statement = subst (λ (z : Found). Statement x k p v z) found (compile-statement x n k p v hypotheses)

@@ -1,7 +1,6 @@
 -- `atc_vm::atc_execution_gate` meets its contract: by its number.
 use mathlib.Core.Path.{ap, _∙_}
 use Rattle.numbered.specs.declared.Numbered.{Numbered}
-use Rattle.context.specs.Gate.{gateNumbered}
 use borrow.Author.Needs.{needs}
 use Rattle.atc_vm.proofs.atc_execution_gate.Statement.{statement}
 use Rattle.atc_vm.proofs.atc_execution_gate.Tie as tie

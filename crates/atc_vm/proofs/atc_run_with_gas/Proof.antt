@@ -1,5 +1,5 @@
 -- `atc_vm::atc_run_with_gas` meets its contract: what the call gives is told.
-use Rattle.vm.specs.Numbers.{answerNumbered}
+use Rattle.perform.specs.Numbers.{answerNumbered}
 use Rattle.atc_vm.proofs.Telling.{told}
 use borrow.Author.Needs.{needs}
 use Rattle.atc_vm.proofs.atc_run_with_gas.Statement.{statement}

@@ -1,5 +1,5 @@
 -- `atc_vm::atc_verify` meets its contract: what the call gives is told.
-use Rattle.vm.specs.Numbers.{checkNumbered}
+use Rattle.checks.specs.Numbers.{checkNumbered}
 use Rattle.atc_vm.proofs.Telling.{told}
 use borrow.Author.Needs.{needs}
 use Rattle.atc_vm.proofs.atc_verify.Statement.{statement}

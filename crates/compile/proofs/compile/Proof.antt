@@ -4,7 +4,7 @@ use denote.Ref.{now}
 use lib.Seq.{length-take-le}
 use Rattle.compile.proofs.Assembled.{within}
 use Rattle.compile.proofs.Composing.{is-written, not-assembled, not-read, has-run}
-use Rattle.compile.proofs.Delivery.{both}
+use Rattle.compile.proofs.Delivery.{delivers}
 use borrow.Author.Needs.{needs}
 use Rattle.compile.proofs.compile.Statement.{statement}
 use Rattle.compile.proofs.compile.Tie as tie
@@ -45,7 +45,7 @@ same-length c = search needs
 
 returns : tie.Need-returns
 returns c =
-    both (not-assembled _ (c .before .before .before .before .before .assemble .ensures) (c .before .assembled .given .1))
+    delivers (not-assembled _ (c .before .before .before .before .before .assemble .ensures) (c .before .assembled .given .1))
 
 same-length-2 : tie.Need-same-length-2
 same-length-2 c = search needs
@@ -58,7 +58,7 @@ same-length-4 c = search needs
 
 returns-2 : tie.Need-returns-2
 returns-2 c =
-    both (not-read _ (is-written _ (c .before .before .before .before .before .before .before .before .before .before .before .before .before .before .before .before .assemble .ensures) (c .before .before .before .before .before .before .before .before .before .before .before .before .assembled2 .given .1)) (c .before .before .before .before .before .before .before .parse-ops .ensures) (c .before .parsed .given .1))
+    delivers (not-read _ (is-written _ (c .before .before .before .before .before .before .before .before .before .before .before .before .before .before .before .before .assemble .ensures) (c .before .before .before .before .before .before .before .before .before .before .before .before .assembled2 .given .1)) (c .before .before .before .before .before .before .before .parse-ops .ensures) (c .before .parsed .given .1))
 
 same-length-5 : tie.Need-same-length-5
 same-length-5 c = search needs
@@ -80,7 +80,7 @@ same-length-10 c = search needs
 
 returns-3 : tie.Need-returns-3
 returns-3 c =
-    both (has-run _ (is-written _ (c .before .before .before .before .before .before .before .before .before .before .before .before .before .before .before .before .before .before .before .before .before .before .before .before .before .before .before .before .assemble .ensures) (c .before .before .before .before .before .before .before .before .before .before .before .before .before .before .before .before .before .before .before .before .before .before .before .before .assembled2 .given .1)) (c .before .before .before .before .before .before .before .before .before .before .before .before .before .before .before .before .before .before .before .parse-ops .ensures) (c .before .before .before .before .before .before .before .before .before .before .before .before .before .parsed2 .given .1) (c .before .before .before .before .before .before .execute-state-transition-with-gas .ensures))
+    delivers (has-run _ (is-written _ (c .before .before .before .before .before .before .before .before .before .before .before .before .before .before .before .before .before .before .before .before .before .before .before .before .before .before .before .before .assemble .ensures) (c .before .before .before .before .before .before .before .before .before .before .before .before .before .before .before .before .before .before .before .before .before .before .before .before .assembled2 .given .1)) (c .before .before .before .before .before .before .before .before .before .before .before .before .before .before .before .before .before .before .before .parse-ops .ensures) (c .before .before .before .before .before .before .before .before .before .before .before .before .before .parsed2 .given .1) (c .before .before .before .before .before .before .execute-state-transition-with-gas .ensures))
 
 pub compile-spec : {M : Type 1} → statement M
 compile-spec =

@@ -1,6 +1,5 @@
 -- `letters` is E10: what the call ensures, and the group's figures.
-use mathlib.Core.Path.{ap, _∙_}
-use Rattle.context.specs.Gate.{gateNumbered}
+use mathlib.Core.Path.{_∙_}
 use Rattle.examples.proofs.Bench.{bench}
 use borrow.Author.Needs.{needs}
 use Rattle.examples.proofs.gate.letters.Statement.{statement}

@@ -56,7 +56,7 @@ compile-requires : tie.Need-compile-requires
 compile-requires c κs = search needs
 
 returns : tie.Need-returns
-returns c = compiles (c .before .before .before .before .before .before .before .before .before .before .before .before .before .before .before .before .before .before .before .before .before .before .before .pre) (c .before .before .before .before .before .compile .ensures .0)
+returns c = compiles (c .before .before .before .before .before .before .before .before .before .before .before .before .before .before .before .before .before .before .before .before .before .before .before .pre) (c .before .before .before .before .before .compile .ensures .composes)
 
 pub tally-spec : {M : Type 1} → statement M
 tally-spec =
