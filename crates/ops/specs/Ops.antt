@@ -19,9 +19,7 @@ use Rattle.ops.specs.declared.ParsedOps.the-variants.{Read, Refused}
 use Rattle.ops.specs.declared.line.LineRead.{LineRead}
 use Rattle.ops.specs.declared.line.LineRead.the-variants.{Skip, Op, Bad}
 
-pub record Operation : Type 0 where
-  pub kind : ℕ
-  pub operand : ℕ
+pub use Rattle.kinds.specs.Kinds.{Operation}
 
 pub data Reading : Type 0 where
   ops : List Operation → Reading

@@ -17,11 +17,12 @@ use Rattle.trim.proofs.Laws.{startTrimmed-length, endTrimmed-length}
 use Rattle.number.specs.Decimal.{numberOf}
 use Rattle.number.specs.declared.Number.{Number}
 use Rattle.number.specs.declared.Number.the-variants.{Is, Invalid}
+use Rattle.kinds.specs.Kinds.{Operation}
 use Rattle.ops.specs.Kinds.{Kind, kinds, partOf, partedFrom, parted}
 use Rattle.ops.specs.Kinds as Kinds
 use Rattle.ops.specs.Line.{ofNumber, operandOf, partRead, skipped, lineOf}
 use Rattle.ops.specs.Numbers.{opsErrorNumbered, parsedOpsNumbered}
-use Rattle.ops.specs.Ops.{Operation, Reading, ops, refused, startOf, followedBy, thenRead, readLines, someRead, readText, answerOf, opsOf}
+use Rattle.ops.specs.Ops.{Reading, ops, refused, startOf, followedBy, thenRead, readLines, someRead, readText, answerOf, opsOf}
 use Rattle.ops.specs.Written.{Each, none, one}
 use Rattle.ops.specs.declared.kind.Parted.{Parted}
 use Rattle.ops.specs.declared.kind.Parted.the-variants.{Alone, Before, Unknown}
