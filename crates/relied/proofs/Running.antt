@@ -1,31 +1,38 @@
 -- What callers of the verifier and the runs rely on.
 use Prim.Native.Nat.{ℕ, zero, suc, _+_, _-_, _≤_, _<_}
 use native.Mathlib.Omega.{arith}
-use mathlib.Core.Path.{_≡_, refl, sym, _∙_}
+use native.Mathlib.Decide.{decLt}
+use mathlib.Core.Path.{_≡_, refl, sym, subst, _∙_}
 use mathlib.Core.Bool.{Bool, true, false, cond, _&&_}
 use mathlib.Core.Option.{Option, some, none}
 use mathlib.Core.List.{List, [], _∷_}
 use lib.ListN.{length, getD, take}
 use lib.Dec.{ltb, leb, eqb}
-use borrow.Author.Tests.{le-leb, eq-eqb, ltb-true, ltb-false, leb-false, eqb-false}
+use borrow.Author.Tests.{lt-ltb, le-leb, eq-eqb, ltb-true, ltb-false, leb-true, leb-false, eqb-true, eqb-false}
+use Rattle.byte.specs.Need.{need}
 use Rattle.byte.proofs.Tests.{never, and-both}
-use Rattle.word.specs.Apply.{apply}
+use Rattle.word.specs.Apply.{Binary, add, sub, mul, div, eq, lt, apply}
+use Rattle.kinds.specs.Kinds.{Operation, operation}
+use Rattle.kinds.proofs.ByKind.{Span, end, _&_, span, priced, unpriced}
 use Rattle.context.specs.declared.Gate.{Gate}
 use Rattle.context.specs.declared.Gate.the-variants as gate
-use Rattle.machine.specs.declared.Refusal.{Refusal}
-use Rattle.machine.specs.declared.Refusal.the-variants.{BufferLengths, EmptyProgram, ProgramTooLarge, StorageTooLarge, UnknownKind, JumpOutOfRange, OutOfGas, StackLimitExceeded, StorageLimitExceeded, OutsideStorage}
-use Rattle.machine.specs.Operation.{Op, push, binary, dup, swap, jump, jumpIfNotZero, load, store, caller, jumpIfZero, halt, opOf, priceOf, decode}
-use Rattle.machine.specs.Machine.{Frame, Effect, moves, jumps, ends, fails, over, costs, Outcome, next, done, stop, storeAt, pushOf, valueOf, effectOf, requested, settle, pay, actOf, machine, follow, runOf, start, whole}
-use Rattle.machine.proofs.Runs.{Ended, whole-ends}
+use Rattle.machine.specs.Machine.{Fault, outOfGas, stackLimitExceeded, storageLimitExceeded, outsideStorage, Frame, Effect, moves, jumps, ends, fails, over, costs, Outcome, next, done, stop, storeAt, pushOf, valueOf, twoOf, dupOf, swapOf, jumpIfZeroOf, jumpIfNotZeroOf, storeOf, requested, effectOf, priceOf, settle, pay, actOf, decode, halt, machine, follow, runOf, start, whole}
+use Rattle.machine.proofs.Program.{effect-high}
+use Rattle.machine.proofs.Runs.{unpaid, afforded, Ended, whole-ends}
 use Rattle.ops.specs.Written as Written
 use Rattle.ops.specs.Written.{Each}
-use Rattle.vm.specs.declared.State.{State}
-use Rattle.vm.specs.declared.Check.{Check}
-use Rattle.vm.specs.declared.Check.the-variants as check
-use Rattle.vm.specs.Verify.{need, andThen, buffersFit, gateCheck, targetFits, operationCheck, operationsCheck, verifyOf}
-use Rattle.vm.specs.Transition.{Lent, untouched, ofRun, afterCheck, lengthsCheck, checksOf, performed, runUnder}
-use Rattle.vm.specs.Numbers.{checkNumbered, answerNumbered}
-use Rattle.vm.specs.Refusals.{numberOf}
+use Rattle.checks.specs.declared.Refusal.{Refusal}
+use Rattle.checks.specs.declared.Refusal.the-variants.{BufferLengths, EmptyProgram, ProgramTooLarge, StorageTooLarge, UnknownKind, JumpOutOfRange}
+use Rattle.checks.specs.declared.Check.{Check}
+use Rattle.checks.specs.declared.Check.the-variants as check
+use Rattle.checks.specs.Numbers.{checkNumbered}
+use Rattle.checks.specs.Verify.{andThen, buffersFit, gateCheck, targetFits, operationCheck, operationsCheck, verifyOf}
+use Rattle.perform.specs.Call.{Call}
+use Rattle.perform.specs.Lent.{Lent}
+use Rattle.perform.specs.Numbers.{answerNumbered}
+use Rattle.perform.specs.Run.{refusalOf, ofRun, performed}
+use Rattle.vm.specs.Transition.{afterCheck, lengthsCheck, checksOf, runUnder}
+use Rattle.vm.specs.Refusals.{refusalNumber}
 use Rattle.relied.specs.Numbers.{Among}
 use Rattle.relied.specs.Running.{Known, VerifyRelied, Handed, RunRelied}
 use Rattle.relied.proofs.Among.{allIn, widen}
@@ -45,12 +52,23 @@ each : {A : Type 0} {Q : A → Type 0} → ((a : A) → Q a) → (l : List A) �
 each f [] = Written.none
 each f (a ∷ l) = Written.one (f a) (each f l)
 
+-- the run of a call
+abbrev pub ran : Call → Outcome
+ran x = whole (decode (x .kinds) (x .operands)) (x .caller) (length (x .storage)) (x .limit) (take (x .state .used) (x .storage))
+
+-- the number that a call whose own test is `own` answers
+abbrev answerNumber : Check → Call → ℕ
+answerNumber own x = answerNumbered (runUnder own check.Passed (λ r. r) x .answer) .number
+
+abbrev faultNumber : Fault → ℕ
+faultNumber f = refusalNumber (refusalOf f)
+
 -- the numbers that calls give have a property, where each that a test or an operation can give has it
 module _ (P : ℕ → Type 0) where
   abbrev Gives : Check → Type 0
   Gives c = P (checkNumbered c .number)
 
-  need-gives : (b : Bool) (f : Refusal) (c : Check) → (b ≡ false → P (numberOf f)) → Gives c → Gives (need b f c)
+  need-gives : (b : Bool) (f : Refusal) (c : Check) → (b ≡ false → P (refusalNumber f)) → Gives c → Gives (need b (check.Refused f) c)
   need-gives true f c h g = g
   need-gives false f c h g = h refl
 
@@ -73,8 +91,8 @@ module _ (P : ℕ → Type 0) where
   operations-give n z t Written.none vs = z
   operations-give n z t (Written.one {a = k} {l = ks} p ps) [] = z
   operations-give n z t (Written.one {a = k} {l = ks} p ps) (v ∷ vs) =
-      then-gives (operationCheck n k v) (operationsCheck n ks vs)
-      (need-gives (leb k 15) UnknownKind _ p (need-gives (targetFits n (opOf k v)) JumpOutOfRange check.Passed (λ e. t) z))
+      then-gives (operationCheck n (operation k v)) (operationsCheck n ks vs)
+      (need-gives (leb k 15) UnknownKind _ p (need-gives (targetFits n (operation k v)) JumpOutOfRange check.Passed (λ e. t) z))
       (operations-give n z t ps vs)
 
   verify-gives : (ks vs : List ℕ) (used : ℕ) → Verifying ks vs → Gives (verifyOf ks vs used)
@@ -94,19 +112,19 @@ module _ (P : ℕ → Type 0) where
     slots : P 50
 
   -- 51 is among them where a slot below 65,536 that is stored to lies outside
-  abbrev Outside : ℕ → Op → Type 0
-  Outside room op = (i : ℕ) → op ≡ store i → i < 65536 → room ≤ i → P 51
+  abbrev Outside : ℕ → Operation → Type 0
+  Outside room o = o .kind ≡ 12 → o .operand < 65536 → room ≤ o .operand → P 51
 
   abbrev Fails : Effect → Type 0
   Fails (moves s m) = Unit {0}
   Fails (jumps t s m) = Unit {0}
   Fails ends = Unit {0}
-  Fails (fails f) = P (numberOf f)
+  Fails (fails f) = P (faultNumber f)
 
   abbrev Stops : Outcome → Type 0
   Stops (next h fr) = Unit {0}
   Stops (done h fr) = Unit {0}
-  Stops (stop f) = P (numberOf f)
+  Stops (stop f) = P (faultNumber f)
 
   cond-fails : (b : Bool) (d e : Effect) → (b ≡ true → Fails d) → (b ≡ false → Fails e) → Fails (cond b d e)
   cond-fails true d e p q = p refl
@@ -120,55 +138,91 @@ module _ (P : ℕ → Type 0) where
 
   module _ (r : Running) where
     push-fails : (v : ℕ) (s m : List ℕ) → Fails (pushOf v s m)
-    push-fails v s m = cond-fails (ltb (length s) 4096) (moves (v ∷ s) m) (fails StackLimitExceeded) (λ e. tt) (λ e. r .items)
+    push-fails v s m = cond-fails (ltb (length s) 4096) (moves (v ∷ s) m) (fails stackLimitExceeded) (λ e. tt) (λ e. r .items)
 
     value-fails : (o : Option ℕ) (s m : List ℕ) → Fails (valueOf o s m)
     value-fails none s m = r .divisor
     value-fails (some v) s m = tt
 
-    effect-fails : (c room : ℕ) (op : Op) (s m : List ℕ) → Outside room op → Fails (effectOf c room op s m)
-    effect-fails c room (push v) s m o = push-fails v s m
-    effect-fails c room (binary b) [] m o = r .underflow
-    effect-fails c room (binary b) (y ∷ []) m o = r .underflow
-    effect-fails c room (binary b) (y ∷ x ∷ s) m o = value-fails (apply b x y) s m
-    effect-fails c room dup [] m o = r .underflow
-    effect-fails c room dup (a ∷ s) m o = push-fails a (a ∷ s) m
-    effect-fails c room swap [] m o = r .underflow
-    effect-fails c room swap (y ∷ []) m o = r .underflow
-    effect-fails c room swap (y ∷ x ∷ s) m o = tt
-    effect-fails c room (jump t) s m o = tt
-    effect-fails c room (jumpIfNotZero t) [] m o = r .underflow
-    effect-fails c room (jumpIfNotZero t) (v ∷ s) m o = cond-fails (eqb v 0) (moves s m) (jumps t s m) (λ e. tt) (λ e. tt)
-    effect-fails c room (load i) s m o = push-fails (getD m i 0) s m
-    effect-fails c room (store i) [] m o = r .underflow
-    effect-fails c room (store i) (v ∷ s) m o =
-        cond-fails (ltb i 65536) _ (fails (StorageLimitExceeded (requested i)))
-        (λ e. cond-fails (ltb i room) (moves s (storeAt m i v)) (fails OutsideStorage) (λ f. tt) (λ f. o i refl (ltb-true i 65536 e) (ltb-false i room f)))
+    two-fails : (b : Binary) (s m : List ℕ) → Fails (twoOf b s m)
+    two-fails b [] m = r .underflow
+    two-fails b (y ∷ []) m = r .underflow
+    two-fails b (y ∷ x ∷ s) m = value-fails (apply b x y) s m
+
+    dup-fails : (s m : List ℕ) → Fails (dupOf s m)
+    dup-fails [] m = r .underflow
+    dup-fails (a ∷ s) m = push-fails a (a ∷ s) m
+
+    swap-fails : (s m : List ℕ) → Fails (swapOf s m)
+    swap-fails [] m = r .underflow
+    swap-fails (y ∷ []) m = r .underflow
+    swap-fails (y ∷ x ∷ s) m = tt
+
+    jump-if-not-zero-fails : (t : ℕ) (s m : List ℕ) → Fails (jumpIfNotZeroOf t s m)
+    jump-if-not-zero-fails t [] m = r .underflow
+    jump-if-not-zero-fails t (v ∷ s) m = cond-fails (eqb v 0) (moves s m) (jumps t s m) (λ e. tt) (λ e. tt)
+
+    jump-if-zero-fails : (t : ℕ) (s m : List ℕ) → Fails (jumpIfZeroOf t s m)
+    jump-if-zero-fails t [] m = r .underflow
+    jump-if-zero-fails t (v ∷ s) m = cond-fails (eqb v 0) (jumps t s m) (moves s m) (λ e. tt) (λ e. tt)
+
+    store-fails : (room i : ℕ) (s m : List ℕ) → (i < 65536 → room ≤ i → P 51) → Fails (storeOf room i s m)
+    store-fails room i [] m o = r .underflow
+    store-fails room i (v ∷ s) m o =
+        cond-fails (ltb i 65536) _ (fails (storageLimitExceeded (requested i)))
+        (λ e. cond-fails (ltb i room) (moves s (storeAt m i v)) (fails outsideStorage) (λ f. tt) (λ f. o (ltb-true i 65536 e) (ltb-false i room f)))
         (λ e. r .slots)
-    effect-fails c room caller s m o = push-fails c s m
-    effect-fails c room (jumpIfZero t) [] m o = r .underflow
-    effect-fails c room (jumpIfZero t) (v ∷ s) m o = cond-fails (eqb v 0) (jumps t s m) (moves s m) (λ e. tt) (λ e. tt)
-    effect-fails c room halt s m o = tt
+
+    effect-fails : (c room : ℕ) (o : Operation) (s m : List ℕ) → Outside room o → Fails (effectOf c room o s m)
+    effect-fails c room o s m out = go (decLt (o .kind) 15)
+      where
+        v : ℕ
+        v = o .operand
+
+        by-kind : Span (λ k. Outside room (operation k v) → Fails (effectOf c room (operation k v) s m)) 0 15
+        by-kind =
+            (λ _. push-fails v s m)
+            & (λ _. two-fails add s m)
+            & (λ _. two-fails sub s m)
+            & (λ _. two-fails mul s m)
+            & (λ _. two-fails div s m)
+            & (λ _. dup-fails s m)
+            & (λ _. swap-fails s m)
+            & (λ _. tt)
+            & (λ _. jump-if-not-zero-fails v s m)
+            & (λ _. two-fails eq s m)
+            & (λ _. two-fails lt s m)
+            & (λ _. push-fails (getD m v 0) s m)
+            & (λ q. store-fails room v s m (q refl))
+            & (λ _. push-fails c s m)
+            & (λ _. jump-if-zero-fails v s m)
+            & end
+
+        go : Dec (o .kind < 15) → Fails (effectOf c room o s m)
+        go (yes h) = span 0 15 (o .kind) by-kind (omega arith) h out
+        go (no h) = rw (effect-high c room (o .kind) v (omega arith)) tt
 
     pay-stops : (p h : ℕ) (fr : Frame) (e : Effect) → Fails e → Stops (pay h fr (costs p e))
     pay-stops p h fr e q = go (ltb h p)
       where
-        go : (b : Bool) → Stops (cond b (stop (OutOfGas p h)) (settle (h - p) fr e))
+        go : (b : Bool) → Stops (cond b (stop (outOfGas p h)) (settle (h - p) fr e))
         go true = r .gas
         go false = settle-stops (h - p) fr e q
 
-    module _ (program : List Op) (c room : ℕ) (o : Each (Outside room) program) where
+    module _ (program : List Operation) (c room : ℕ) (o : Each (Outside room) program) where
       step-stops : (h : ℕ) (fr : Frame) → Stops (pay h fr (machine program c room fr))
       step-stops h fr = go (ltb (fr .pos) (length program))
         where
-          op : Op
+          op : Operation
           op = getD program (fr .pos) halt
 
           out : Outside room op
-          out = each-at halt (λ i e. absurd (let z : _≡_ {A = ℕ} 0 1 = cc in omega arith)) o (fr .pos)
+          out = each-at halt (λ e. absurd (omega (arith, e))) o (fr .pos)
 
           go : (b : Bool) → Stops (pay h fr (cond b (actOf c room op fr) over))
-          go true = pay-stops (priceOf op (length (fr .storage))) h fr (effectOf c room op (fr .stack) (fr .storage)) (effect-fails c room op (fr .stack) (fr .storage) out)
+          go true =
+              pay-stops (priceOf op (length (fr .storage))) h fr (effectOf c room op (fr .stack) (fr .storage))
+              (effect-fails c room op (fr .stack) (fr .storage) out)
           go false = tt
 
       run-stops : (n h : ℕ) (fr : Frame) → Stops (runOf (machine program c room) n h fr)
@@ -185,44 +239,15 @@ module _ (P : ℕ → Type 0) where
       unfolding whole
       whole-stops g m = run-stops (g + 1) g (start m)
 
-  -- under the limit 0 an operation but Halt is refused with 46
-  first-stops : P 46 → (c room : ℕ) (fr : Frame) (op : Op) → Stops (pay 0 fr (actOf c room op fr))
-  first-stops g c room fr (push v) = g
-  first-stops g c room fr (binary o) = g
-  first-stops g c room fr dup = g
-  first-stops g c room fr swap = g
-  first-stops g c room fr (jump t) = g
-  first-stops g c room fr (jumpIfNotZero t) = g
-  first-stops g c room fr (load i) = g
-  first-stops g c room fr (store i) = g
-  first-stops g c room fr caller = g
-  first-stops g c room fr (jumpIfZero t) = g
-  first-stops g c room fr halt = tt
-
-  unmetered-stops : P 46 → (program : List Op) (c room : ℕ) (m : List ℕ) → Stops (whole program c room 0 m)
-  unfolding whole runOf
-  unmetered-stops g program c room m = after (pay 0 (start m) (machine program c room (start m))) (go (ltb 0 (length program)))
+  run-gives : (own : Check) (x : Call) → Gives own → Verifying (x .kinds) (x .operands) → Gives (lengthsCheck x) → Stops (ran x) → P (answerNumber own x)
+  run-gives own x q h b r =
+      let v = verifyOf (x .kinds) (x .operands) (x .state .used) in
+      let t = then-gives v check.Passed (verify-gives (x .kinds) (x .operands) (x .state .used) h) (h .zero) in
+      go (checksOf own check.Passed x) (ran x)
+      (then-gives (lengthsCheck x) (andThen own (andThen v check.Passed)) b (then-gives own (andThen v check.Passed) q t))
+      r (whole-ends (decode (x .kinds) (x .operands)) (x .caller) (length (x .storage)) (x .limit) (take (x .state .used) (x .storage)))
     where
-      go : (b : Bool) → Stops (pay 0 (start m) (cond b (actOf c room (getD program 0 halt) (start m)) over))
-      go true = first-stops g c room (start m) (getD program 0 halt)
-      go false = tt
-
-      after : (x : Outcome) → Stops x → Stops (follow x (runOf (machine program c room) 0))
-      after (next i f) p = tt
-      after (done i f) p = tt
-      after (stop f) p = p
-
-  run-gives : (own : Check) (ks vs : List ℕ) (c g : ℕ) (s w m : List ℕ) (state : State) → Gives own → Verifying ks vs
-      → (buffersFit (length ks) (length vs) (length s) (length w) (length m) (state .used) ≡ false → P 34)
-      → Stops (whole (decode ks vs) c (length m) g (take (state .used) m)) → P (answerNumbered (runUnder own ks vs c g s w m state .answer) .number)
-  run-gives own ks vs c g s w m state q h b r =
-      go (checksOf own ks vs s w m (state .used)) (whole (decode ks vs) c (length m) g (take (state .used) m))
-      (then-gives (lengthsCheck ks vs s w m (state .used)) (andThen own (verifyOf ks vs (state .used)))
-      (need-gives (buffersFit (length ks) (length vs) (length s) (length w) (length m) (state .used)) BufferLengths check.Passed b (h .zero))
-      (then-gives own (verifyOf ks vs (state .used)) q (verify-gives ks vs (state .used) h)))
-      r (whole-ends (decode ks vs) c (length m) g (take (state .used) m))
-    where
-      go : (x : Check) (o : Outcome) → Gives x → Stops o → Ended o → P (answerNumbered (afterCheck x (λ f. untouched f state s w m) (ofRun g state (length s) m o) .answer) .number)
+      go : (c : Check) (o : Outcome) → Gives c → Stops o → Ended o → P (answerNumbered (afterCheck c x (ofRun x o) .answer) .number)
       go (check.Refused f) o p q z = p
       go check.Passed (next i fr) p q z = absurd z
       go check.Passed (done i fr) p q z = p
@@ -246,7 +271,8 @@ module _ (ns : List ℕ) where
       go gate.Passed = refl
       go (gate.Refused e) = gate-gives (gate.Refused e)
 
-  verifying : allIn verifies ns ≡ true → (ks vs : List ℕ) → (eqb (length ks) (length vs) ≡ false → Among ns 34) → Each (λ k. leb k 15 ≡ false → Among ns 44) ks → Verifying (Among ns) ks vs
+  verifying : allIn verifies ns ≡ true → (ks vs : List ℕ) → (eqb (length ks) (length vs) ≡ false → Among ns 34)
+      → Each (λ k. leb k 15 ≡ false → Among ns 44) ks → Verifying (Among ns) ks vs
   verifying h ks vs l k =
       let p : (n : ℕ) → Among verifies n → Among ns n = λ n e. widen verifies ns n h e in
       record { zero = p 0 refl; lengths = l; empty = p 41 refl; large = p 42 refl; used = p 43 refl; kinds = k; target = p 45 refl }
@@ -265,7 +291,9 @@ verify-relied ks vs used = record {
   gives =
       let ns : List ℕ = 0 ∷ 34 ∷ 41 ∷ 42 ∷ 43 ∷ 44 ∷ 45 ∷ [] in
       verify-gives (Among ns) ks vs used (verifying ns refl ks vs (λ e. refl) (each (λ k e. refl) ks));
-  known = λ l h. verify-gives (Among verifies) ks vs used (verifying verifies refl ks vs (λ e. absurd (eqb-false (length ks) (length vs) e l)) (known-44 h));
+  known = λ l h.
+      verify-gives (Among verifies) ks vs used
+      (verifying verifies refl ks vs (λ e. absurd (eqb-false (length ks) (length vs) e l)) (known-44 h));
 }
 
 -- buffers that fit are none that 34 refuses
@@ -276,91 +304,148 @@ fits ks vs s w m used l =
     (and-both (eqb (length w) (length m)) (leb used (length m)) (eq-eqb (length w) (length m) (l .same)) (le-leb used (length m) (l .within)))
 
 -- a call whose own test gives some of the numbers ns
-module _ (ns : List ℕ) (own : Check) (ks vs : List ℕ) (c g : ℕ) (s w m : List ℕ) (state : State) (o : Gives (Among ns) own) (v : allIn verifies ns ≡ true) where
-  abbrev Number : Type 0
-  Number = Among ns (answerNumbered (runUnder own ks vs c g s w m state .answer) .number)
+module _ (ns : List ℕ) (own : Check) (x : Call) (o : Gives (Among ns) own) (v : allIn verifies ns ≡ true) where
+  fit : Bool
+  fit = buffersFit (length (x .kinds)) (length (x .operands)) (length (x .stack)) (length (x .work)) (length (x .storage)) (x .state .used)
+
+  zero-among : Among ns 0
+  zero-among = widen verifies ns 0 v refl
 
   -- any buffers and any kinds
-  any-gives : Among ns 34 → Among ns 44 → Stops (Among ns) (whole (decode ks vs) c (length m) g (take (state .used) m)) → Number
-  any-gives b k r = run-gives (Among ns) own ks vs c g s w m state o (verifying ns v ks vs (λ e. b) (each (λ i e. k) ks)) (λ e. b) r
+  any-gives : Among ns 34 → Among ns 44 → Stops (Among ns) (ran x) → Among ns (answerNumber own x)
+  unfolding fit
+  any-gives b k r =
+      run-gives (Among ns) own x o (verifying ns v (x .kinds) (x .operands) (λ e. b) (each (λ i e. k) (x .kinds)))
+      (need-gives (Among ns) fit BufferLengths check.Passed (λ e. b) zero-among) r
 
-  outside-gives : Among ns 34 → Among ns 44 → allIn runs ns ≡ true → ((i : ℕ) → i < 65536 → length m ≤ i → Among ns 51) → Number
+  outside-gives : Among ns 34 → Among ns 44 → allIn runs ns ≡ true → ((i : ℕ) → i < 65536 → length (x .storage) ≤ i → Among ns 51)
+      → Among ns (answerNumber own x)
   outside-gives b k r h =
-      any-gives b k (whole-stops (Among ns) (running ns r) (decode ks vs) c (length m) (each (λ op i e l q. h i l q) (decode ks vs)) g (take (state .used) m))
+      any-gives b k
+      (whole-stops (Among ns) (running ns r) (decode (x .kinds) (x .operands)) (x .caller) (length (x .storage))
+      (each (λ op e l q. h (op .operand) l q) (decode (x .kinds) (x .operands))) (x .limit) (take (x .state .used) (x .storage)))
 
-  handed-gives : allIn runs ns ≡ true → Handed ks vs s w m (state .used) → Number
+  handed-gives : allIn runs ns ≡ true → Handed x → Among ns (answerNumber own x)
+  unfolding fit
   handed-gives r h =
-      run-gives (Among ns) own ks vs c g s w m state o
-      (verifying ns v ks vs (λ e. absurd (eqb-false (length ks) (length vs) e (h .lent .program))) (known-44 (h .known)))
-      (λ e. never (sym e ∙ fits ks vs s w m (state .used) (h .lent)))
-      (whole-stops (Among ns) (running ns r) (decode ks vs) c (length m) (each-of (λ op p i e l q. absurd (let z = p i e l in omega arith)) (h .stores)) g (take (state .used) m))
+      run-gives (Among ns) own x o
+      (verifying ns v (x .kinds) (x .operands) (λ e. absurd (eqb-false (length (x .kinds)) (length (x .operands)) e (h .lent .program))) (known-44 (h .known)))
+      (need-gives (Among ns) fit BufferLengths check.Passed
+      (λ e. never (sym e ∙ fits (x .kinds) (x .operands) (x .stack) (x .work) (x .storage) (x .state .used) (h .lent))) zero-among)
+      (whole-stops (Among ns) (running ns r) (decode (x .kinds) (x .operands)) (x .caller) (length (x .storage))
+      (each-of (λ op p e l q. absurd (let z = p e l in omega arith)) (h .stores)) (x .limit) (take (x .state .used) (x .storage)))
 
--- under the limit 0, by the first operation
-abbrev ByFirst : Op → ℕ → Type 0
-ByFirst op n = (op ≡ halt → n ≡ 0) × ((op ≡ halt → ⊥) → n ≡ 46)
+-- under the limit 0 a run is over at its first operation: a Halt, or no kind, ends it, and any other can't be paid for
+abbrev OverAt : ℕ → Outcome → Type 0
+OverAt k o = (15 ≤ k → (h : ℕ) × (fr : Frame) × (o ≡ done h fr)) × (k < 15 → (price : ℕ) × (o ≡ stop (outOfGas price 0)))
 
-refused : {op : Op} → (op ≡ halt → ⊥) → ByFirst op 46
-refused h = (λ e. absurd (h e), λ e. refl)
-
-module _ (state : State) (n : ℕ) (m : List ℕ) where
-  abbrev numberAfter : Outcome → ℕ
-  numberAfter o = answerNumbered (ofRun 0 state n m o .answer) .number
-
-  first-number : (c room : ℕ) (fr : Frame) (k : ℕ → Frame → Outcome) (op : Op) → ByFirst op (numberAfter (follow (pay 0 fr (actOf c room op fr)) k))
-  first-number c room fr k (push v) = refused (λ e. let z : _≡_ {A = ℕ} 0 1 = cc in omega arith)
-  first-number c room fr k (binary o) = refused (λ e. let z : _≡_ {A = ℕ} 0 1 = cc in omega arith)
-  first-number c room fr k dup = refused (λ e. let z : _≡_ {A = ℕ} 0 1 = cc in omega arith)
-  first-number c room fr k swap = refused (λ e. let z : _≡_ {A = ℕ} 0 1 = cc in omega arith)
-  first-number c room fr k (jump t) = refused (λ e. let z : _≡_ {A = ℕ} 0 1 = cc in omega arith)
-  first-number c room fr k (jumpIfNotZero t) = refused (λ e. let z : _≡_ {A = ℕ} 0 1 = cc in omega arith)
-  first-number c room fr k (load i) = refused (λ e. let z : _≡_ {A = ℕ} 0 1 = cc in omega arith)
-  first-number c room fr k (store i) = refused (λ e. let z : _≡_ {A = ℕ} 0 1 = cc in omega arith)
-  first-number c room fr k caller = refused (λ e. let z : _≡_ {A = ℕ} 0 1 = cc in omega arith)
-  first-number c room fr k (jumpIfZero t) = refused (λ e. let z : _≡_ {A = ℕ} 0 1 = cc in omega arith)
-  first-number c room fr k halt = (λ e. refl, λ e. absurd (e refl))
-
-  unmetered-number : (program : List Op) (c room : ℕ) (used : List ℕ) → ByFirst (getD program 0 halt) (numberAfter (whole program c room 0 used))
-  unfolding whole runOf
-  unmetered-number [] c room used = (λ e. refl, λ e. absurd (e refl))
-  unmetered-number (op ∷ program) c room used = go (ltb 0 (suc (length program))) refl
-    where
-      go : (b : Bool) → ltb 0 (suc (length program)) ≡ b
-          → ByFirst op (numberAfter (follow (pay 0 (start used) (cond b (actOf c room op (start used)) over)) (runOf (machine (op ∷ program) c room) 0)))
-      go true e = first-number c room (start used) (runOf (machine (op ∷ program) c room) 0) op
-      go false e = absurd (omega (arith, ltb-false 0 (suc (length program)) e))
-
-passed-number : (own : Check) (ks vs : List ℕ) (c : ℕ) (s w m : List ℕ) (state : State) → checksOf own ks vs s w m (state .used) ≡ check.Passed
-    → ByFirst (getD (decode ks vs) 0 halt) (answerNumbered (runUnder own ks vs c 0 s w m state .answer) .number)
-passed-number own ks vs c s w m state e = go (checksOf own ks vs s w m (state .used)) e
+first-over : (c room : ℕ) (fr : Frame) (o : Operation) → OverAt (o .kind) (pay 0 fr (actOf c room o fr))
+first-over c room fr o = (
+  λ h. (0 - price, after, rw (effect-high c room (o .kind) (o .operand) h) (afforded 0 price fr ends (omega (arith, unpriced (o .kind) h)))),
+  λ h. (price, unpaid 0 price fr (effectOf c room o (fr .stack) (fr .storage)) (omega (arith, priced (o .kind) h))),
+)
   where
-    go : (x : Check) → x ≡ check.Passed → ByFirst (getD (decode ks vs) 0 halt) (answerNumbered (afterCheck x (λ f. untouched f state s w m) (performed ks vs c 0 s m state) .answer) .number)
-    go check.Passed e = unmetered-number state (length s) m (decode ks vs) c (length m) (take (state .used) m)
-    go (check.Refused f) e = absurd (let z : _≡_ {A = ℕ} 0 1 = cc in omega arith)
+    price : ℕ
+    price = priceOf o (length (fr .storage))
 
-pub run-relied : (ks vs : List ℕ) (c g : ℕ) (s w m : List ℕ) (state : State) → RunRelied ks vs c g s w m state
-run-relied ks vs c g s w m state = record {
+    after : Frame
+    after = record { pos = fr .pos; stack = fr .stack; storage = fr .storage; ops = fr .ops + 1 }
+
+follow-over : (k : ℕ) (o : Outcome) (more : ℕ → Frame → Outcome) → OverAt k o → OverAt k (follow o more)
+follow-over k o more h = (λ l. (h .0 l .0, h .0 l .1, rw (h .0 l .2)), λ l. (h .1 l .0, rw (h .1 l .1)))
+
+unmetered-over : (program : List Operation) (c room : ℕ) (m : List ℕ) → OverAt (getD program 0 halt .kind) (whole program c room 0 m)
+unfolding whole runOf
+unmetered-over [] c room m = (λ h. (0, start m, refl), λ h. absurd (omega arith))
+unmetered-over (op ∷ program) c room m =
+    rw (lt-ltb 0 (suc (length program)) (omega arith))
+    (follow-over (op .kind) (pay 0 (start m) (actOf c room op (start m))) (runOf (machine (op ∷ program) c room) 0) (first-over c room (start m) op))
+
+unmetered-stops : (P : ℕ → Type 0) → P 46 → (program : List Operation) (c room : ℕ) (m : List ℕ) → Stops P (whole program c room 0 m)
+unmetered-stops P g program c room m = go (decLt (getD program 0 halt .kind) 15) (unmetered-over program c room m)
+  where
+    go : {o : Outcome} → Dec (getD program 0 halt .kind < 15) → OverAt (getD program 0 halt .kind) o → Stops P o
+    go (yes h) e = rw (e .1 h .1) g
+    go (no h) e = rw (e .0 (omega arith) .2) tt
+
+-- tests that pass
+need-passed : (b : Bool) (f : Refusal) (c : Check) → need b (check.Refused f) c ≡ check.Passed → (b ≡ true) × (c ≡ check.Passed)
+need-passed true f c e = (refl, e)
+need-passed false f c e = absurd (let z : _≡_ {A = ℕ} 0 1 = cc in omega arith)
+
+then-passed : (c d : Check) → andThen c d ≡ check.Passed → (c ≡ check.Passed) × (d ≡ check.Passed)
+then-passed check.Passed d e = (refl, e)
+then-passed (check.Refused f) d e = absurd (let z : _≡_ {A = ℕ} 0 1 = cc in omega arith)
+
+-- a program that verifies has a first operation, of a known kind
+record First (ks vs : List ℕ) : Type 0 where
+  kind : getD (decode ks vs) 0 halt .kind ≡ getD ks 0 0
+  known : getD ks 0 0 ≤ 15
+
+first-of : (ks vs : List ℕ) → eqb (length ks) (length vs) ≡ true → ltb 0 (length ks) ≡ true → operationsCheck (length ks) ks vs ≡ check.Passed → First ks vs
+unfolding decode operationsCheck
+first-of [] vs l s e = absurd (omega (arith, ltb-true 0 0 s))
+first-of (k ∷ ks) [] l s e = absurd (omega (arith, eqb-true (suc (length ks)) 0 l))
+first-of (k ∷ ks) (v ∷ vs) l s e =
+    let p = then-passed (operationCheck (suc (length ks)) (operation k v)) _ e .0 in
+    record { kind = refl; known = leb-true k 15 (need-passed (leb k 15) UnknownKind _ p .0) }
+
+verified-first : (ks vs : List ℕ) (used : ℕ) → verifyOf ks vs used ≡ check.Passed → First ks vs
+verified-first ks vs used e =
+    let a = need-passed (eqb (length ks) (length vs)) BufferLengths _ e in
+    let b = need-passed (ltb 0 (length ks)) EmptyProgram _ (a .1) in
+    let c = need-passed (leb (length ks) 65536) (ProgramTooLarge (length ks)) _ (b .1) in
+    let d = need-passed (leb used 65536) (StorageTooLarge used) _ (c .1) in
+    first-of ks vs (a .0) (b .0) (d .1)
+
+-- what a call that passes its tests answers under the limit 0, by the kind of its first operation
+abbrev ByFirst : ℕ → ℕ → Type 0
+ByFirst k n = (k ≡ 15 → n ≡ 0) × ((k ≡ 15 → ⊥) → n ≡ 46)
+
+over-number : (x : Call) (k : ℕ) (o : Outcome) → k ≤ 15 → OverAt k o → ByFirst k (answerNumbered (ofRun x o .answer) .number)
+over-number x k o l h = (λ e. rw (h .0 (omega arith) .2), λ e. rw (h .1 (omega arith) .1))
+
+passed-number : (own : Check) (x : Call) → x .limit ≡ 0 → checksOf own check.Passed x ≡ check.Passed → ByFirst (getD (x .kinds) 0 0) (answerNumber own x)
+passed-number own x z e =
+    subst (λ (c : Check). ByFirst (getD (x .kinds) 0 0) (answerNumbered (afterCheck c x (performed x) .answer) .number)) (sym e)
+    (over-number x (getD (x .kinds) 0 0) (ran x) (first .known) over-first)
+  where
+    first : First (x .kinds) (x .operands)
+    first =
+        let v = verifyOf (x .kinds) (x .operands) (x .state .used) in
+        let a = then-passed (lengthsCheck x) (andThen own (andThen v check.Passed)) e .1 in
+        let b = then-passed own (andThen v check.Passed) a .1 in
+        verified-first (x .kinds) (x .operands) (x .state .used) (then-passed v check.Passed b .0)
+
+    over-first : OverAt (getD (x .kinds) 0 0) (ran x)
+    over-first =
+        rw (← first .kind, z)
+        (unmetered-over (decode (x .kinds) (x .operands)) (x .caller) (length (x .storage)) (take (x .state .used) (x .storage)))
+
+pub run-relied : (x : Call) → RunRelied x
+run-relied x = record {
   metered =
       let ns : List ℕ = 0 ∷ 34 ∷ 41 ∷ 42 ∷ 43 ∷ 44 ∷ 45 ∷ 46 ∷ 47 ∷ 48 ∷ 49 ∷ 50 ∷ 51 ∷ [] in
-      outside-gives ns check.Passed ks vs c g s w m state refl refl refl refl refl (λ i l q. refl);
+      outside-gives ns check.Passed x refl refl refl refl refl (λ i l q. refl);
   transition = λ gate.
       let ns : List ℕ = 0 ∷ 34 ∷ 35 ∷ 36 ∷ 37 ∷ 38 ∷ 39 ∷ 40 ∷ 41 ∷ 42 ∷ 43 ∷ 44 ∷ 45 ∷ 46 ∷ 47 ∷ 48 ∷ 49 ∷ 50 ∷ 51 ∷ [] in
-      outside-gives ns (gateCheck gate) ks vs c g s w m state (gate-among ns refl gate) refl refl refl refl (λ i l q. refl);
-  unmetered = λ gate.
+      outside-gives ns (gateCheck gate) x (gate-among ns refl gate) refl refl refl refl (λ i l q. refl);
+  unmetered = λ gate z.
       let ns : List ℕ = 0 ∷ 34 ∷ 35 ∷ 36 ∷ 37 ∷ 38 ∷ 39 ∷ 40 ∷ 41 ∷ 42 ∷ 43 ∷ 44 ∷ 45 ∷ 46 ∷ [] in
-      any-gives ns (gateCheck gate) ks vs c 0 s w m state (gate-among ns refl gate) refl refl refl
-      (unmetered-stops (Among ns) refl (decode ks vs) c (length m) (take (state .used) m));
-  halts = λ gate e. passed-number (gateCheck gate) ks vs c s w m state e .0;
-  others = λ gate e. passed-number (gateCheck gate) ks vs c s w m state e .1;
+      any-gives ns (gateCheck gate) x (gate-among ns refl gate) refl refl refl
+      (rw z (unmetered-stops (Among ns) refl (decode (x .kinds) (x .operands)) (x .caller) (length (x .storage)) (take (x .state .used) (x .storage))));
+  halts = λ gate z e. passed-number (gateCheck gate) x z e .0;
+  others = λ gate z e. passed-number (gateCheck gate) x z e .1;
   meteredRoomy = λ h.
       let ns : List ℕ = 0 ∷ 34 ∷ 41 ∷ 42 ∷ 43 ∷ 44 ∷ 45 ∷ 46 ∷ 47 ∷ 48 ∷ 49 ∷ 50 ∷ [] in
-      outside-gives ns check.Passed ks vs c g s w m state refl refl refl refl refl (λ i l q. absurd (omega arith));
+      outside-gives ns check.Passed x refl refl refl refl refl (λ i l q. absurd (omega arith));
   transitionRoomy = λ h gate.
       let ns : List ℕ = 0 ∷ 34 ∷ 35 ∷ 36 ∷ 37 ∷ 38 ∷ 39 ∷ 40 ∷ 41 ∷ 42 ∷ 43 ∷ 44 ∷ 45 ∷ 46 ∷ 47 ∷ 48 ∷ 49 ∷ 50 ∷ [] in
-      outside-gives ns (gateCheck gate) ks vs c g s w m state (gate-among ns refl gate) refl refl refl refl (λ i l q. absurd (omega arith));
+      outside-gives ns (gateCheck gate) x (gate-among ns refl gate) refl refl refl refl (λ i l q. absurd (omega arith));
   meteredHanded = λ h.
       let ns : List ℕ = 0 ∷ 41 ∷ 42 ∷ 43 ∷ 45 ∷ 46 ∷ 47 ∷ 48 ∷ 49 ∷ 50 ∷ [] in
-      handed-gives ns check.Passed ks vs c g s w m state refl refl refl h;
+      handed-gives ns check.Passed x refl refl refl h;
   transitionHanded = λ h gate.
       let ns : List ℕ = 0 ∷ 35 ∷ 36 ∷ 37 ∷ 38 ∷ 39 ∷ 40 ∷ 41 ∷ 42 ∷ 43 ∷ 45 ∷ 46 ∷ 47 ∷ 48 ∷ 49 ∷ 50 ∷ [] in
-      handed-gives ns (gateCheck gate) ks vs c g s w m state (gate-among ns refl gate) refl refl h;
+      handed-gives ns (gateCheck gate) x (gate-among ns refl gate) refl refl h;
 }

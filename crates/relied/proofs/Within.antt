@@ -1,6 +1,7 @@
 -- What a run leaves lies in the lent buffers.
-use Prim.Native.Nat.{ℕ, zero, suc, _+_, _-_, _≤_}
+use Prim.Native.Nat.{ℕ, zero, suc, _+_, _-_, _≤_, _<_}
 use native.Mathlib.Omega.{arith}
+use native.Mathlib.Decide.{decLt}
 use mathlib.Core.Path.{_≡_, refl, ap}
 use mathlib.Core.Bool.{Bool, true, false, cond}
 use mathlib.Core.Option.{Option, some, none}
@@ -8,17 +9,21 @@ use mathlib.Core.List.{List, [], _∷_}
 use lib.ListN.{length, getD, take, length-take}
 use lib.Dec.{ltb, eqb}
 use borrow.Author.Tests.{ltb-true}
-use Rattle.word.specs.Apply.{apply}
-use Rattle.machine.specs.declared.Refusal.{Refusal}
-use Rattle.machine.specs.declared.Refusal.the-variants.{OutOfGas, StackLimitExceeded, StorageLimitExceeded, OutsideStorage}
-use Rattle.machine.specs.Operation.{Op, push, binary, dup, swap, jump, jumpIfNotZero, load, store, caller, jumpIfZero, halt, priceOf, decode}
-use Rattle.machine.specs.Machine.{Frame, Effect, moves, jumps, ends, fails, over, costs, Outcome, next, done, stop, storeAt, pushOf, valueOf, effectOf, requested, settle, pay, actOf, machine, follow, runOf, start, whole}
+use Rattle.word.specs.Apply.{Binary, add, sub, mul, div, eq, lt, apply}
+use Rattle.kinds.specs.Kinds.{Operation, operation}
+use Rattle.kinds.proofs.ByKind.{Span, end, _&_, span}
+use Rattle.machine.specs.Machine.{outOfGas, stackLimitExceeded, storageLimitExceeded, outsideStorage, Frame, Effect, moves, jumps, ends, fails, over, costs, Outcome, next, done, stop, storeAt, pushOf, valueOf, twoOf, dupOf, swapOf, jumpIfZeroOf, jumpIfNotZeroOf, storeOf, requested, effectOf, priceOf, settle, pay, actOf, decode, halt, machine, follow, runOf, start, whole}
+use Rattle.machine.proofs.Program.{effect-high}
 use Rattle.machine.proofs.Slots.{store-length}
-use Rattle.vm.specs.declared.State.{State}
-use Rattle.vm.specs.declared.Check.{Check}
-use Rattle.vm.specs.declared.Check.the-variants as check
-use Rattle.vm.specs.declared.Answer.the-variants.{Success, Refused}
-use Rattle.vm.specs.Transition.{untouched, ofRun, afterCheck, checksOf, runUnder}
+use Rattle.checks.specs.declared.Refusal.{Refusal}
+use Rattle.checks.specs.declared.Check.{Check}
+use Rattle.checks.specs.declared.Check.the-variants as check
+use Rattle.perform.specs.declared.State.{State}
+use Rattle.perform.specs.declared.Answer.the-variants.{Success, Refused}
+use Rattle.perform.specs.Call.{Call}
+use Rattle.perform.specs.Run.{ofRun}
+use Rattle.vm.specs.Transition.{afterCheck, checksOf, runUnder}
+use Rattle.relied.proofs.Running.{ran}
 
 -- room is the length of the lent storage
 module _ (room : ℕ) where
@@ -43,7 +48,7 @@ module _ (room : ℕ) where
 
   push-leaves : (v : ℕ) (s m : List ℕ) → length m ≤ room → Leaves (pushOf v s m)
   push-leaves v s m h =
-      cond-leaves (ltb (length s) 4096) (moves (v ∷ s) m) (fails StackLimitExceeded) (λ e. record { stack = omega (arith, ltb-true (length s) 4096 e); storage = h }) (λ e. tt)
+      cond-leaves (ltb (length s) 4096) (moves (v ∷ s) m) (fails stackLimitExceeded) (λ e. record { stack = omega (arith, ltb-true (length s) 4096 e); storage = h }) (λ e. tt)
 
   value-leaves : (o : Option ℕ) (s m : List ℕ) → suc (length s) ≤ 4096 → length m ≤ room → Leaves (valueOf o s m)
   value-leaves none s m l h = tt
@@ -55,31 +60,70 @@ module _ (room : ℕ) where
       let b = ltb-true i room e in
       record { stack = l; storage = omega arith }
 
-  effect-leaves : (c : ℕ) (op : Op) (s m : List ℕ) → length s ≤ 4096 → length m ≤ room → Leaves (effectOf c room op s m)
-  effect-leaves c (push v) s m l h = push-leaves v s m h
-  effect-leaves c (binary o) [] m l h = tt
-  effect-leaves c (binary o) (b ∷ []) m l h = tt
-  effect-leaves c (binary o) (b ∷ a ∷ s) m l h = value-leaves (apply o a b) s m (omega arith) h
-  effect-leaves c dup [] m l h = tt
-  effect-leaves c dup (a ∷ s) m l h = push-leaves a (a ∷ s) m h
-  effect-leaves c swap [] m l h = tt
-  effect-leaves c swap (b ∷ []) m l h = tt
-  effect-leaves c swap (b ∷ a ∷ s) m l h = record { stack = omega arith; storage = h }
-  effect-leaves c (jump t) s m l h = record { stack = l; storage = h }
-  effect-leaves c (jumpIfNotZero t) [] m l h = tt
-  effect-leaves c (jumpIfNotZero t) (v ∷ s) m l h =
-      cond-leaves (eqb v 0) (moves s m) (jumps t s m) (λ e. record { stack = omega arith; storage = h }) (λ e. record { stack = omega arith; storage = h })
-  effect-leaves c (load i) s m l h = push-leaves (getD m i 0) s m h
-  effect-leaves c (store i) [] m l h = tt
-  effect-leaves c (store i) (v ∷ s) m l h =
-      cond-leaves (ltb i 65536) _ (fails (StorageLimitExceeded (requested i)))
-      (λ e. cond-leaves (ltb i room) (moves s (storeAt m i v)) (fails OutsideStorage) (λ f. stored i v s m (omega arith) h f) (λ f. tt))
+  two-leaves : (o : Binary) (s m : List ℕ) → length s ≤ 4096 → length m ≤ room → Leaves (twoOf o s m)
+  two-leaves o [] m l h = tt
+  two-leaves o (b ∷ []) m l h = tt
+  two-leaves o (b ∷ a ∷ s) m l h = value-leaves (apply o a b) s m (omega arith) h
+
+  dup-leaves : (s m : List ℕ) → length m ≤ room → Leaves (dupOf s m)
+  dup-leaves [] m h = tt
+  dup-leaves (a ∷ s) m h = push-leaves a (a ∷ s) m h
+
+  swap-leaves : (s m : List ℕ) → length s ≤ 4096 → length m ≤ room → Leaves (swapOf s m)
+  swap-leaves [] m l h = tt
+  swap-leaves (b ∷ []) m l h = tt
+  swap-leaves (b ∷ a ∷ s) m l h = record { stack = omega arith; storage = h }
+
+  jump-leaves : (t : ℕ) (s m : List ℕ) → length s ≤ 4096 → length m ≤ room → Leaves (jumps t s m)
+  jump-leaves t s m l h = record { stack = l; storage = h }
+
+  jump-if-not-zero-leaves : (t : ℕ) (s m : List ℕ) → length s ≤ 4096 → length m ≤ room → Leaves (jumpIfNotZeroOf t s m)
+  jump-if-not-zero-leaves t [] m l h = tt
+  jump-if-not-zero-leaves t (v ∷ s) m l h =
+      let i : Inside s m = record { stack = omega arith; storage = h } in
+      cond-leaves (eqb v 0) (moves s m) (jumps t s m) (λ e. i) (λ e. i)
+
+  jump-if-zero-leaves : (t : ℕ) (s m : List ℕ) → length s ≤ 4096 → length m ≤ room → Leaves (jumpIfZeroOf t s m)
+  jump-if-zero-leaves t [] m l h = tt
+  jump-if-zero-leaves t (v ∷ s) m l h =
+      let i : Inside s m = record { stack = omega arith; storage = h } in
+      cond-leaves (eqb v 0) (jumps t s m) (moves s m) (λ e. i) (λ e. i)
+
+  store-leaves : (i : ℕ) (s m : List ℕ) → length s ≤ 4096 → length m ≤ room → Leaves (storeOf room i s m)
+  store-leaves i [] m l h = tt
+  store-leaves i (v ∷ s) m l h =
+      cond-leaves (ltb i 65536) _ (fails (storageLimitExceeded (requested i)))
+      (λ e. cond-leaves (ltb i room) (moves s (storeAt m i v)) (fails outsideStorage) (λ f. stored i v s m (omega arith) h f) (λ f. tt))
       (λ e. tt)
-  effect-leaves c caller s m l h = push-leaves c s m h
-  effect-leaves c (jumpIfZero t) [] m l h = tt
-  effect-leaves c (jumpIfZero t) (v ∷ s) m l h =
-      cond-leaves (eqb v 0) (jumps t s m) (moves s m) (λ e. record { stack = omega arith; storage = h }) (λ e. record { stack = omega arith; storage = h })
-  effect-leaves c halt s m l h = tt
+
+  effect-leaves : (c : ℕ) (o : Operation) (s m : List ℕ) → length s ≤ 4096 → length m ≤ room → Leaves (effectOf c room o s m)
+  effect-leaves c o s m l h = go (decLt (o .kind) 15)
+    where
+      v : ℕ
+      v = o .operand
+
+      by-kind : Span (λ k. Leaves (effectOf c room (operation k v) s m)) 0 15
+      by-kind =
+          push-leaves v s m h
+          & two-leaves add s m l h
+          & two-leaves sub s m l h
+          & two-leaves mul s m l h
+          & two-leaves div s m l h
+          & dup-leaves s m h
+          & swap-leaves s m l h
+          & jump-leaves v s m l h
+          & jump-if-not-zero-leaves v s m l h
+          & two-leaves eq s m l h
+          & two-leaves lt s m l h
+          & push-leaves (getD m v 0) s m h
+          & store-leaves v s m l h
+          & push-leaves c s m h
+          & jump-if-zero-leaves v s m l h
+          & end
+
+      go : Dec (o .kind < 15) → Leaves (effectOf c room o s m)
+      go (yes q) = span 0 15 (o .kind) by-kind (omega arith) q
+      go (no q) = rw (effect-high c room (o .kind) v (omega arith)) tt
 
   settle-reaches : (g : ℕ) (fr : Frame) (e : Effect) → Inside (fr .stack) (fr .storage) → Leaves e → Reaches (settle g fr e)
   settle-reaches g fr (moves s m) i p = p
@@ -90,15 +134,15 @@ module _ (room : ℕ) where
   pay-reaches : (p g : ℕ) (fr : Frame) (e : Effect) → Inside (fr .stack) (fr .storage) → Leaves e → Reaches (pay g fr (costs p e))
   pay-reaches p g fr e i q = go (ltb g p)
     where
-      go : (b : Bool) → Reaches (cond b (stop (OutOfGas p g)) (settle (g - p) fr e))
+      go : (b : Bool) → Reaches (cond b (stop (outOfGas p g)) (settle (g - p) fr e))
       go true = tt
       go false = settle-reaches (g - p) fr e i q
 
-  module _ (program : List Op) (c : ℕ) where
+  module _ (program : List Operation) (c : ℕ) where
     step-reaches : (g : ℕ) (fr : Frame) → Inside (fr .stack) (fr .storage) → Reaches (pay g fr (machine program c room fr))
     step-reaches g fr i = go (ltb (fr .pos) (length program))
       where
-        op : Op
+        op : Operation
         op = getD program (fr .pos) halt
 
         go : (b : Bool) → Reaches (pay g fr (cond b (actOf c room op fr) over))
@@ -124,20 +168,20 @@ module _ (room : ℕ) where
 
 -- `Vm::perform` takes as many items of its stack buffer and as many slots of its storage buffer as the answer says: a success has
 -- at most 4,096 items, and uses no more slots than were lent. `own` is the call's own test: none of atc_run_with_gas, the gate of a transition
-pub success-within : (own : Check) (ks vs : List ℕ) (c g : ℕ) (s w m : List ℕ) (state : State) (spent operations items : ℕ) (after : State)
-    → runUnder own ks vs c g s w m state .answer ≡ Success spent operations items after → (items ≤ 4096) × (after .used ≤ length m)
-success-within own ks vs c g s w m state spent operations items after =
-    go (checksOf own ks vs s w m (state .used)) (whole (decode ks vs) c (length m) g (take (state .used) m))
-    (whole-reaches (length m) (decode ks vs) c g (take (state .used) m) (simp length-take (omega arith)))
+pub success-within : (own : Check) (x : Call) (spent operations items : ℕ) (after : State)
+    → runUnder own check.Passed (λ r. r) x .answer ≡ Success spent operations items after → (items ≤ 4096) × (after .used ≤ length (x .storage))
+success-within own x spent operations items after =
+    go (checksOf own check.Passed x) (ran x)
+    (whole-reaches (length (x .storage)) (decode (x .kinds) (x .operands)) (x .caller) (x .limit) (take (x .state .used) (x .storage)) (simp length-take (omega arith)))
   where
     not-success : {A : Type 0} (f : Refusal) → Refused f ≡ Success spent operations items after → A
     not-success f e = let z : _≡_ {A = ℕ} 0 1 = cc in absurd (omega arith)
 
-    go : (x : Check) (o : Outcome) → Reaches (length m) o → afterCheck x (λ f. untouched f state s w m) (ofRun g state (length s) m o) .answer ≡ Success spent operations items after
-        → (items ≤ 4096) × (after .used ≤ length m)
+    go : (c : Check) (o : Outcome) → Reaches (length (x .storage)) o → afterCheck c x (ofRun x o) .answer ≡ Success spent operations items after
+        → (items ≤ 4096) × (after .used ≤ length (x .storage))
     go (check.Refused f) o p e = not-success f e
     go check.Passed (next h fr) p e = not-success _ e
-    go check.Passed (stop f) p e = not-success f e
+    go check.Passed (stop f) p e = not-success _ e
     go check.Passed (done h fr) p e =
         let i : length (fr .stack) ≡ items = cc in
         let a : _≡_ {A = State} (record { used = length (fr .storage) }) after = cc in

@@ -2,11 +2,10 @@
 use Prim.Native.Nat.{ℕ}
 use mathlib.Core.Path.{_≡_, refl}
 use mathlib.Core.List.{List}
-use Rattle.machine.specs.Operation.{decode}
-use Rattle.machine.specs.Machine.{runOf, whole}
 use Rattle.byte.specs.Ascii.{ascii}
-use Rattle.vm.specs.Verify.{operationsCheck}
-use Rattle.vm.specs.Transition.{up}
+use Rattle.machine.specs.Machine.{decode, runOf, whole}
+use Rattle.checks.specs.Verify.{operationsCheck}
+use Rattle.perform.specs.Run.{up}
 use Rattle.runops.specs.declared.report.Report.{Report}
 use Rattle.runops.specs.Report.{refusedWith, ran, reportOf}
 

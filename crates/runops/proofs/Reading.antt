@@ -6,10 +6,10 @@ use mathlib.Core.List.{List, [], _∷_, map}
 use borrow.Author.Tests.{lt-ltb, le-ltb}
 use lib.ListN.{length, take, drop, length-append}
 use lib.Seq.{take-at}
+use Rattle.kinds.specs.Kinds.{Operation}
 use Rattle.ops.specs.declared.OpsError.{OpsError}
 use Rattle.ops.specs.declared.ParsedOps.{ParsedOps}
 use Rattle.ops.specs.declared.ParsedOps.the-variants.{Read, Refused}
-use Rattle.kinds.specs.Kinds.{Operation}
 use Rattle.ops.specs.Ops.{Reading, ops, refused, readText, answerOf, opsOf, onto, kindsOf, operandsOf, Parsed}
 use Rattle.ops.specs.Numbers.{opsErrorNumbered}
 use Rattle.runops.specs.declared.report.Report.{Report}

@@ -4,18 +4,18 @@ use native.Mathlib.Omega.{arith}
 use mathlib.Core.Path.{_≡_, refl, sym, ap, _∙_}
 use mathlib.Core.List.{List, [], _∷_}
 use lib.ListN.{length, getD, replicate, length-append}
-use Rattle.machine.specs.declared.Refusal.{Refusal}
-use Rattle.machine.specs.Operation.{decode}
-use Rattle.machine.specs.Machine.{Outcome, next, done, stop, whole}
-use Rattle.vm.specs.declared.State.{State}
-use Rattle.vm.specs.declared.Check.{Check}
-use Rattle.vm.specs.declared.Check.the-variants as check
-use Rattle.vm.specs.declared.Answer.{Answer}
-use Rattle.vm.specs.declared.Answer.the-variants.{Success, Refused}
-use Rattle.vm.specs.Numbers.{answerNumbered}
-use Rattle.vm.specs.Transition.{up, untouched, ofRun, afterCheck, checksOf, meteredOf}
+use Rattle.machine.specs.Machine.{Outcome, next, done, stop, decode, whole}
+use Rattle.checks.specs.declared.Refusal.{Refusal}
+use Rattle.checks.specs.declared.Check.{Check}
+use Rattle.checks.specs.declared.Check.the-variants as check
+use Rattle.perform.specs.declared.State.{State}
+use Rattle.perform.specs.declared.Answer.{Answer}
+use Rattle.perform.specs.declared.Answer.the-variants.{Success, Refused}
+use Rattle.perform.specs.Numbers.{answerNumbered}
+use Rattle.perform.specs.Run.{up, ofRun}
+use Rattle.vm.specs.Transition.{afterCheck, checksOf, meteredOf}
 use Rattle.runops.specs.declared.report.Report.{Report}
-use Rattle.runops.specs.Report.{refusedWith, topOf, answered, zeros, none, ran, runReport}
+use Rattle.runops.specs.Report.{refusedWith, topOf, answered, call, ran, runReport}
 
 length-up : (s : List ℕ) → length (up s) ≡ length s
 unfolding up
@@ -27,7 +27,7 @@ pub record Ran (ks vs : List ℕ) (a : Answer) (s : List ℕ) : Type 0 where
   pub answer : a ≡ ran ks vs .answer
   pub stack : s ≡ ran ks vs .stack
 
-pub made : (ks vs s : List ℕ) (a : Answer) → a ≡ meteredOf ks vs 7 1000 zeros zeros zeros none .answer → s ≡ meteredOf ks vs 7 1000 zeros zeros zeros none .stack → Ran ks vs a s
+pub made : (ks vs s : List ℕ) (a : Answer) → a ≡ meteredOf (call ks vs) .answer → s ≡ meteredOf (call ks vs) .stack → Ran ks vs a s
 unfolding ran
 made ks vs s a h k = record { answer = h; stack = k }
 
@@ -35,16 +35,16 @@ made ks vs s a h k = record { answer = h; stack = k }
 pub items-fit : (ks vs s : List ℕ) (a : Answer) (spent operations items : ℕ) (after : State) → Ran ks vs a s → a ≡ Success spent operations items after → items ≤ length s
 unfolding ran
 items-fit ks vs s a spent operations items after r e =
-    go (checksOf check.Passed ks vs zeros zeros zeros 0) (whole (decode ks vs) 7 4096 1000 []) (sym (r .answer) ∙ e) (r .stack)
+    go (checksOf check.Passed check.Passed (call ks vs)) (whole (decode ks vs) 7 4096 1000 []) (sym (r .answer) ∙ e) (r .stack)
   where
     not-success : {A : Type 0} (f : Refusal) → Refused f ≡ Success spent operations items after → A
     not-success f e = let z : _≡_ {A = ℕ} 0 1 = cc in absurd (omega arith)
 
-    go : (x : Check) (o : Outcome) → afterCheck x (λ f. untouched f none zeros zeros zeros) (ofRun 1000 none 4096 zeros o) .answer ≡ Success spent operations items after
-        → s ≡ afterCheck x (λ f. untouched f none zeros zeros zeros) (ofRun 1000 none 4096 zeros o) .stack → items ≤ length s
+    go : (c : Check) (o : Outcome) → afterCheck c (call ks vs) (ofRun (call ks vs) o) .answer ≡ Success spent operations items after
+        → s ≡ afterCheck c (call ks vs) (ofRun (call ks vs) o) .stack → items ≤ length s
     go (check.Refused f) o e k = not-success f e
     go check.Passed (next h fr) e k = not-success _ e
-    go check.Passed (stop f) e k = not-success f e
+    go check.Passed (stop f) e k = not-success _ e
     go check.Passed (done h fr) e k =
         let n : length (fr .stack) ≡ items = cc in
         omega (arith, ap length k, length-append (up (fr .stack)) (replicate (4096 - length (fr .stack)) 0), length-up (fr .stack))

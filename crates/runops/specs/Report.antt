@@ -5,15 +5,16 @@ use mathlib.Core.List.{List, [], _∷_, _++_}
 use mathlib.Core.Bool.{cond}
 use lib.Dec.{ltb}
 use lib.ListN.{length, getD, replicate}
-use Rattle.number.specs.Decimal.{decimal}
 use Rattle.byte.specs.Ascii.{ascii}
+use Rattle.number.specs.Decimal.{decimal}
 use Rattle.ops.specs.Ops.{Reading, ops, refused, readText, onto, kindsOf, operandsOf}
 use Rattle.ops.specs.Numbers.{opsErrorNumbered}
-use Rattle.vm.specs.declared.State.{State}
-use Rattle.vm.specs.declared.Answer.{Answer}
-use Rattle.vm.specs.declared.Answer.the-variants.{Success, Refused}
-use Rattle.vm.specs.Numbers.{answerNumbered}
-use Rattle.vm.specs.Transition.{Result, meteredOf}
+use Rattle.perform.specs.declared.Answer.{Answer}
+use Rattle.perform.specs.declared.Answer.the-variants.{Success, Refused}
+use Rattle.perform.specs.Call.{Call}
+use Rattle.perform.specs.Numbers.{answerNumbered}
+use Rattle.perform.specs.Run.{Result}
+use Rattle.vm.specs.Transition.{meteredOf}
 use Rattle.runops.specs.declared.report.Report.{Report}
 
 -- all but the first 0 on refusal
@@ -42,13 +43,23 @@ answered (Refused f) stack = refusedWith (answerNumbered (Refused f) .number)
 abbrev pub zeros : List ℕ
 zeros = replicate 4096 0
 
--- no storage used
-abbrev pub none : State
-none = record { used = 0 }
+-- limit 1,000, caller 7, no storage used
+abbrev pub call : (kinds operands : List ℕ) → Call
+call kinds operands =
+    record {
+      kinds = kinds;
+      operands = operands;
+      caller = 7;
+      limit = 1000;
+      state = record { used = 0 };
+      stack = zeros;
+      work = zeros;
+      storage = zeros;
+    }
 
--- a metered run with limit 1,000, caller 7
+-- a metered run
 unfoldable pub ran : (kinds operands : List ℕ) → Result
-ran kinds operands = meteredOf kinds operands 7 1000 zeros zeros zeros none
+ran kinds operands = meteredOf (call kinds operands)
 
 abbrev pub runReport : (kinds operands : List ℕ) → Report
 runReport kinds operands = answered (ran kinds operands .answer) (ran kinds operands .stack)

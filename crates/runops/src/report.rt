@@ -4,8 +4,8 @@ ghost use mathlib.Core.Path.{_≡_};
 ghost use lib.ListN.{length};
 ghost use Rattle.runops.specs.Report.{refusedWith, topOf, runReport, reportOf};
 use ops::ParsedOps;
-use vm::Answer;
-use vm::State;
+use perform::Answer;
+use perform::State;
 
 pub struct Report {
     pub refusal: u64,

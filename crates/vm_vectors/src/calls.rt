@@ -3,7 +3,7 @@ ghost use Rattle.io.specs.Counts.{Counts};
 use super::agree;
 use super::list;
 use numbered::Numbered;
-use vm::State;
+use perform::State;
 
 // What a call is given beside texts and buffers, and how much of the stack and work buffers is lent.
 struct Given {
@@ -118,7 +118,7 @@ fn call(
     let texts = list::part(line, b'/', 1);
     let state = State { used: given.used };
     match letter(line, 1) {
-        b'v' => vm::verify::verify(kinds, operands, given.used).numbered(),
+        b'v' => checks::verify(kinds, operands, given.used).numbered(),
         b'r' => vm::run_with_gas(
             kinds,
             operands,

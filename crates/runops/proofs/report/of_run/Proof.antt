@@ -1,6 +1,8 @@
 -- `runops::report::of_run` meets its contract: the report is that of the run.
 -- Assumes nothing.
-use mathlib.Core.Path.{ap}
+use Prim.Native.Nat.{ℕ}
+use mathlib.Core.Path.{sym, ap}
+use lib.ListN.{length-replicate}
 use denote.Ref.{now}
 use Rattle.numbered.specs.declared.Numbered.{Numbered}
 use Rattle.runops.proofs.Running.{made, items-fit, refused-run, successful-run}
@@ -9,13 +11,13 @@ use Rattle.runops.proofs.report.of_run.Statement.{statement}
 use Rattle.runops.proofs.report.of_run.Tie as tie
 
 slice-aggregate-run-with-gas : tie.Need-slice-aggregate-run-with-gas
-slice-aggregate-run-with-gas c = search needs
+slice-aggregate-run-with-gas c = sym (length-replicate {A = ℕ} 4096 0)
 
 slice-aggregate-run-with-gas-2 : tie.Need-slice-aggregate-run-with-gas-2
-slice-aggregate-run-with-gas-2 c = search needs
+slice-aggregate-run-with-gas-2 c = sym (length-replicate {A = ℕ} 4096 0)
 
 slice-aggregate-run-with-gas-3 : tie.Need-slice-aggregate-run-with-gas-3
-slice-aggregate-run-with-gas-3 c = search needs
+slice-aggregate-run-with-gas-3 c = sym (length-replicate {A = ℕ} 4096 0)
 
 run-with-gas-requires : tie.Need-run-with-gas-requires
 run-with-gas-requires c κs = search needs
