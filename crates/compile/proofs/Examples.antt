@@ -13,7 +13,6 @@ use Rattle.machine.specs.Machine.{decode, runOf, whole}
 use Rattle.checks.specs.declared.Refusal.the-variants.{OutOfGas}
 use Rattle.checks.specs.Verify.{operationsCheck}
 use Rattle.perform.specs.declared.Answer.the-variants.{Success, Refused}
-use Rattle.perform.specs.Run.{up}
 use Rattle.expression.specs.Parse.{parseF, meaning}
 use Rattle.assembler.specs.State.{each}
 use Rattle.assembler.specs.Assembled.{assembledTree}
@@ -65,7 +64,7 @@ succeeds : compileOf (tally 7 70 6) ≡ record {
   answer = ran 67 3 2 24 6 (Success 7 6 1 (record { used = 0 }));
   left = record { out = text ++ 9 ∷ 9 ∷ 9 ∷ []; kinds = 0 ∷ 0 ∷ 1 ∷ 0 ∷ 3 ∷ 15 ∷ []; operands = 5 ∷ 7 ∷ 0 ∷ 2 ∷ 0 ∷ 0 ∷ []; stack = 24 ∷ replicate 4095 0; work = 0 ∷ []; storage = 8 ∷ [] };
 }
-unfolding compileOf assembled output decimal assembledTree each meaning parseF scan decode runOf whole operationsCheck up contract vector
+unfolding compileOf assembled output decimal assembledTree each meaning parseF scan decode runOf whole operationsCheck contract vector
 succeeds = refl
 
 out-of-gas : compileOf (tally 6 67 6) ≡ record {

@@ -12,7 +12,7 @@ use Rattle.machine.specs.Machine.{Fault, stackLimitExceeded, Outcome, done, sto
 use Rattle.numbered.specs.declared.Numbered.{Numbered}
 use Rattle.checks.specs.Numbers.{refusalNumbered}
 use Rattle.perform.specs.Call.{Call}
-use Rattle.perform.specs.Run.{up, refusalOf, ofRun}
+use Rattle.perform.specs.Run.{refusalOf, ofRun}
 use Rattle.expression.specs.Tree.{Tree, valueOf, pOf}
 use Rattle.assembler.specs.Output.{operationsOf}
 use Rattle.compiled.specs.Counting.{Short, Fills}

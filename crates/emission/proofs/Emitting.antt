@@ -11,6 +11,7 @@ use Rattle.numbered.specs.Outcome.{is}
 use Rattle.byte.proofs.Parts.{middle}
 use Rattle.token.specs.Token.{tokens, tokenAt, scan}
 use Rattle.expression.specs.Tree.{num}
+use Rattle.expression.specs.Grammar.{levels}
 use Rattle.expression.specs.Parse.{meaning}
 use Rattle.expression.specs.Source.{Sources, treeIn, expressionOf, envOf, treeOf, AllStand}
 use Rattle.expression.specs.Written.{textOf}
@@ -21,7 +22,7 @@ use Rattle.emission.specs.declared.factor.Factor.the-variants.{Open, Lit
 use Rattle.emission.specs.declared.factor.FactorAt.{FactorAt}
 use Rattle.emission.specs.declared.operator.Turn.{Turn}
 use Rattle.emission.specs.Factor.{factorAt}
-use Rattle.emission.specs.Waiting.{popped, stackOf}
+use Rattle.emission.specs.Waiting.{most, popped, stackOf}
 use Rattle.emission.specs.Turn.{signAt, downTo, Ready, Turns}
 use Rattle.emission.specs.Emitted.{treeBetween, Means, Kept}
 use Rattle.emission.proofs.Stack.{stack-length, stack-more, text-num}
@@ -35,8 +36,8 @@ module _ (s : List ℕ) (c : Sources) (count end : ℕ) (whole out₀ : List ℕ
     pub rest : List ℕ
     pub all : o ++ rest ≡ whole
     pub put : Put out₀ at o out to
-    pub few : n ≤ 194
-    pub full : length waiting ≡ 194
+    pub few : n ≤ most
+    pub full : length waiting ≡ most
     pub walks : Walks (envOf s c count) due (stackOf waiting n) (tokens (drop i (take end s))) rest
 
   -- what does not change
@@ -59,7 +60,7 @@ past : (s : List ℕ) (end i : ℕ) → end ≤ length s → i < end → {j : �
 past s end i h l e = omega (arith, token-past (take end s) i (omega (arith, length-take-le end s h)))
 
 -- it starts with nothing written
-pub going-starts : {s : List ℕ} {c : Sources} {count start end : ℕ} {out : List ℕ} {at : ℕ} {waiting : List ℕ} → Means s c count start end → length waiting ≡ 194 → Going s c count end (textOf (treeBetween s c count start end)) out at out at waiting 0 start true
+pub going-starts : {s : List ℕ} {c : Sources} {count start end : ℕ} {out : List ℕ} {at : ℕ} {waiting : List ℕ} → Means s c count start end → length waiting ≡ most → Going s c count end (textOf (treeBetween s c count start end)) out at out at waiting 0 start true
 unfolding stackOf
 going-starts {s} {c} {count} {start} {end} {out} {at} m f = record {
   o = [];
@@ -71,7 +72,7 @@ going-starts {s} {c} {count} {start} {end} {out} {at} m f = record {
   walks = postfix (envOf s c count) (drop start (take end s)) (treeBetween s c count start end) (m .is);
 }
 
-pub running-starts : {s : List ℕ} {c : Sources} {count start end : ℕ} {out : List ℕ} {at : ℕ} {waiting places lengths : List ℕ} → Means s c count start end → at + length (textOf (treeBetween s c count start end)) ≤ length out → Kept s c out at places lengths → length waiting ≡ 194 → Running s c count start end out at out at waiting 0 start true places lengths
+pub running-starts : {s : List ℕ} {c : Sources} {count start end : ℕ} {out : List ℕ} {at : ℕ} {waiting places lengths : List ℕ} → Means s c count start end → at + length (textOf (treeBetween s c count start end)) ≤ length out → Kept s c out at places lengths → length waiting ≡ most → Running s c count start end out at out at waiting 0 start true places lengths
 running-starts m r k f = record { fixed = record { stand = m .stand; inside = m .inside; room = r }; going = going-starts m f; kept = k }
 
 module _ {s : List ℕ} {c : Sources} {count end : ℕ} {whole out₀ : List ℕ} {at : ℕ} (x : Fixed s c count end whole out₀ at) {out : List ℕ} {to : ℕ} {waiting : List ℕ} {n i : ℕ} where
@@ -90,7 +91,7 @@ module _ {s : List ℕ} {c : Sources} {count end : ℕ} {whole out₀ : List ℕ
       pub fits : to + length piece ≤ length out
       fits = omega (arith, going-length, g .put .next, x .room, part)
 
-      goes : {new : List ℕ} {r : ℕ} → Put out to piece new r → {waiting' : List ℕ} {n' i' : ℕ} {due' : Bool} → n' ≤ 194 → length waiting' ≡ 194 → Walks (envOf s c count) due' (stackOf waiting' n') (tokens (drop i' (take end s))) more → Going s c count end whole out₀ at new r waiting' n' i' due'
+      goes : {new : List ℕ} {r : ℕ} → Put out to piece new r → {waiting' : List ℕ} {n' i' : ℕ} {due' : Bool} → n' ≤ most → length waiting' ≡ most → Walks (envOf s c count) due' (stackOf waiting' n') (tokens (drop i' (take end s))) more → Going s c count end whole out₀ at new r waiting' n' i' due'
       goes {new} {r} p f l w = record {
         o = g .o ++ piece;
         rest = more;
@@ -118,7 +119,7 @@ module _ {s : List ℕ} {c : Sources} {count end : ℕ} {whole out₀ : List ℕ
     pub no-factor : next .factor ≡ Nothing → ⊥
     no-factor q = step Nothing q
 
-    pub open-room : next .factor ≡ Open → n < 194
+    pub open-room : next .factor ≡ Open → n < most
     open-room q = omega (arith, step Open q .0, stack-length waiting n)
 
     pub opened : next .factor ≡ Open → Going s c count end whole out₀ at out to (set waiting n 40) (n + 1) (next .end) true
@@ -177,20 +178,20 @@ module _ {s : List ℕ} {c : Sources} {count end : ℕ} {whole out₀ : List ℕ
     unfolding scan
     none-left = ap tokens (drop-of-length-le (take end s) {i = i} (omega (arith, length-take-le end s (x .inside))))
 
-    last : (d : Bool) → due ≡ d → g .rest ≡ operatorsText (popped 2 (stackOf waiting n)) ++ []
+    last : (d : Bool) → due ≡ d → g .rest ≡ operatorsText (popped levels (stackOf waiting n)) ++ []
     last true e = absurd (rw (none-left, e) at (g .walks))
     last false e =
         let w : Walks (envOf s c count) false (stackOf waiting n) [] (g .rest) = rw (none-left, e) at (g .walks) in
-        w .text ∙ sym (append-nil (operatorsText (popped 2 (stackOf waiting n))))
+        w .text ∙ sym (append-nil (operatorsText (popped levels (stackOf waiting n))))
 
-    pub end-fits : to + length (operatorsText (popped 2 (stackOf waiting n))) ≤ length out
-    end-fits = fits g (operatorsText (popped 2 (stackOf waiting n))) [] (last due refl)
+    pub end-fits : to + length (operatorsText (popped levels (stackOf waiting n))) ≤ length out
+    end-fits = fits g (operatorsText (popped levels (stackOf waiting n))) [] (last due refl)
 
-    pub end-put : {new : List ℕ} {r : ℕ} → Put out to (operatorsText (popped 2 (stackOf waiting n))) new r → Put out₀ at whole new r
+    pub end-put : {new : List ℕ} {r : ℕ} → Put out to (operatorsText (popped levels (stackOf waiting n))) new r → Put out₀ at whole new r
     end-put p =
         let e = last due refl in
-        let q = put-then (g .put) (omega (arith, x .room, part g (operatorsText (popped 2 (stackOf waiting n))) [] e)) p in
-        let a : g .o ++ operatorsText (popped 2 (stackOf waiting n)) ≡ whole = ap (λ (y : List ℕ). g .o ++ y) (sym (e ∙ append-nil (operatorsText (popped 2 (stackOf waiting n))))) ∙ g .all in
+        let q = put-then (g .put) (omega (arith, x .room, part g (operatorsText (popped levels (stackOf waiting n))) [] e)) p in
+        let a : g .o ++ operatorsText (popped levels (stackOf waiting n)) ≡ whole = ap (λ (y : List ℕ). g .o ++ y) (sym (e ∙ append-nil (operatorsText (popped levels (stackOf waiting n))))) ∙ g .all in
         rw (← a) q
 
 -- a binding that has an expression means its tree among the bindings before it

@@ -6,7 +6,7 @@ use native.Mathlib.Omega.{arith}
 use lib.ListN.{length, getD, length-append}
 use Rattle.writer.specs.Pieces.{Put, operatorText, operatorsText}
 use Rattle.writer.proofs.Pieces.{put-none, put-then, put-length}
-use Rattle.emission.specs.Waiting.{levelOf, popped, left, stackOf, Pops}
+use Rattle.emission.specs.Waiting.{levelOf, most, popped, left, stackOf, Pops}
 use Rattle.emission.proofs.Stack.{left-one, left-none, stack-top, popped-empty, popped-shut, popped-more}
 
 -- o is written so far, and k of n operators wait
@@ -17,9 +17,9 @@ pub record Popping (A : List ℕ) (level n : ℕ) (out₀ : List ℕ) (at : ℕ)
   pub room : at + length (operatorsText (popped level (stackOf A n))) ≤ length out₀
   pub same : left level (stackOf A k) ≡ left level (stackOf A n)
   pub fewer : k ≤ n
-  pub few : n ≤ 194
+  pub few : n ≤ most
 
-pub popping-starts : (A : List ℕ) (level n : ℕ) (out : List ℕ) (at : ℕ) → n ≤ 194 → at + length (operatorsText (popped level (stackOf A n))) ≤ length out → Popping A level n out at out at n
+pub popping-starts : (A : List ℕ) (level n : ℕ) (out : List ℕ) (at : ℕ) → n ≤ most → at + length (operatorsText (popped level (stackOf A n))) ≤ length out → Popping A level n out at out at n
 popping-starts A level n out at h r = record { o = []; put = put-none out at; all = refl; room = r; same = refl; fewer = omega arith; few = h }
 
 left-empty : (A : List ℕ) (level k : ℕ) → k ≤ 0 → stackOf A k ≡ left level (stackOf A k)

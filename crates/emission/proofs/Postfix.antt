@@ -10,13 +10,13 @@ use Rattle.word.specs.Apply.{Binary}
 use Rattle.token.specs.Token.{tokens}
 use Rattle.expression.specs.Tree.{Tree, bin}
 use Rattle.expression.specs.Parse.{Env, lone, operator, meaning}
-use Rattle.expression.specs.Grammar.{Derives, number, name, parentheses, alone, join}
+use Rattle.expression.specs.Grammar.{levels, Derives, number, name, parentheses, alone, join}
 use Rattle.expression.specs.Written.{textOf}
 use Rattle.expression.proofs.Steps.{lone-is}
 use Rattle.expression.proofs.Grammar.{operator-is, digits-no-parenthesis, meaning-derives}
 use Rattle.expression.proofs.Written.{text-bin}
 use Rattle.writer.specs.Pieces.{operatorText, operatorsText}
-use Rattle.emission.specs.Waiting.{levelOf, popped, left}
+use Rattle.emission.specs.Waiting.{levelOf, most, popped, left}
 use Rattle.emission.proofs.Stack.{joins-level, popped-one, popped-none, left-one, left-none, operators-append}
 use Rattle.emission.proofs.Walk.{opens, closes, waits, Walks}
 use Rattle.emission.proofs.Walk as Walk
@@ -54,12 +54,12 @@ alone-ends : {env : Env} {l : ℕ} {st : List ℕ} {ts : List (List ℕ)} {t : T
 alone-ends v = record { o' = v .o'; top = v .top; all = v .all; popped = λ p h. v .popped p (omega arith); left = λ p h. v .left p (omega arith); walks = v .walks }
 
 -- an expression in parentheses
-module _ {env : Env} {st : List ℕ} {ts : List (List ℕ)} {t : Tree} (small : length st < 194) (v : Ends env 2 (40 ∷ st) ts t) where
-  shut-popped : popped 2 (v .top ++ 40 ∷ st) ≡ v .top
-  shut-popped = v .popped 2 (omega arith) ∙ ap (λ (x : List ℕ). v .top ++ x) (popped-none 2 40 st (omega arith)) ∙ append-nil (v .top)
+module _ {env : Env} {st : List ℕ} {ts : List (List ℕ)} {t : Tree} (small : length st < most) (v : Ends env levels (40 ∷ st) ts t) where
+  shut-popped : popped levels (v .top ++ 40 ∷ st) ≡ v .top
+  shut-popped = v .popped levels (omega arith) ∙ ap (λ (x : List ℕ). v .top ++ x) (popped-none levels 40 st (omega arith)) ∙ append-nil (v .top)
 
-  shut-left : left 2 (v .top ++ 40 ∷ st) ≡ 40 ∷ st
-  shut-left = v .left 2 (omega arith) ∙ left-none 2 40 st (omega arith)
+  shut-left : left levels (v .top ++ 40 ∷ st) ≡ 40 ∷ st
+  shut-left = v .left levels (omega arith) ∙ left-none levels 40 st (omega arith)
 
   shut-walks : (rest : List (List ℕ)) (o : List ℕ) → Walks env false st rest o → Walks env true (40 ∷ st) (ts ++ (41 ∷ []) ∷ rest) (textOf t ++ o)
   shut-walks rest o h =
@@ -73,7 +73,7 @@ regroup : (a b c d : List ℕ) → (a ++ b) ++ (c ++ (d ++ [])) ≡ (a ++ (b ++ 
 regroup a b c d = simp (append-assoc, append-nil)
 
 -- one more operator of a level, and its right side
-module _ {env : Env} {l : ℕ} {st : List ℕ} {ts us : List (List ℕ)} {t u : Tree} (w : List ℕ) (low : l < 2) (small : length st < 194) (s : Starts (suc l) st) (v : Ends env (suc l) st ts t) (level : levelOf (lone w) ≡ suc l) (n : Ends env l (lone w ∷ st) us u) where
+module _ {env : Env} {l : ℕ} {st : List ℕ} {ts us : List (List ℕ)} {t u : Tree} (w : List ℕ) (low : l < levels) (small : length st < most) (s : Starts (suc l) st) (v : Ends env (suc l) st ts t) (level : levelOf (lone w) ≡ suc l) (n : Ends env l (lone w ∷ st) us u) where
   join-popped : popped (levelOf (lone w)) (v .top ++ st) ≡ v .top
   join-popped = v .popped (levelOf (lone w)) (omega arith) ∙ ap (λ (x : List ℕ). v .top ++ x) (s .popped (levelOf (lone w)) (omega arith)) ∙ append-nil (v .top)
 
@@ -115,10 +115,10 @@ module _ {env : Env} {l : ℕ} {st : List ℕ} {ts us : List (List ℕ)} {t u : 
   join-ends = record { o' = textOf t ++ n .o'; top = n .top ++ lone w ∷ []; all = join-text; popped = join-pops; left = join-leaves; walks = join-walks }
 
 -- tokens of a level, walked from a stack that leaves room for what waits in the parentheses that may still open
-ends : {env : Env} {l d : ℕ} {ts : List (List ℕ)} {t : Tree} → Derives env l d ts t → l ≤ 2 → (st : List ℕ) → length st + l + 3 * d ≤ 194 → Starts l st → Ends env l st ts t
+ends : {env : Env} {l d : ℕ} {ts : List (List ℕ)} {t : Tree} → Derives env l d ts t → l ≤ levels → (st : List ℕ) → length st + l + (levels + 1) * d ≤ most → Starts l st → Ends env l st ts t
 ends {env} (number {d} {w} b a h) low st small s = factor-ends env st (w ∷ []) _ (λ rest o g. Walk.number (digits-no-parenthesis w a) a h o refl g)
 ends {env} (name {d} {w} {t} n a h) low st small s = factor-ends env st (w ∷ []) t (λ rest o g. Walk.name (λ e. n (lone-is w 40 (omega arith) e)) a t h o refl g)
-ends {env} (parentheses {d} {ts} {t} h) low st small s = parentheses-end (omega arith) (ends h (omega arith) (40 ∷ st) (omega arith) (starts-top 2 40 st (omega arith)))
+ends {env} (parentheses {d} {ts} {t} h) low st small s = parentheses-end (omega arith) (ends h (omega arith) (40 ∷ st) (omega arith) (starts-top levels 40 st (omega arith)))
 ends {env} (alone {l} {d} {ts} {t} h) low st small s = alone-ends (ends h (omega arith) st (omega arith) (starts-below s))
 ends {env} (join {l} {d} {ts} {us} {w} {op} {t} {u} h o g) low st small s =
     let j = operator-is o in
@@ -128,9 +128,9 @@ ends {env} (join {l} {d} {ts} {us} {w} {op} {t} {u} h o g) low st small s =
 
 pub postfix : (env : Env) (s : List ℕ) (t : Tree) → meaning env s ≡ is t → Walks env true [] (tokens s) (textOf t)
 postfix env s t e =
-    let v = ends (meaning-derives env s t e .1) (omega arith) [] (omega arith) (starts-empty 2) in
-    let p : popped 2 (v .top ++ []) ≡ v .top = v .popped 2 (omega arith) ∙ ap (λ (x : List ℕ). v .top ++ x) (starts-empty 2 .popped 2 (omega arith)) ∙ append-nil (v .top) in
-    let q : left 2 (v .top ++ []) ≡ [] = v .left 2 (omega arith) ∙ starts-empty 2 .left 2 (omega arith) in
+    let v = ends (meaning-derives env s t e .1) (omega arith) [] (omega arith) (starts-empty levels) in
+    let p : popped levels (v .top ++ []) ≡ v .top = v .popped levels (omega arith) ∙ ap (λ (x : List ℕ). v .top ++ x) (starts-empty levels .popped levels (omega arith)) ∙ append-nil (v .top) in
+    let q : left levels (v .top ++ []) ≡ [] = v .left levels (omega arith) ∙ starts-empty levels .left levels (omega arith) in
     let w = v .walks [] (operatorsText (v .top)) (record { text = ap operatorsText (sym p); empty = q }) in
     let x = subst (λ (x : List (List ℕ)). Walks env true [] x (v .o' ++ operatorsText (v .top))) (append-nil (tokens s)) w in
     subst (Walks env true [] (tokens s)) (v .all) x

@@ -5,8 +5,8 @@ use mathlib.Core.List.{List, [], _∷_, _++_, append-nil}
 use mathlib.Core.Bool.{Bool, true, false}
 use mathlib.Core.Option.{some, none}
 use native.Mathlib.Omega.{arith}
-use borrow.Author.Tests.{lt-ltb, eq-eqb, ne-eqb}
-use lib.Dec.{ltb}
+use borrow.Author.Tests.{lt-ltb, le-leb, eq-eqb, ne-eqb}
+use lib.Dec.{leb}
 use lib.ListN.{length, drop, drop-of-length-le}
 use Rattle.byte.proofs.Tests.{by-leb}
 use Rattle.number.specs.Decimal.{value}
@@ -15,6 +15,7 @@ use Rattle.token.proofs.Tokens.{token-none, token-next, tokenFrom, next-at}
 use Rattle.expression.specs.declared.names.Found.{Found}
 use Rattle.expression.specs.declared.names.Found.the-variants as Found
 use Rattle.expression.specs.Tree.{Tree}
+use Rattle.expression.specs.Grammar.{levels}
 use Rattle.expression.specs.Parse.{lookup, lone}
 use Rattle.expression.specs.Source.{Sources, envOf, treeOf, AllStand}
 use Rattle.expression.specs.Table.{found}
@@ -23,7 +24,7 @@ use Rattle.writer.specs.Pieces.{pushText, operatorsText}
 use Rattle.emission.specs.declared.factor.Factor.{Factor}
 use Rattle.emission.specs.declared.factor.Factor.the-variants.{Open, Literal, Name, Nothing}
 use Rattle.emission.specs.Factor.{namedBy, factorOf}
-use Rattle.emission.specs.Waiting.{levelOf, popped, left}
+use Rattle.emission.specs.Waiting.{levelOf, most, popped, left}
 use Rattle.emission.specs.Turn.{downTo, stackAfter}
 use Rattle.emission.proofs.Stack.{text-num}
 use Rattle.emission.proofs.Walk.{FactorStep, opens, number, name, OperatorStep, closes, waits, Walks}
@@ -49,7 +50,7 @@ token-past s at h =
 module _ (s : List ℕ) (c : Sources) (count : ℕ) (next : Bool → List ℕ → List ℕ → Type 0) (st o : List ℕ) where
   -- a factor is read: what it writes, and how the walk goes on
   abbrev pub Factored : Factor → Type 0
-  Factored Open = (length st < 194) × next true (40 ∷ st) o
+  Factored Open = (length st < most) × next true (40 ∷ st) o
   Factored (Literal v) = (o' : List ℕ) × ((o ≡ pushText v ++ o') × next false st o')
   Factored (Name i) = (i < count) × ((o' : List ℕ) × ((o ≡ textOf (treeOf s c i) ++ o') × next false st o'))
   Factored Nothing = ⊥
@@ -82,8 +83,8 @@ module _ (s : List ℕ) (c : Sources) (count : ℕ) (x : List ℕ) (at : ℕ) (s
   pub record Operated (sign : ℕ) : Type 0 where
     pub o' : List ℕ
     pub text : o ≡ operatorsText (popped (downTo sign) st) ++ o'
-    pub walks : onward (ltb (levelOf sign) 3) (stackAfter sign (left (downTo sign) st)) o'
-    pub room : levelOf sign < 3 → length (left (downTo sign) st) < 194
+    pub walks : onward (leb (levelOf sign) levels) (stackAfter sign (left (downTo sign) st)) o'
+    pub room : levelOf sign ≤ levels → length (left (downTo sign) st) < most
     pub mark : sign ≡ 41 → 0 < length (left (downTo sign) st)
 
 module _ (s : List ℕ) (c : Sources) (count : ℕ) (a : AllStand s c count) (x : List ℕ) (at : ℕ) (st o : List ℕ) where
@@ -108,13 +109,13 @@ module _ (s : List ℕ) (c : Sources) (count : ℕ) (x : List ℕ) (at : ℕ) (s
   })
   operated w (waits h r o' q g) =
       let d : downTo (lone w) ≡ levelOf (lone w) = omega arith in
-      let t = lt-ltb (levelOf (lone w)) 3 h in
+      let t = le-leb (levelOf (lone w)) levels h in
       record {
         o' = o';
         text = rw d q;
         walks = rw (d, t) g;
         room = λ k. rw d r;
-        mark = λ k. absurd (let z : levelOf (lone w) ≡ 3 = rw k refl in omega arith);
+        mark = λ k. absurd (let z : levelOf (lone w) ≡ levels + 1 = rw k refl in omega arith);
       }
 
   ended : Walks (envOf s c count) false st [] o → length x ≤ tokenAt x at .end → Operated s c count x at st o 0
@@ -123,7 +124,7 @@ module _ (s : List ℕ) (c : Sources) (count : ℕ) (x : List ℕ) (at : ℕ) (s
       let n : tokens (drop (tokenAt x at .end) x) ≡ [] = ap tokens (drop-of-length-le x h) in
       record {
         o' = [];
-        text = e .text ∙ sym (append-nil (operatorsText (popped 2 st)));
+        text = e .text ∙ sym (append-nil (operatorsText (popped levels st)));
         walks = rw (n, e .empty) (record { text = refl; empty = refl });
         room = λ k. absurd (omega arith);
         mark = λ k. absurd (omega arith);

@@ -4,35 +4,36 @@ use mathlib.Core.Path.{_≡_, sym, ap, _∙_}
 use mathlib.Core.List.{List, _∷_}
 use mathlib.Core.Bool.{true, false, cond}
 use native.Mathlib.Omega.{arith}
-use borrow.Author.Tests.{lt-ltb, le-ltb, eq-eqb, ne-eqb}
-use lib.Dec.{eqb, ltb}
+use borrow.Author.Tests.{le-leb, lt-leb, eq-eqb, ne-eqb}
+use lib.Dec.{eqb, leb}
 use lib.ListN.{length, set, take, drop, length-set}
 use Rattle.byte.proofs.Tests.{by-eqb}
 use Rattle.token.specs.Token.{tokenAt}
+use Rattle.expression.specs.Grammar.{levels}
 use Rattle.writer.specs.Pieces.{operatorsText}
 use Rattle.emission.specs.declared.waiting.Popped.{Popped}
-use Rattle.emission.specs.Waiting.{levelOf, popped, left, stackOf, Pops}
+use Rattle.emission.specs.Waiting.{levelOf, most, popped, left, stackOf, Pops}
 use Rattle.emission.specs.Turn.{signAt, downTo, Ready, Turns}
 use Rattle.emission.proofs.Stack.{stack-length, stack-more, stack-top}
 
 module _ {s : List ℕ} {end at : ℕ} {out : List ℕ} {to : ℕ} {waiting : List ℕ} {n : ℕ} (r : Ready s end at out to waiting n) {b : ℕ} (e : b ≡ signAt s end at) where
   -- an operator
-  module _ (h : levelOf b < 3) where
+  module _ (h : levelOf b ≤ levels) where
     level : downTo (signAt s end at) ≡ levelOf b
     level = ap downTo (sym e) ∙ (omega arith)
 
-    pub operator-pops : (n ≤ 194) × (to + length (operatorsText (popped (levelOf b) (stackOf waiting n))) ≤ length out)
+    pub operator-pops : (n ≤ most) × (to + length (operatorsText (popped (levelOf b) (stackOf waiting n))) ≤ length out)
     operator-pops = (r .few, rw (level) at (r .room))
 
     module _ {after : List ℕ} {p : Popped} (q : Pops out to waiting n (levelOf b) after p) where
-      pub operator-room : p .left < 194
+      pub operator-room : p .left < most
       operator-room =
-          let m : length (left (levelOf b) (stackOf waiting n)) < 194 = rw (level) at (r .operator (rw (← e) h)) in
+          let m : length (left (levelOf b) (stackOf waiting n)) < most = rw (level) at (r .operator (rw (← e) h)) in
           omega (arith, stack-length waiting (p .left), ap length (q .rest))
 
       pub operator-turns : {next : ℕ} → next ≡ tokenAt (take end s) at .end → Turns s end at out to waiting n after (set waiting (p .left) b) (record { at = next; to = p .to; waiting = p .left + 1; due = true })
       operator-turns g =
-          let t : ltb (levelOf (signAt s end at)) 3 ≡ true = rw (← e) (lt-ltb (levelOf b) 3 h) in
+          let t : leb (levelOf (signAt s end at)) levels ≡ true = rw (← e) (le-leb (levelOf b) levels h) in
           record {
             put = rw level (q .put);
             next = g;
@@ -43,20 +44,20 @@ module _ {s : List ℕ} {end at : ℕ} {out : List ℕ} {to : ℕ} {waiting : Li
           }
 
   -- a closing parenthesis or the end
-  module _ (h : 3 ≤ levelOf b) where
-    two : downTo (signAt s end at) ≡ 2
-    two = ap downTo (sym e) ∙ (omega arith)
+  module _ (h : levels < levelOf b) where
+    loosest : downTo (signAt s end at) ≡ levels
+    loosest = ap downTo (sym e) ∙ (omega arith)
 
-    pub close-pops : (n ≤ 194) × (to + length (operatorsText (popped 2 (stackOf waiting n))) ≤ length out)
-    close-pops = (r .few, rw (two) at (r .room))
+    pub close-pops : (n ≤ most) × (to + length (operatorsText (popped levels (stackOf waiting n))) ≤ length out)
+    close-pops = (r .few, rw (loosest) at (r .room))
 
-    module _ {after : List ℕ} {p : Popped} (q : Pops out to waiting n 2 after p) where
+    module _ {after : List ℕ} {p : Popped} (q : Pops out to waiting n levels after p) where
       pub close-mark : b ≡ 41 → 0 < p .left
       close-mark c =
-          let m : 0 < length (left 2 (stackOf waiting n)) = rw (two) at (r .mark (sym e ∙ c)) in
+          let m : 0 < length (left levels (stackOf waiting n)) = rw (loosest) at (r .mark (sym e ∙ c)) in
           omega (arith, stack-length waiting (p .left), ap length (q .rest))
 
-      stack-closed : stackOf waiting (cond (eqb b 41) (p .left - 1) (p .left)) ≡ cond (eqb b 41) (drop 1 (left 2 (stackOf waiting n))) (left 2 (stackOf waiting n))
+      stack-closed : stackOf waiting (cond (eqb b 41) (p .left - 1) (p .left)) ≡ cond (eqb b 41) (drop 1 (left levels (stackOf waiting n))) (left levels (stackOf waiting n))
       stack-closed =
           by-eqb b 41
           (λ c. simp (eq-eqb b 41 c) (ap (drop 1) (sym (stack-top waiting (p .left) (close-mark c)) ∙ q .rest)))
@@ -64,17 +65,17 @@ module _ {s : List ℕ} {end at : ℕ} {out : List ℕ} {to : ℕ} {waiting : Li
 
       pub close-turns : {next m : ℕ} → next ≡ tokenAt (take end s) at .end → m ≡ cond (eqb b 41) (p .left - 1) (p .left) → Turns s end at out to waiting n after waiting (record { at = next; to = p .to; waiting = m; due = false })
       close-turns {next} {m} g k =
-          let t : ltb (levelOf (signAt s end at)) 3 ≡ false = rw (← e) (le-ltb (levelOf b) 3 h) in
+          let t : leb (levelOf (signAt s end at)) levels ≡ false = rw (← e) (lt-leb (levelOf b) levels h) in
           record {
-            put = rw two (q .put);
+            put = rw loosest (q .put);
             next = g;
-            stack = ap (stackOf waiting) k ∙ stack-closed ∙ sym (simp t (rw (two, ← e)));
+            stack = ap (stackOf waiting) k ∙ stack-closed ∙ sym (simp t (rw (loosest, ← e)));
             few = fewer;
             full = r .full;
             due = sym t;
           }
         where
-          fewer : m ≤ 194
+          fewer : m ≤ most
           fewer =
               by-eqb b 41
               (λ c. let z : m ≡ p .left - 1 = k ∙ simp (eq-eqb b 41 c) in omega (arith, q .fewer, r .few))

@@ -1,5 +1,5 @@
 -- The text that a walk over the rest of an expression's tokens writes, with the operators that wait on a stack.
-use Prim.Native.Nat.{ℕ, _^_, _<_}
+use Prim.Native.Nat.{ℕ, _^_, _<_, _≤_}
 use mathlib.Core.Path.{_≡_}
 use mathlib.Core.List.{List, [], _∷_, _++_}
 use mathlib.Core.Bool.{Bool, true, false}
@@ -7,27 +7,28 @@ use mathlib.Core.Option.{some}
 use lib.ListN.{length}
 use Rattle.number.specs.Decimal.{allDigits, value}
 use Rattle.expression.specs.Tree.{Tree, num}
+use Rattle.expression.specs.Grammar.{levels}
 use Rattle.expression.specs.Parse.{Env, lookup, lone}
 use Rattle.expression.specs.Written.{textOf}
 use Rattle.writer.specs.Pieces.{operatorsText}
-use Rattle.emission.specs.Waiting.{levelOf, popped, left}
+use Rattle.emission.specs.Waiting.{levelOf, most, popped, left}
 
 -- The token w where a factor is due: `(` is marked on the stack, a number and a name are written.
 -- `next due st o`: the walk over the tokens behind w, with the stack st, writes o; due says whether it starts with a factor.
 pub data FactorStep (env : Env) (next : Bool → List ℕ → List ℕ → Type 0) (st w o : List ℕ) : Type 0 where
-  opens : lone w ≡ 40 → length st < 194 → next true (40 ∷ st) o → FactorStep env next st w o
+  opens : lone w ≡ 40 → length st < most → next true (40 ∷ st) o → FactorStep env next st w o
   number : (lone w ≡ 40 → ⊥) → allDigits w ≡ true → value w < 2 ^ 64 → (o' : List ℕ) → o ≡ textOf (num (value w)) ++ o' → next false st o' → FactorStep env next st w o
   name : (lone w ≡ 40 → ⊥) → allDigits w ≡ false → (t : Tree) → lookup w env ≡ some t → (o' : List ℕ) → o ≡ textOf t ++ o' → next false st o' → FactorStep env next st w o
 
 -- The token w where an operator is due: `)` writes the operators down to the mark; an operator writes those that bind at least as tightly, then waits.
 pub data OperatorStep (next : Bool → List ℕ → List ℕ → Type 0) (st w o : List ℕ) : Type 0 where
-  closes : lone w ≡ 41 → (st' : List ℕ) → left 2 st ≡ 40 ∷ st' → (o' : List ℕ) → o ≡ operatorsText (popped 2 st) ++ o' → next false st' o' → OperatorStep next st w o
-  waits : levelOf (lone w) < 3 → length (left (levelOf (lone w)) st) < 194 → (o' : List ℕ) → o ≡ operatorsText (popped (levelOf (lone w)) st) ++ o' → next true (lone w ∷ left (levelOf (lone w)) st) o' → OperatorStep next st w o
+  closes : lone w ≡ 41 → (st' : List ℕ) → left levels st ≡ 40 ∷ st' → (o' : List ℕ) → o ≡ operatorsText (popped levels st) ++ o' → next false st' o' → OperatorStep next st w o
+  waits : levelOf (lone w) ≤ levels → length (left (levelOf (lone w)) st) < most → (o' : List ℕ) → o ≡ operatorsText (popped (levelOf (lone w)) st) ++ o' → next true (lone w ∷ left (levelOf (lone w)) st) o' → OperatorStep next st w o
 
 -- The end writes the operators that wait.
 pub record EndStep (st o : List ℕ) : Type 0 where
-  pub text : o ≡ operatorsText (popped 2 st)
-  pub empty : left 2 st ≡ []
+  pub text : o ≡ operatorsText (popped levels st)
+  pub empty : left levels st ≡ []
 
 -- environment, whether a factor is due, stack, tokens, the text that is written from here on
 abbrev pub Walks : Env → Bool → List ℕ → List (List ℕ) → List ℕ → Type 0

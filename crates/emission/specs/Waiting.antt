@@ -1,17 +1,22 @@
 -- The operators that wait on a stack, top first, with a mark `(` for each open parenthesis.
-use Prim.Native.Nat.{ℕ, zero, suc, _≤_}
+use Prim.Native.Nat.{ℕ, zero, suc, _+_, _*_, _≤_}
 use mathlib.Core.Path.{_≡_}
 use mathlib.Core.List.{List, [], _∷_}
 use mathlib.Core.Bool.{true, false, cond}
 use lib.Dec.{leb}
 use lib.ListN.{getD}
-use Rattle.expression.specs.Parse.{joins, term, expression}
+use Rattle.expression.specs.Grammar.{levels, term, expression, depth}
+use Rattle.expression.specs.Parse.{joins}
 use Rattle.writer.specs.Pieces.{Put, operatorsText}
 use Rattle.emission.specs.declared.waiting.Popped.{Popped}
 
--- the level that an operator joins to: 1 for `*` and `/`, 2 for `+` and `-`; 3 for every other byte, the mark among them
+-- the level that an operator joins to; for every other byte, the mark among them, one above all levels
 abbrev pub levelOf : ℕ → ℕ
-levelOf a = cond (joins term a) term (cond (joins expression a) expression 3)
+levelOf a = cond (joins term a) term (cond (joins expression a) expression (levels + 1))
+
+-- the most that can wait: an operator of each level, and for each open parenthesis its mark and an operator of each level
+abbrev pub most : ℕ
+most = levels + (levels + 1) * depth
 
 -- the operators on top of a stack that bind at least as tightly as a level, and the stack without them
 unfoldable pub popped : ℕ → List ℕ → List ℕ

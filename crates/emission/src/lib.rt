@@ -17,6 +17,8 @@ use expression::names::wide;
 use factor::Factor;
 use factor::factor_at;
 use operator::operate;
+use waiting::LEVELS;
+use waiting::WAITING;
 use waiting::pop;
 use writer::put_again;
 use writer::put_push;
@@ -81,7 +83,7 @@ fn expression<'a>(
     ensures wrote { λ r. ⌜ Put (now (out .entry)) at (textOf (treeBetween (now (text .entry)) (sourcesOf (now (names .entry)) (now (lens .entry)) (now (tags .entry)) (now (starts .entry)) (now (sizes .entry)) (now (values .entry))) count start end)) (now (out .exit)) r ⌝ }
     ensures keeps { λ r. ⌜ Kept (now (text .entry)) (sourcesOf (now (names .entry)) (now (lens .entry)) (now (tags .entry)) (now (starts .entry)) (now (sizes .entry)) (now (values .entry))) (now (out .exit)) r (now (places .exit)) (now (lengths .exit)) ⌝ }
 {
-    let mut waiting = [0u8; 194];
+    let mut waiting = [0u8; WAITING];
     let mut n: usize = 0;
     let mut due = true;
     let mut i = start;
@@ -129,7 +131,7 @@ fn expression<'a>(
             due = next.due;
         }
     }
-    let last = pop(out, to, &waiting, n, 2);
+    let last = pop(out, to, &waiting, n, LEVELS);
     last.to
 }
 

@@ -4,6 +4,8 @@ ghost use mathlib.Core.Bool.{cond};
 ghost use Prim.Native.Nat.{_-_, _<_};
 ghost use lib.Dec.{eqb};
 ghost use Rattle.emission.specs.Turn.{Ready, Turns};
+use crate::waiting::LEVELS;
+use crate::waiting::WAITING;
 use crate::waiting::level_of;
 use crate::waiting::pop;
 use expression::parts::sign_at;
@@ -17,7 +19,7 @@ pub struct Turn {
 }
 
 // An operator first writes every waiting one that binds as tightly or tighter, then waits. A parenthesis writes down to its mark,
-// the end writes all. The loop calls it in an expression that was parsed: so what is written has room, at most 194 wait, and a closing
+// the end writes all. The loop calls it in an expression that was parsed: so what is written has room, at most so many wait as the array holds, and a closing
 // parenthesis has its mark.
 pub fn operate(
     text: &[u8],
@@ -25,7 +27,7 @@ pub fn operate(
     at: usize,
     out: &mut [u8],
     to: usize,
-    waiting: &mut [u8; 194],
+    waiting: &mut [u8; WAITING],
     n: usize,
 ) -> Turn
     requires { ⌜ Ready (now text) end at (now out) to (now waiting) n ⌝ }
@@ -35,7 +37,7 @@ pub fn operate(
     let byte = sign.byte;
     let next = sign.end;
     let level = level_of(byte);
-    if level < 3 {
+    if level <= LEVELS {
         let popped = pop(out, to, waiting, n, level);
         let left = popped.left;
         waiting[left] = byte;
@@ -46,7 +48,7 @@ pub fn operate(
             due: true,
         };
     }
-    let popped = pop(out, to, waiting, n, 2);
+    let popped = pop(out, to, waiting, n, LEVELS);
     let left = popped.left;
     Turn {
         at: next,

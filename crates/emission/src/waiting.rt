@@ -3,10 +3,20 @@ ghost use mathlib.Core.Path.{_≡_};
 ghost use Prim.Native.Nat.{_+_, _≤_};
 ghost use lib.ListN.{length};
 ghost use Rattle.writer.specs.Pieces.{operatorsText};
-ghost use Rattle.emission.specs.Waiting.{levelOf, popped, stackOf, Pops};
+ghost use Rattle.emission.specs.Waiting.{levelOf, most, popped, stackOf, Pops};
+use expression::DEPTH;
 use expression::parts::is_product;
 use expression::parts::is_sum;
 use writer::put_operator;
+
+// So many levels of operators: 1 for * and /, 2 for + and -.
+pub const LEVELS: u8 = 2;
+
+// One above all levels: that of any byte but an operator, the mark ( among them.
+const NO_LEVEL: u8 = LEVELS + 1;
+
+// The most that can wait: an operator of each level, and for each open parenthesis its mark and an operator of each level.
+pub const WAITING: usize = LEVELS as usize + (LEVELS as usize + 1) * DEPTH;
 
 // The place behind what was written, and how many wait still.
 pub struct Popped {
@@ -14,7 +24,6 @@ pub struct Popped {
     pub left: usize,
 }
 
-// 1 for * and /, 2 for + and -, 3 for any other byte.
 pub fn level_of(sign: u8) -> u8
     ensures { λ r. ⌜ r ≡ levelOf sign ⌝ }
 {
@@ -22,15 +31,15 @@ pub fn level_of(sign: u8) -> u8
         return 1;
     }
     if is_sum(sign) {
-        return 2;
+        return LEVELS;
     }
-    3
+    NO_LEVEL
 }
 
 // Writes the newest of n waiting operators, as far as they bind at least as tightly as a level. Its callers walk an expression that was
-// parsed and whose text has room: at most 194 wait, and those that are written are part of that text.
-pub fn pop(out: &mut [u8], at: usize, waiting: &[u8; 194], n: usize, level: u8) -> Popped
-    requires { ⌜ (n ≤ 194) × (at + length (operatorsText (popped level (stackOf (now waiting) n))) ≤ length (now out)) ⌝ }
+// parsed and whose text has room: at most so many wait, and those that are written are part of that text.
+pub fn pop(out: &mut [u8], at: usize, waiting: &[u8; WAITING], n: usize, level: u8) -> Popped
+    requires { ⌜ (n ≤ most) × (at + length (operatorsText (popped level (stackOf (now waiting) n))) ≤ length (now out)) ⌝ }
     ensures { λ r. ⌜ Pops (now (out .entry)) at (now (waiting .entry)) n level (now (out .exit)) r ⌝ }
 {
     let mut to = at;

@@ -5,7 +5,6 @@ use Rattle.token.specs.Token.{scan}
 use Rattle.expression.specs.Parse.{parseF, meaning}
 use Rattle.machine.specs.Machine.{decode, runOf, whole}
 use Rattle.checks.specs.Verify.{operationsCheck}
-use Rattle.perform.specs.Run.{up}
 use Rattle.assembler.specs.State.{each}
 use Rattle.assembler.specs.Assembled.{assembledTree}
 use Rattle.assembler.specs.Output.{output, assembled}
@@ -14,7 +13,7 @@ use Rattle.examples.specs.Runs.{ran}
 use Rattle.examples.specs.Bench.{Bench}
 
 pub bench : Bench
-unfolding ran compileOf decode runOf whole operationsCheck up assembled output decimal assembledTree each meaning parseF scan
+unfolding ran compileOf decode runOf whole operationsCheck assembled output decimal assembledTree each meaning parseF scan
 bench = record {
   e1 = refl;
   e1-text = refl;

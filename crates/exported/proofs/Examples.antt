@@ -11,7 +11,6 @@ use Rattle.token.specs.Token.{scan}
 use Rattle.context.specs.Gate.{gateOf}
 use Rattle.machine.specs.Machine.{decode, runOf, whole}
 use Rattle.checks.specs.Verify.{operationsCheck}
-use Rattle.perform.specs.Run.{up}
 use Rattle.expression.specs.Parse.{parseF, meaning}
 use Rattle.assembler.specs.State.{each}
 use Rattle.assembler.specs.Assembled.{assembledTree}
@@ -62,7 +61,7 @@ given = record {
 }
 
 in-row : InRow tally 67 given
-unfolding assembled output decimal assembledTree each meaning parseF scan decode runOf whole operationsCheck up contract vector
+unfolding assembled output decimal assembledTree each meaning parseF scan decode runOf whole operationsCheck contract vector
 in-row = record {
   assembles = record { tells = record { number = refl; words = refl }; buffer = refl };
   reads = record { tells = record { number = refl; words = refl }; kindsWritten = refl; operandsWritten = refl };

@@ -11,7 +11,11 @@ use Rattle.byte.specs.Ascii.{ascii}
 use Rattle.expression.specs.Tree.{Tree, num, bin}
 use Rattle.expression.specs.Environment.{Env, lookup}
 
--- the levels, from the tightest on; each is operands of the one below, joined from left to right
+-- so many levels of operators
+abbrev pub levels : ℕ
+levels = 2
+
+-- the levels, from the tightest on; each is operands of the one below, joined from left to right, and an expression is of the loosest
 abbrev pub factor : ℕ
 factor = 0
 
@@ -19,7 +23,11 @@ abbrev pub term : ℕ
 term = 1
 
 abbrev pub expression : ℕ
-expression = 2
+expression = levels
+
+-- so many parentheses may be open at once
+abbrev pub depth : ℕ
+depth = 64
 
 -- an operator: the level that it joins operands to, its sign and its operation
 pub data Operator : ℕ → List ℕ → Binary → Type 0 where

@@ -79,7 +79,7 @@ pub enum Parsed {
 }
 
 // So many parentheses may be open at once.
-const DEPTH: usize = 64;
+pub const DEPTH: usize = 64;
 
 // What the expression from a place of the text on means, and that it is read up to the end of the text's last token. Its names are those
 // of the first bindings, of a count above 256 the first 256. What is free: the answer where they tell no environment (a name that isn't inside

@@ -5,7 +5,6 @@ use mathlib.Core.List.{List}
 use Rattle.byte.specs.Ascii.{ascii}
 use Rattle.machine.specs.Machine.{decode, runOf, whole}
 use Rattle.checks.specs.Verify.{operationsCheck}
-use Rattle.perform.specs.Run.{up}
 use Rattle.runops.specs.declared.report.Report.{Report}
 use Rattle.runops.specs.Report.{refusedWith, ran, reportOf}
 
@@ -18,23 +17,23 @@ abbrev tally : List ℕ
 tally = ascii "# contract: tally\n# expected: 24\nPush 5\nPush 7\nAdd\nPush 2\nMul\nHalt\n"
 
 tally-prints : reportOf tally ≡ values 0 7 6 1 24 0
-unfolding ran decode runOf whole operationsCheck up
+unfolding ran decode runOf whole operationsCheck
 tally-prints = refl
 
 -- two items and three slots
 two-items : reportOf (ascii "Caller\nStore 2\nPush 9\nLoad 2\n") ≡ values 0 8 4 2 7 3
-unfolding ran decode runOf whole operationsCheck up
+unfolding ran decode runOf whole operationsCheck
 two-items = refl
 
 no-item : reportOf (ascii "Halt\n") ≡ values 0 0 1 0 0 0
-unfolding ran decode runOf whole operationsCheck up
+unfolding ran decode runOf whole operationsCheck
 no-item = refl
 
 -- refused in reading, and in the run
 not-an-operation : reportOf (ascii "Push\n") ≡ refusedWith 30
-unfolding ran decode runOf whole operationsCheck up
+unfolding ran decode runOf whole operationsCheck
 not-an-operation = refl
 
 divided-by-0 : reportOf (ascii "Push 75\nStore 0\nPush 1\nPush 0\nDiv\n") ≡ refusedWith 49
-unfolding ran decode runOf whole operationsCheck up
+unfolding ran decode runOf whole operationsCheck
 divided-by-0 = refl

@@ -12,7 +12,7 @@ use Rattle.perform.specs.declared.State.{State}
 use Rattle.perform.specs.declared.Answer.{Answer}
 use Rattle.perform.specs.declared.Answer.the-variants.{Success, Refused}
 use Rattle.perform.specs.Numbers.{answerNumbered}
-use Rattle.perform.specs.Run.{up, ofRun}
+use Rattle.perform.specs.Run.{ofRun}
 use Rattle.vm.specs.Transition.{afterCheck, checksOf, meteredOf}
 use Rattle.runops.specs.declared.report.Report.{Report}
 use Rattle.runops.specs.Report.{refusedWith, topOf, answered, call, ran, runReport}
