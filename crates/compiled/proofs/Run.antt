@@ -59,7 +59,6 @@ module _ (t : Tree) (v : ℕ) (e : valueOf t ≡ some v) (x : Call) (same : leng
   refused f q = rw q (record { numbered = refl; stack = refl })
 
   success : gasOf t ≤ g → pOf t ≤ 4096 → SucceedsWith t v (x .state .used) (x .stack) ran
-  unfolding up
   success a b =
       let d : g - (g - gasOf t) ≡ gasOf t = omega arith in
       rw (succeeds t v e (x .caller) (length (x .storage)) g used a b, used-kept, d) (record { numbered = refl; stack = refl })

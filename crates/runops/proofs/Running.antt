@@ -2,8 +2,8 @@
 use Prim.Native.Nat.{ℕ, zero, suc, _-_, _≤_}
 use native.Mathlib.Omega.{arith}
 use mathlib.Core.Path.{_≡_, refl, sym, ap, _∙_}
-use mathlib.Core.List.{List, [], _∷_}
-use lib.ListN.{length, getD, replicate, length-append}
+use mathlib.Core.List.{List, [], _∷_, reverse}
+use lib.ListN.{length, getD, replicate, length-append, length-reverse}
 use Rattle.machine.specs.Machine.{Outcome, next, done, stop, decode, whole}
 use Rattle.checks.specs.declared.Refusal.{Refusal}
 use Rattle.checks.specs.declared.Check.{Check}
@@ -16,11 +16,6 @@ use Rattle.perform.specs.Run.{ofRun}
 use Rattle.vm.specs.Transition.{afterCheck, checksOf, meteredOf}
 use Rattle.runops.specs.declared.report.Report.{Report}
 use Rattle.runops.specs.Report.{refusedWith, topOf, answered, call, ran, runReport}
-
-length-up : (s : List ℕ) → length (up s) ≡ length s
-unfolding up
-length-up [] = refl
-length-up (x ∷ s) = let h = length-up s in omega (arith, length-append (up s) (x ∷ []))
 
 -- a run's answer and its stack
 pub record Ran (ks vs : List ℕ) (a : Answer) (s : List ℕ) : Type 0 where
@@ -47,7 +42,7 @@ items-fit ks vs s a spent operations items after r e =
     go check.Passed (stop f) e k = not-success _ e
     go check.Passed (done h fr) e k =
         let n : length (fr .stack) ≡ items = cc in
-        omega (arith, ap length k, length-append (up (fr .stack)) (replicate (4096 - length (fr .stack)) 0), length-up (fr .stack))
+        omega (arith, ap length k, length-append (reverse (fr .stack)) (replicate (4096 - length (fr .stack)) 0), length-reverse (fr .stack))
 
 pub refused-run : (ks vs s : List ℕ) (a : Answer) (f : Refusal) (n : ℕ) (r : Report) → Ran ks vs a s → a ≡ Refused f → n ≡ answerNumbered (Refused f) .number → r ≡ refusedWith n → r ≡ runReport ks vs
 refused-run ks vs s a f n r h e k l = l ∙ ap refusedWith k ∙ ap (λ (x : Answer). answered x (ran ks vs .stack)) (sym e ∙ h .answer)
