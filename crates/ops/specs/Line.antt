@@ -28,16 +28,17 @@ Rule = Operand → List ℕ → Number
 abbrev pub fromStr : Rule
 fromStr operand t = numberOf t
 
--- the rules that the code has names for
-abbrev pub ruleOf : Named.Rule → Rule
-ruleOf FromStr = fromStr
-
--- a rule that reads digits as that one does, and a rule whose numbers fit 64 bits
+-- a rule that reads digits as that one does
 abbrev pub ReadsDigits : Rule → Type 0
 ReadsDigits rule = (operand : Operand) (d : List ℕ) → allDigits d ≡ true → rule operand d ≡ numberOf d
 
+-- a rule whose numbers fit 64 bits
 abbrev pub ReadsWords : Rule → Type 0
 ReadsWords rule = (operand : Operand) (t : List ℕ) (v : ℕ) → rule operand t ≡ Is v → v < 2 ^ 64
+
+-- the rules that the code has names for
+abbrev pub ruleOf : Named.Rule → Rule
+ruleOf FromStr = fromStr
 
 -- the refusal where that text says no number; no text stands behind the word of a kind without an operand
 abbrev pub badNumber : Operand → ℕ → ℕ → ℕ → OpsError
