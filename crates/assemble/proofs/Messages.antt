@@ -12,7 +12,7 @@ use Rattle.lines.specs.Lines.{lines}
 use Rattle.trim.specs.Trim.{trimmed}
 use Rattle.number.specs.Decimal.{decimal}
 use Rattle.number.proofs.Decimal.{length-word}
-use Rattle.ops.specs.Ascii.{ascii}
+use Rattle.byte.specs.Ascii.{ascii}
 use Rattle.ops.specs.Ops.{nthLine, trimmedLine}
 use Rattle.assemble.specs.Message.{words, wordsOf, keyText, carriedText, messageOf}
 

@@ -5,7 +5,7 @@ use mathlib.Core.Bool.{cond}
 use lib.ListN.{getD}
 use Rattle.byte.specs.Range.{within}
 use Rattle.number.specs.Decimal.{decimal}
-use Rattle.ops.specs.Ascii.{ascii}
+use Rattle.byte.specs.Ascii.{ascii}
 use Rattle.ops.specs.Ops.{nthLine}
 use Rattle.numbered.specs.declared.Numbered.{Numbered}
 
