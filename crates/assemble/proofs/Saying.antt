@@ -21,7 +21,7 @@ use Rattle.pieces.proofs.Adding.{added-fits, whole}
 use Rattle.assemble.specs.declared.say.Said.{Said}
 use Rattle.assemble.specs.declared.say.Said.the-variants.{Text, Message}
 use Rattle.assemble.specs.Message.{messageOf, refusalMessage}
-use Rattle.assemble.specs.Streams.{answered, said, countOf, Says}
+use Rattle.assemble.specs.Streams.{answered, countOf, Says}
 
 -- a success counts the bytes of its text, a refusal has no text
 abbrev Sized : List ℕ → Answer → Type 0

@@ -15,7 +15,8 @@ pub enum Said {
 // A message has at most 128 bytes. The program calls it with a buffer of 1,048,576.
 pub fn say(contract: &[u8], vector: &[u8], stem: &[u8], out: &mut [u8]) -> Said
     requires { ⌜ 128 ≤ length (now out) ⌝ }
-    ensures { λ r. ⌜ Says (assembled (now (contract .entry)) (now (vector .entry)) (now (stem .entry)) (length (now (out .entry)))) r (now (out .exit)) ⌝ }
+    ensures { λ r. ⌜ Says (assembled (now (contract .entry)) (now (vector .entry)) (now (stem .entry)) (length (now (out .entry))))
+        r (now (out .exit)) ⌝ }
 {
     let answer = assembly::assemble(contract, vector, stem, out);
     match answer {

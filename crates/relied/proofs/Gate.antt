@@ -3,14 +3,13 @@ use Prim.Native.Nat.{ℕ}
 use mathlib.Core.Path.{_≡_, refl}
 use mathlib.Core.Bool.{Bool, true, false}
 use mathlib.Core.List.{List, [], _∷_}
-use borrow.Author.Tests.{eq-eqb}
-use lib.Dec.{eqb}
-use Rattle.byte.proofs.Tests.{never, and-both}
+use Rattle.byte.proofs.Tests.{never}
 use Rattle.context.specs.declared.ContextError.{ContextError}
 use Rattle.context.specs.declared.ContextError.the-variants.{InvalidChainId, InvalidNetworkId, InvalidGenesisId, ProtocolMismatch, VmMismatch, GenesisMismatch}
 use Rattle.context.specs.declared.Gate.{Gate}
 use Rattle.context.specs.declared.Gate.the-variants as gate
 use Rattle.context.specs.Gate.{equal, atc, isNetwork, isGenesisId, need, gateOf, gateNumbered}
+use Rattle.context.proofs.Laws.{equal-refl}
 use Rattle.relied.specs.Numbers.{Among}
 
 -- the `unreachable!` of `execution_gate`, and the header's "Gives 0, 35 to 40"
@@ -31,18 +30,15 @@ need-validates : (b : Bool) (e : ContextError) (g : Gate) → Validates (gate.Re
 need-validates true e g p q = q
 need-validates false e g p q = p
 
-equal-self : (s : List ℕ) → equal s s ≡ true
-equal-self [] = refl
-equal-self (a ∷ s) = and-both (eqb a a) (equal s s) (eq-eqb a a refl) (equal-self s)
-
 pub validate-gives : (chain network genesis protocol vm expectedProtocol expectedVm : List ℕ)
-    → Among (0 ∷ 35 ∷ 36 ∷ 37 ∷ 38 ∷ 39 ∷ []) (gateNumbered (gateOf chain network genesis protocol vm genesis expectedProtocol expectedVm) .number)
+    → Among (0 ∷ 35 ∷ 36 ∷ 37 ∷ 38 ∷ 39 ∷ [])
+    (gateNumbered (gateOf chain network genesis protocol vm genesis expectedProtocol expectedVm) .number)
 validate-gives chain network genesis protocol vm expectedProtocol expectedVm =
     need-validates (equal chain atc) InvalidChainId _ refl
     (need-validates (isNetwork network) InvalidNetworkId _ refl
     (need-validates (isGenesisId genesis) InvalidGenesisId _ refl
     (need-validates (equal protocol expectedProtocol) ProtocolMismatch _ refl
-    (need-validates (equal vm expectedVm) VmMismatch _ refl (go (equal genesis genesis) (equal-self genesis))))))
+    (need-validates (equal vm expectedVm) VmMismatch _ refl (go (equal genesis genesis) (equal-refl genesis))))))
   where
     go : (b : Bool) → b ≡ true → Validates (need b GenesisMismatch gate.Passed)
     go true e = refl

@@ -86,7 +86,8 @@ module _ (P : ℕ → Type 0) where
     kinds : Each (λ k. leb k 15 ≡ false → P 44) ks
     target : P 45
 
-  operations-give : (n : ℕ) {ks : List ℕ} → P 0 → P 45 → Each (λ k. leb k 15 ≡ false → P 44) ks → (vs : List ℕ) → Gives (operationsCheck n ks vs)
+  operations-give : (n : ℕ) {ks : List ℕ} → P 0 → P 45 → Each (λ k. leb k 15 ≡ false → P 44) ks → (vs : List ℕ)
+      → Gives (operationsCheck n ks vs)
   unfolding operationsCheck
   operations-give n z t Written.none vs = z
   operations-give n z t (Written.one {a = k} {l = ks} p ps) [] = z
@@ -239,7 +240,8 @@ module _ (P : ℕ → Type 0) where
       unfolding whole
       whole-stops g m = run-stops (g + 1) g (start m)
 
-  run-gives : (own : Check) (x : Call) → Gives own → Verifying (x .kinds) (x .operands) → Gives (lengthsCheck x) → Stops (ran x) → P (answerNumber own x)
+  run-gives : (own : Check) (x : Call) → Gives own → Verifying (x .kinds) (x .operands) → Gives (lengthsCheck x) → Stops (ran x)
+      → P (answerNumber own x)
   run-gives own x q h b r =
       let v = verifyOf (x .kinds) (x .operands) (x .state .used) in
       let t = then-gives v check.Passed (verify-gives (x .kinds) (x .operands) (x .state .used) h) (h .zero) in
@@ -297,7 +299,8 @@ verify-relied ks vs used = record {
 }
 
 -- buffers that fit are none that 34 refuses
-fits : (ks vs s w m : List ℕ) (used : ℕ) → Lent ks vs s w m used → buffersFit (length ks) (length vs) (length s) (length w) (length m) used ≡ true
+fits : (ks vs s w m : List ℕ) (used : ℕ) → Lent ks vs s w m used
+    → buffersFit (length ks) (length vs) (length s) (length w) (length m) used ≡ true
 fits ks vs s w m used l =
     and-both (eqb (length ks) (length vs) && leb 4096 (length s)) (eqb (length w) (length m) && leb used (length m))
     (and-both (eqb (length ks) (length vs)) (leb 4096 (length s)) (eq-eqb (length ks) (length vs) (l .program)) (le-leb 4096 (length s) (l .stack)))
@@ -382,7 +385,8 @@ record First (ks vs : List ℕ) : Type 0 where
   kind : getD (decode ks vs) 0 halt .kind ≡ getD ks 0 0
   known : getD ks 0 0 ≤ 15
 
-first-of : (ks vs : List ℕ) → eqb (length ks) (length vs) ≡ true → ltb 0 (length ks) ≡ true → operationsCheck (length ks) ks vs ≡ check.Passed → First ks vs
+first-of : (ks vs : List ℕ) → eqb (length ks) (length vs) ≡ true → ltb 0 (length ks) ≡ true
+    → operationsCheck (length ks) ks vs ≡ check.Passed → First ks vs
 unfolding decode operationsCheck
 first-of [] vs l s e = absurd (omega (arith, ltb-true 0 0 s))
 first-of (k ∷ ks) [] l s e = absurd (omega (arith, eqb-true (suc (length ks)) 0 l))
@@ -405,7 +409,8 @@ ByFirst k n = (k ≡ 15 → n ≡ 0) × ((k ≡ 15 → ⊥) → n ≡ 46)
 over-number : (x : Call) (k : ℕ) (o : Outcome) → k ≤ 15 → OverAt k o → ByFirst k (answerNumbered (ofRun x o .answer) .number)
 over-number x k o l h = (λ e. rw (h .0 (omega arith) .2), λ e. rw (h .1 (omega arith) .1))
 
-passed-number : (own : Check) (x : Call) → x .limit ≡ 0 → checksOf own check.Passed x ≡ check.Passed → ByFirst (getD (x .kinds) 0 0) (answerNumber own x)
+passed-number : (own : Check) (x : Call) → x .limit ≡ 0 → checksOf own check.Passed x ≡ check.Passed
+    → ByFirst (getD (x .kinds) 0 0) (answerNumber own x)
 passed-number own x z e =
     subst (λ (c : Check). ByFirst (getD (x .kinds) 0 0) (answerNumbered (afterCheck c x (performed x) .answer) .number)) (sym e)
     (over-number x (getD (x .kinds) 0 0) (ran x) (first .known) over-first)

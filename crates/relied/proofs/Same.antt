@@ -27,7 +27,16 @@ module _ (own : Check) (x : Call) (stack work storage : List ℕ)
     (used : take (x .state .used) (x .storage) ≡ take (x .state .used) storage) where
   -- the same call on other buffers
   abbrev other : Call
-  other = record { kinds = x .kinds; operands = x .operands; caller = x .caller; limit = x .limit; state = x .state; stack = stack; work = work; storage = storage }
+  other = record {
+    kinds = x .kinds;
+    operands = x .operands;
+    caller = x .caller;
+    limit = x .limit;
+    state = x .state;
+    stack = stack;
+    work = work;
+    storage = storage;
+  }
 
   result : Call → Check → Outcome → Result
   result z c o = afterCheck c z (ofRun z o)

@@ -167,9 +167,11 @@ module _ (room : ℕ) where
     whole-reaches g m h = run-reaches (g + 1) g (start m) (record { stack = omega arith; storage = h })
 
 -- `Vm::perform` takes as many items of its stack buffer and as many slots of its storage buffer as the answer says: a success has
--- at most 4,096 items, and uses no more slots than were lent. `own` is the call's own test: none of atc_run_with_gas, the gate of a transition
+-- at most 4,096 items, and uses no more slots than were lent. `own` is the call's own test: none of atc_run_with_gas, the gate of
+-- a transition
 pub success-within : (own : Check) (x : Call) (spent operations items : ℕ) (after : State)
-    → runUnder own check.Passed (λ r. r) x .answer ≡ Success spent operations items after → (items ≤ 4096) × (after .used ≤ length (x .storage))
+    → runUnder own check.Passed (λ r. r) x .answer ≡ Success spent operations items after
+    → (items ≤ 4096) × (after .used ≤ length (x .storage))
 success-within own x spent operations items after =
     go (checksOf own check.Passed x) (ran x)
     (whole-reaches (length (x .storage)) (decode (x .kinds) (x .operands)) (x .caller) (x .limit) (take (x .state .used) (x .storage)) (simp length-take (omega arith)))

@@ -1,15 +1,18 @@
 -- `assemble::read` is safe: what was read of each file lies within its buffer.
 -- Assumes nothing.
+use Prim.Native.Nat.{ℕ}
+use mathlib.Core.Path.{sym}
+use lib.ListN.{length-replicate}
 use Rattle.files.proofs.Counted.{counted}
 use borrow.Author.Needs.{needs}
 use Rattle.assemble.proofs.read.Statement.{statement}
 use Rattle.assemble.proofs.read.Tie as tie
 
 slice-aggregate-read : tie.Need-slice-aggregate-read
-slice-aggregate-read c = search needs
+slice-aggregate-read c = sym (length-replicate {A = ℕ} 65537 0)
 
 read-requires : tie.Need-read-requires
-read-requires c κs = search needs
+read-requires c κs = tt
 
 enum-known-contract-read : tie.Need-enum-known-contract-read
 enum-known-contract-read c = search needs
@@ -18,16 +21,16 @@ enum-told : tie.Need-enum-told
 enum-told c = search needs
 
 unreadable-requires : tie.Need-unreadable-requires
-unreadable-requires c κs = search needs
+unreadable-requires c κs = tt
 
 returns : tie.Need-returns
-returns c = search needs
+returns c = tt
 
 slice-aggregate-read-2 : tie.Need-slice-aggregate-read-2
-slice-aggregate-read-2 c = search needs
+slice-aggregate-read-2 c = sym (length-replicate {A = ℕ} 65537 0)
 
 read-requires-2 : tie.Need-read-requires-2
-read-requires-2 c κs = search needs
+read-requires-2 c κs = tt
 
 enum-known-vector-read : tie.Need-enum-known-vector-read
 enum-known-vector-read c = search needs
@@ -36,10 +39,10 @@ enum-told-2 : tie.Need-enum-told-2
 enum-told-2 c = search needs
 
 unreadable-requires-2 : tie.Need-unreadable-requires-2
-unreadable-requires-2 c κs = search needs
+unreadable-requires-2 c κs = tt
 
 returns-2 : tie.Need-returns-2
-returns-2 c = search needs
+returns-2 c = tt
 
 array-share-prefix-contract : tie.Need-array-share-prefix-contract
 array-share-prefix-contract c = counted _ _ _ (c .before .before .before .before .before .before .before .before .before .before .read .ensures) (c .before .before .before .before .before .before .before .contract-read .given .1) .0
@@ -54,13 +57,13 @@ slice-aggregate-assemble-2 : tie.Need-slice-aggregate-assemble-2
 slice-aggregate-assemble-2 c = counted _ _ _ (c .before .before .before .before .before .before .read2 .ensures) (c .before .before .before .vector-read .given .1) .1
 
 file-stem-requires : tie.Need-file-stem-requires
-file-stem-requires c κs = search needs
+file-stem-requires c κs = tt
 
 assemble-requires : tie.Need-assemble-requires
-assemble-requires c κs = search needs
+assemble-requires c κs = tt
 
 returns-3 : tie.Need-returns-3
-returns-3 c = search needs
+returns-3 c = tt
 
 pub read-spec : {M : Type 1} → statement M
 read-spec =
