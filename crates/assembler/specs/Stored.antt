@@ -16,6 +16,7 @@ use Rattle.assembler.specs.declared.refusal.Refusal.the-variants.{TooMan
 use Rattle.assembler.specs.declared.state.State.{State}
 use Rattle.assembler.specs.declared.state.Status.the-variants as Status
 use Rattle.assembler.specs.declared.state.Last.the-variants as Last
+use Rattle.assembler.specs.declared.table.Row.{Row}
 
 -- no binding, no return; every array is zero
 abbrev pub noBindings : Bindings
@@ -64,6 +65,21 @@ numberIn None = 0
 abbrev pub isNone : Value → Bool
 isNone (Is n) = false
 isNone None = true
+
+-- one binding, with the name w, as the arrays hold it
+abbrev pub rowOf : Span → Span → Read → List ℕ → Row
+rowOf name expr v w = record {
+  «name_start» = name .start;
+  «name_len» = name .end - name .start;
+  «expr_start» = expr .start;
+  «expr_len» = expr .end - expr .start;
+  k = v .k;
+  p = v .p;
+  value = numberIn (v .value);
+  none = isNone (v .value);
+  len = v .len;
+  tag = tagOf w;
+}
 
 -- of a binding with the name w
 pub record PutValue (t : Values) (i : ℕ) (v : Read) (w : List ℕ) (r : Values) : Type 0 where

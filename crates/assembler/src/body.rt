@@ -14,8 +14,7 @@ use crate::state::State;
 use crate::state::Status;
 use crate::statement::Statement;
 use crate::statement::statement_at;
-use crate::table::put;
-use crate::table::put_value;
+use crate::table::row_of;
 use expression::Bindings;
 use expression::Parsed;
 use expression::Values;
@@ -89,8 +88,18 @@ pub fn read_body(contract: &[u8], start: usize, end: usize, a: State) -> State
                                 status: Status::Refused(Refusal::TooManyBindings),
                             };
                         }
-                        table = put(table, name, expr, read.k, read.p);
-                        values = put_value(contract, name, values, i, read);
+                        let row = row_of(contract, name, expr, read);
+                        table.name_start[i] = row.name_start;
+                        table.name_len[i] = row.name_len;
+                        table.expr_start[i] = row.expr_start;
+                        table.expr_len[i] = row.expr_len;
+                        table.k[i] = row.k;
+                        table.p[i] = row.p;
+                        table.count = i + 1;
+                        values.value[i] = row.value;
+                        values.none[i] = row.none;
+                        values.len[i] = row.len;
+                        values.tag[i] = row.tag;
                     }
                 }
             }

@@ -13,8 +13,7 @@ ghost use Rattle.assembler.specs.Held.{Follows, Within, keyedAs};
 use crate::refusal::Refusal;
 use crate::state::State;
 use crate::state::Status;
-use crate::table::put;
-use crate::table::put_value;
+use crate::table::row_of;
 use expression::figures::Read;
 use expression::figures::Value;
 use number::decimal_len;
@@ -86,8 +85,18 @@ pub fn bind_parameters(contract: &[u8], vector: &[u8], start: usize, end: usize,
             start: behind,
             end: behind,
         };
-        table = put(table, name, expr, read.k, read.p);
-        values = put_value(contract, name, values, i, read);
+        let row = row_of(contract, name, expr, read);
+        table.name_start[i] = row.name_start;
+        table.name_len[i] = row.name_len;
+        table.expr_start[i] = row.expr_start;
+        table.expr_len[i] = row.expr_len;
+        table.k[i] = row.k;
+        table.p[i] = row.p;
+        table.count = i + 1;
+        values.value[i] = row.value;
+        values.none[i] = row.none;
+        values.len[i] = row.len;
+        values.tag[i] = row.tag;
         at = p.next;
         place += 1;
     }

@@ -1,10 +1,10 @@
 // The state as it is stored: the first one, a refused one, and one binding more in the table.
 ghost use mathlib.Core.Path.{_≡_};
-ghost use Prim.Native.Nat.{_<_, _≤_};
+ghost use Prim.Native.Nat.{_≤_};
 ghost use lib.ListN.{length};
 ghost use Rattle.assembler.specs.Part.{part};
 ghost use Rattle.assembler.specs.Held.{isRefused};
-ghost use Rattle.assembler.specs.Stored.{nothingYet, Small, Placed, Put, PutValue, numberIn, isNone, refusedAs};
+ghost use Rattle.assembler.specs.Stored.{nothingYet, Small, Placed, rowOf, numberIn, isNone, refusedAs};
 use crate::refusal::Refusal;
 use crate::state::Last;
 use crate::state::State;
@@ -15,6 +15,20 @@ use expression::figures::Read;
 use expression::figures::Value;
 use expression::names::tag_of;
 use source::parameters::Span;
+
+// One binding, as the arrays of the table and beside it hold it.
+pub struct Row {
+    pub name_start: u16,
+    pub name_len: u16,
+    pub expr_start: u16,
+    pub expr_len: u16,
+    pub k: u16,
+    pub p: u16,
+    pub value: u64,
+    pub none: bool,
+    pub len: u32,
+    pub tag: u8,
+}
 
 pub fn started() -> State
     ensures { λ r. ⌜ r ≡ nothingYet ⌝ }
@@ -65,38 +79,26 @@ pub fn refuse(a: State, refusal: Refusal) -> State
     }
 }
 
-// One binding more. Its places lie before a closing parenthesis or brace of a contract of at most 65,536 bytes (1), and its k is 1 or
-// was tested to be 32,768 at most (20): so places and figures fit the table's types. The loops over parameters and lines call it where
-// there are fewer than 256 (21).
-pub fn put(table: Bindings, name: Span, expr: Span, k: u64, p: u64) -> Bindings
-    requires { ⌜ (table .count < 256) × (Placed name × (Placed expr × ((k < 65536) × (p < 65536)))) ⌝ }
-    ensures { λ r. ⌜ Put table name expr k p r ⌝ }
+// What the arrays hold of one binding. Its places lie before a closing parenthesis or brace of a contract of at most 65,536 bytes (1), and its
+// k is 1 or was tested to be 32,768 at most (20): so places and figures fit the arrays' types. The loops over parameters and lines write it
+// into the arrays themselves, at the count, where that is below 256 (21).
+pub fn row_of(text: &[u8], name: Span, expr: Span, read: Read) -> Row
+    requires { ⌜ Placed name × (Placed expr × (Small read × (name .end ≤ length (now text)))) ⌝ }
+    ensures { λ r. ⌜ r ≡ rowOf name expr read (part (now (text .entry)) (name .start) (name .end)) ⌝ }
 {
-    let mut t = table;
-    let i = t.count;
-    t.name_start[i] = name.start as u16;
-    t.name_len[i] = (name.end - name.start) as u16;
-    t.expr_start[i] = expr.start as u16;
-    t.expr_len[i] = (expr.end - expr.start) as u16;
-    t.k[i] = k as u16;
-    t.p[i] = p as u16;
-    t.count = i + 1;
-    t
-}
-
-// The same beside the table, at the binding's number. The loops call it with the count that the table had, which is below 256, and with the
-// figures and the name that they gave to `put`.
-pub fn put_value(text: &[u8], name: Span, values: Values, i: usize, read: Read) -> Values
-    requires { ⌜ (i < 256) × (Small read × ((name .start ≤ name .end) × (name .end ≤ length (now text)))) ⌝ }
-    ensures { λ r. ⌜ PutValue values i read (part (now (text .entry)) (name .start) (name .end)) r ⌝ }
-{
-    let mut v = values;
     let value = read.value;
-    v.value[i] = number(value);
-    v.none[i] = is_none(value);
-    v.len[i] = read.len as u32;
-    v.tag[i] = tag_of(text, name.start, name.end - name.start);
-    v
+    Row {
+        name_start: name.start as u16,
+        name_len: (name.end - name.start) as u16,
+        expr_start: expr.start as u16,
+        expr_len: (expr.end - expr.start) as u16,
+        k: read.k as u16,
+        p: read.p as u16,
+        value: number(value),
+        none: is_none(value),
+        len: read.len as u32,
+        tag: tag_of(text, name.start, name.end - name.start),
+    }
 }
 
 fn number(value: Value) -> u64

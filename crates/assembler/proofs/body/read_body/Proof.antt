@@ -8,6 +8,7 @@ use denote.Ref.{now}
 use Rattle.lines.specs.Lines.{lines}
 use Rattle.assembler.specs.Part.{part}
 use Rattle.assembler.specs.Body.{lineRead}
+use Rattle.assembler.proofs.Stored.{Full, full-more, row-more}
 use Rattle.assembler.proofs.Coming.{turn-first, turn-done}
 use Rattle.assembler.proofs.BodyLines.{linesFrom, all-lines, lines-done, lines-end}
 use Rattle.assembler.proofs.Reading.{Lines, line-within, line-less, skipped-next, no-equals-off, let-part, let-off, let-name, let-fit, let-next, let-full, return-part, return-off, return-next}
@@ -20,6 +21,7 @@ abbrev Inv-loop : tie.InvT-loop
 Inv-loop contract start end table₀ values₀ last₀ status at₀ line₀ table values last at line =
     Lines contract start end (record { table = table₀; values = values₀; last = last₀; status = status }) at (line + 1) (record { table = table; values = values; last = last; status = status })
     × Meeting contract start end (record { table = table₀; values = values₀; last = last₀; status = status }) at (record { table = table; values = values; last = last; status = status })
+    × Full table values
 
 abbrev μ-loop : tie.MeasureT-loop
 μ-loop contract start end table₀ values₀ last₀ status at₀ line₀ table values last at line = end - at
@@ -28,7 +30,9 @@ loop-holds : tie.Need-loop-holds Inv-loop μ-loop
 loop-holds c =
     let a = c .before .before .before in
     let s = now (a .args .contract) in
-    (turn-first s lineRead (linesFrom s (a .args .end)) (lines (part s (a .args .start) (a .args .end))) (a .args .start) (a .args .end) (a .args .a) (a .pre .0) (all-lines s (a .args .start) (a .args .end) (a .pre .0)), met-first (a .pre .0))
+    let v = a .good .1 .1 .1 .0 .1 .1 .0 in
+    let t = a .good .1 .1 .1 .0 .1 .1 .1 .0 in
+    (turn-first s lineRead (linesFrom s (a .args .end)) (lines (part s (a .args .start) (a .args .end))) (a .args .start) (a .args .end) (a .args .a) (a .pre .0) (all-lines s (a .args .start) (a .args .end) (a .pre .0)), met-first (a .pre .0), record { name-start = search (needs, t); name-len = search (needs, t); expr-start = search (needs, t); expr-len = search (needs, t); ks = search (needs, t .1 .1 .1 .1); ps = search (needs, t .1 .1 .1 .1); value = search (needs, v); none = search (needs, v); len = search (needs, v); tag = search (needs, v) })
 
 slice-aggregate-line-at : tie.Need-slice-aggregate-line-at Inv-loop μ-loop
 slice-aggregate-line-at c =
@@ -71,7 +75,7 @@ loop-less c =
 loop-again : tie.Need-loop-again Inv-loop μ-loop
 loop-again c =
     let a = c .before .before .before .before .before .before .before .before .before .before .before .before .before in
-    (skipped-next (a .pre .0) (a .pre .1) (c .before .before .before .before .before .before .before .before .before .loop .inv .0) (sym (c .before .before .before .before .before .before .line-at .ensures) ∙ c .before .before .before .before .step .given .1) (sym (c .enum-told2 .given .1) ∙ c .before .before .statement-at .ensures), met-next (a .pre .0) (c .before .before .before .before .before .before .before .before .before .loop .inv .1) (sym (c .before .before .before .before .before .before .line-at .ensures) ∙ c .before .before .before .before .step .given .1) (sym (c .enum-told2 .given .1) ∙ c .before .before .statement-at .ensures) refl)
+    (skipped-next (a .pre .0) (a .pre .1) (c .before .before .before .before .before .before .before .before .before .loop .inv .0) (sym (c .before .before .before .before .before .before .line-at .ensures) ∙ c .before .before .before .before .step .given .1) (sym (c .enum-told2 .given .1) ∙ c .before .before .statement-at .ensures), met-next (a .pre .0) (c .before .before .before .before .before .before .before .before .before .loop .inv .1) (sym (c .before .before .before .before .before .before .line-at .ensures) ∙ c .before .before .before .before .step .given .1) (sym (c .enum-told2 .given .1) ∙ c .before .before .statement-at .ensures) refl, c .before .before .before .before .before .before .before .before .before .loop .inv .2)
 
 enum-told-3 : tie.Need-enum-told-3 Inv-loop μ-loop
 enum-told-3 c = search needs
@@ -105,26 +109,79 @@ returns-4 c =
     let a = c .before .before .before .before .before .before .before .before .before .before .before .before .before .before .before .before .before .before .before in
     (let-full (a .pre .0) (a .pre .1) (c .before .before .before .before .before .before .before .before .before .before .before .before .before .before .before .loop .inv .0) (sym (c .before .before .before .before .before .before .before .before .before .before .before .before .line-at .ensures) ∙ c .before .before .before .before .before .before .before .before .before .before .step .given .1) (sym (c .before .before .before .before .before .before .statement .given .1) ∙ c .before .before .before .before .before .before .before .before .statement-at .ensures) (c .before .before .before .before .check .ensures .0) (c .before .before .checked2 .given .1) (record { full = λ h. refl; more = λ h. absurd (omega arith) }) refl, met-off refl)
 
-put-requires : tie.Need-put-requires Inv-loop μ-loop
-put-requires c κs =
+row-of-requires : tie.Need-row-of-requires Inv-loop μ-loop
+row-of-requires c κs =
     let a = c .before .before .before .before .before .before .before .before .before .before .before .before .before .before .before .before .before .before .before in
     let f = let-fit (a .pre .0) (a .pre .1) (c .before .before .before .before .before .before .before .before .before .before .before .before .before .before .before .loop .inv .0) (sym (c .before .before .before .before .before .before .before .before .before .before .before .before .line-at .ensures) ∙ c .before .before .before .before .before .before .before .before .before .before .step .given .1) (sym (c .before .before .before .before .before .before .statement .given .1) ∙ c .before .before .before .before .before .before .before .before .statement-at .ensures) (c .before .before .before .before .check .ensures .0) (c .before .before .checked2 .given .1) in
-    (omega arith, (f .0, (f .1 .0, (f .1 .1 .k, f .1 .1 .p))))
+    let n = let-name (a .pre .0) (a .pre .1) (c .before .before .before .before .before .before .before .before .before .before .before .before .before .before .before .loop .inv .0) (sym (c .before .before .before .before .before .before .before .before .before .before .before .before .line-at .ensures) ∙ c .before .before .before .before .before .before .before .before .before .before .step .given .1) (sym (c .before .before .before .before .before .before .statement .given .1) ∙ c .before .before .before .before .before .before .before .before .statement-at .ensures) in
+    (f .0, (f .1 .0, (f .1 .1, n .1)))
 
-put-value-requires : tie.Need-put-value-requires Inv-loop μ-loop
-put-value-requires c κs =
-    let a = c .before .before .before .before .before .before .before .before .before .before .before .before .before .before .before .before .before .before .before .before in
-    (omega arith, (let-fit (a .pre .0) (a .pre .1) (c .before .before .before .before .before .before .before .before .before .before .before .before .before .before .before .before .loop .inv .0) (sym (c .before .before .before .before .before .before .before .before .before .before .before .before .before .line-at .ensures) ∙ c .before .before .before .before .before .before .before .before .before .before .before .step .given .1) (sym (c .before .before .before .before .before .before .before .statement .given .1) ∙ c .before .before .before .before .before .before .before .before .before .statement-at .ensures) (c .before .before .before .before .before .check .ensures .0) (c .before .before .before .checked2 .given .1) .1 .1, let-name (a .pre .0) (a .pre .1) (c .before .before .before .before .before .before .before .before .before .before .before .before .before .before .before .before .loop .inv .0) (sym (c .before .before .before .before .before .before .before .before .before .before .before .before .before .line-at .ensures) ∙ c .before .before .before .before .before .before .before .before .before .before .before .step .given .1) (sym (c .before .before .before .before .before .before .before .statement .given .1) ∙ c .before .before .before .before .before .before .before .before .before .statement-at .ensures)))
+mul-table : tie.Need-mul-table Inv-loop μ-loop
+mul-table c = search needs
+
+element-write-table : tie.Need-element-write-table Inv-loop μ-loop
+element-write-table c = search needs
+
+mul-table-2 : tie.Need-mul-table-2 Inv-loop μ-loop
+mul-table-2 c = search needs
+
+element-write-table-2 : tie.Need-element-write-table-2 Inv-loop μ-loop
+element-write-table-2 c = search needs
+
+mul-table-3 : tie.Need-mul-table-3 Inv-loop μ-loop
+mul-table-3 c = search needs
+
+element-write-table-3 : tie.Need-element-write-table-3 Inv-loop μ-loop
+element-write-table-3 c = search needs
+
+mul-table-4 : tie.Need-mul-table-4 Inv-loop μ-loop
+mul-table-4 c = search needs
+
+element-write-table-4 : tie.Need-element-write-table-4 Inv-loop μ-loop
+element-write-table-4 c = search needs
+
+mul-table-5 : tie.Need-mul-table-5 Inv-loop μ-loop
+mul-table-5 c = search needs
+
+element-write-table-5 : tie.Need-element-write-table-5 Inv-loop μ-loop
+element-write-table-5 c = search needs
+
+mul-table-6 : tie.Need-mul-table-6 Inv-loop μ-loop
+mul-table-6 c = search needs
+
+element-write-table-6 : tie.Need-element-write-table-6 Inv-loop μ-loop
+element-write-table-6 c = search needs
+
+add-table : tie.Need-add-table Inv-loop μ-loop
+add-table c = search needs
+
+mul-values : tie.Need-mul-values Inv-loop μ-loop
+mul-values c = search needs
+
+element-write-values : tie.Need-element-write-values Inv-loop μ-loop
+element-write-values c = search needs
+
+element-write-values-2 : tie.Need-element-write-values-2 Inv-loop μ-loop
+element-write-values-2 c = search needs
+
+mul-values-2 : tie.Need-mul-values-2 Inv-loop μ-loop
+mul-values-2 c = search needs
+
+element-write-values-3 : tie.Need-element-write-values-3 Inv-loop μ-loop
+element-write-values-3 c = search needs
+
+element-write-values-4 : tie.Need-element-write-values-4 Inv-loop μ-loop
+element-write-values-4 c = search needs
 
 loop-less-2 : tie.Need-loop-less-2 Inv-loop μ-loop
 loop-less-2 c =
-    let a = c .before .before .before .before .before .before .before .before .before .before .before .before .before .before .before .before .before .before .before .before .before in
-    line-less (a .pre .0) (a .pre .1) (c .before .before .before .before .before .before .before .before .before .before .before .before .before .before .before .before .before .loop .inv .0) (sym (c .before .before .before .before .before .before .before .before .before .before .before .before .before .before .line-at .ensures) ∙ c .before .before .before .before .before .before .before .before .before .before .before .before .step .given .1)
+    let a = c .before .before .before .before .before .before .before .before .before .before .before .before .before .before .before .before .before .before .before .before in
+    line-less (a .pre .0) (a .pre .1) (c .before .before .before .before .before .before .before .before .before .before .before .before .before .before .before .before .loop .inv .0) (sym (c .before .before .before .before .before .before .before .before .before .before .before .before .before .line-at .ensures) ∙ c .before .before .before .before .before .before .before .before .before .before .before .step .given .1)
 
 loop-again-2 : tie.Need-loop-again-2 Inv-loop μ-loop
 loop-again-2 c =
-    let a = c .before .before .before .before .before .before .before .before .before .before .before .before .before .before .before .before .before .before .before .before .before in
-    (let-next (a .pre .0) (a .pre .1) (c .before .before .before .before .before .before .before .before .before .before .before .before .before .before .before .before .before .loop .inv .0) (sym (c .before .before .before .before .before .before .before .before .before .before .before .before .before .before .line-at .ensures) ∙ c .before .before .before .before .before .before .before .before .before .before .before .before .step .given .1) (sym (c .before .before .before .before .before .before .before .before .statement .given .1) ∙ c .before .before .before .before .before .before .before .before .before .before .statement-at .ensures) (c .before .before .before .before .before .before .check .ensures .0) (c .before .before .before .before .checked2 .given .1) (record { full = λ h. absurd (omega arith); more = λ h. record { table = c .before .put .ensures; values = c .put-value .ensures; last = refl; status = refl } }) refl, met-let (a .pre .0) (c .before .before .before .before .before .before .before .before .before .before .before .before .before .before .before .before .before .loop .inv .1) (sym (c .before .before .before .before .before .before .before .before .before .before .before .before .before .before .line-at .ensures) ∙ c .before .before .before .before .before .before .before .before .before .before .before .before .step .given .1) (sym (c .before .before .before .before .before .before .before .before .statement .given .1) ∙ c .before .before .before .before .before .before .before .before .before .before .statement-at .ensures) (c .before .put .ensures .count) refl)
+    let a = c .before .before .before .before .before .before .before .before .before .before .before .before .before .before .before .before .before .before .before .before in
+    (let-next (a .pre .0) (a .pre .1) (c .before .before .before .before .before .before .before .before .before .before .before .before .before .before .before .before .loop .inv .0) (sym (c .before .before .before .before .before .before .before .before .before .before .before .before .before .line-at .ensures) ∙ c .before .before .before .before .before .before .before .before .before .before .before .step .given .1) (sym (c .before .before .before .before .before .before .before .statement .given .1) ∙ c .before .before .before .before .before .before .before .before .before .statement-at .ensures) (c .before .before .before .before .before .check .ensures .0) (c .before .before .before .checked2 .given .1) (record { full = λ h. absurd (omega arith); more = λ h. row-more (c .before .before .before .before .before .before .before .before .before .before .before .before .before .before .before .before .loop .inv .2) h (c .row-of .ensures) }) refl, met-let (a .pre .0) (c .before .before .before .before .before .before .before .before .before .before .before .before .before .before .before .before .loop .inv .1) (sym (c .before .before .before .before .before .before .before .before .before .before .before .before .before .line-at .ensures) ∙ c .before .before .before .before .before .before .before .before .before .before .before .step .given .1) (sym (c .before .before .before .before .before .before .before .statement .given .1) ∙ c .before .before .before .before .before .before .before .before .before .statement-at .ensures) refl refl, full-more (c .before .before .before .before .before .before .before .before .before .before .before .before .before .before .before .before .loop .inv .2) _)
 
 enum-known-statement-2 : tie.Need-enum-known-statement-2 Inv-loop μ-loop
 enum-known-statement-2 c = search needs
@@ -153,7 +210,7 @@ loop-less-3 c =
 loop-again-3 : tie.Need-loop-again-3 Inv-loop μ-loop
 loop-again-3 c =
     let a = c .before .before .before .before .before .before .before .before .before .before .before .before .before .before .before .before .before .before in
-    (return-next (a .pre .0) (a .pre .1) (c .before .before .before .before .before .before .before .before .before .before .before .before .before .before .loop .inv .0) (sym (c .before .before .before .before .before .before .before .before .before .before .before .line-at .ensures) ∙ c .before .before .before .before .before .before .before .before .before .step .given .1) (sym (c .before .before .before .before .before .statement2 .given .1) ∙ c .before .before .before .before .before .before .before .statement-at .ensures) (c .before .before .before .check2 .ensures .0) (c .before .checked4 .given .1), met-return (a .pre .0) (c .before .before .before .before .before .before .before .before .before .before .before .before .before .before .loop .inv .1) (sym (c .before .before .before .before .before .before .before .before .before .before .before .line-at .ensures) ∙ c .before .before .before .before .before .before .before .before .before .step .given .1) (sym (c .before .before .before .before .before .statement2 .given .1) ∙ c .before .before .before .before .before .before .before .statement-at .ensures) (c .before .before .before .check2 .ensures .1) (c .before .checked4 .given .1))
+    (return-next (a .pre .0) (a .pre .1) (c .before .before .before .before .before .before .before .before .before .before .before .before .before .before .loop .inv .0) (sym (c .before .before .before .before .before .before .before .before .before .before .before .line-at .ensures) ∙ c .before .before .before .before .before .before .before .before .before .step .given .1) (sym (c .before .before .before .before .before .statement2 .given .1) ∙ c .before .before .before .before .before .before .before .statement-at .ensures) (c .before .before .before .check2 .ensures .0) (c .before .checked4 .given .1), met-return (a .pre .0) (c .before .before .before .before .before .before .before .before .before .before .before .before .before .before .loop .inv .1) (sym (c .before .before .before .before .before .before .before .before .before .before .before .line-at .ensures) ∙ c .before .before .before .before .before .before .before .before .before .step .given .1) (sym (c .before .before .before .before .before .statement2 .given .1) ∙ c .before .before .before .before .before .before .before .statement-at .ensures) (c .before .before .before .check2 .ensures .1) (c .before .checked4 .given .1), c .before .before .before .before .before .before .before .before .before .before .before .before .before .before .loop .inv .2)
 
 returns-6 : tie.Need-returns-6 Inv-loop μ-loop
 returns-6 c =
@@ -185,8 +242,26 @@ read-body-spec =
     returns-3
     enum-known-checked-2
     returns-4
-    put-requires
-    put-value-requires
+    row-of-requires
+    mul-table
+    element-write-table
+    mul-table-2
+    element-write-table-2
+    mul-table-3
+    element-write-table-3
+    mul-table-4
+    element-write-table-4
+    mul-table-5
+    element-write-table-5
+    mul-table-6
+    element-write-table-6
+    add-table
+    mul-values
+    element-write-values
+    element-write-values-2
+    mul-values-2
+    element-write-values-3
+    element-write-values-4
     loop-less-2
     loop-again-2
     enum-known-statement-2
