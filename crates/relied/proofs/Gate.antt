@@ -3,12 +3,15 @@ use Prim.Native.Nat.{ℕ}
 use mathlib.Core.Path.{_≡_, refl}
 use mathlib.Core.Bool.{Bool, true, false}
 use mathlib.Core.List.{List, [], _∷_}
+use Rattle.byte.specs.Ascii.{ascii}
+use Rattle.byte.specs.Equal.{equal}
+use Rattle.byte.specs.Need.{need}
 use Rattle.byte.proofs.Tests.{never}
 use Rattle.context.specs.declared.ContextError.{ContextError}
 use Rattle.context.specs.declared.ContextError.the-variants.{InvalidChainId, InvalidNetworkId, InvalidGenesisId, ProtocolMismatch, VmMismatch, GenesisMismatch}
 use Rattle.context.specs.declared.Gate.{Gate}
 use Rattle.context.specs.declared.Gate.the-variants as gate
-use Rattle.context.specs.Gate.{equal, atc, isNetwork, isGenesisId, need, gateOf, gateNumbered}
+use Rattle.context.specs.Gate.{isNetwork, isGenesisId, gateOf, gateNumbered}
 use Rattle.context.proofs.Laws.{equal-refl}
 use Rattle.relied.specs.Numbers.{Among}
 
@@ -26,7 +29,7 @@ gate-gives (gate.Refused GenesisMismatch) = refl
 abbrev Validates : Gate → Type 0
 Validates g = Among (0 ∷ 35 ∷ 36 ∷ 37 ∷ 38 ∷ 39 ∷ []) (gateNumbered g .number)
 
-need-validates : (b : Bool) (e : ContextError) (g : Gate) → Validates (gate.Refused e) → Validates g → Validates (need b e g)
+need-validates : (b : Bool) (e : ContextError) (g : Gate) → Validates (gate.Refused e) → Validates g → Validates (need b (gate.Refused e) g)
 need-validates true e g p q = q
 need-validates false e g p q = p
 
@@ -34,12 +37,12 @@ pub validate-gives : (chain network genesis protocol vm expectedProtocol expecte
     → Among (0 ∷ 35 ∷ 36 ∷ 37 ∷ 38 ∷ 39 ∷ [])
     (gateNumbered (gateOf chain network genesis protocol vm genesis expectedProtocol expectedVm) .number)
 validate-gives chain network genesis protocol vm expectedProtocol expectedVm =
-    need-validates (equal chain atc) InvalidChainId _ refl
+    need-validates (equal chain (ascii "atc")) InvalidChainId _ refl
     (need-validates (isNetwork network) InvalidNetworkId _ refl
     (need-validates (isGenesisId genesis) InvalidGenesisId _ refl
     (need-validates (equal protocol expectedProtocol) ProtocolMismatch _ refl
     (need-validates (equal vm expectedVm) VmMismatch _ refl (go (equal genesis genesis) (equal-refl genesis))))))
   where
-    go : (b : Bool) → b ≡ true → Validates (need b GenesisMismatch gate.Passed)
+    go : (b : Bool) → b ≡ true → Validates (need b (gate.Refused GenesisMismatch) gate.Passed)
     go true e = refl
     go false e = never e

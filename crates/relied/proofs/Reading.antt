@@ -2,7 +2,7 @@
 use Prim.Native.Nat.{ℕ, zero, suc, _+_, _*_, _≤_}
 use mathlib.Core.Path.{_≡_, refl}
 use mathlib.Core.List.{List, [], _∷_, _++_}
-use mathlib.Core.Bool.{Bool, true, false, cond, _&&_, _||_}
+use mathlib.Core.Bool.{Bool, true, false, cond, _&&_}
 use borrow.Author.Tests.{leb-true}
 use native.Mathlib.Omega.{arith}
 use lib.Dec.{eqb, leb}
@@ -14,19 +14,19 @@ use Rattle.search.proofs.Prefix.{fits}
 use Rattle.lines.specs.Lines.{lines}
 use Rattle.trim.specs.Trim.{startTrimmed, trimmed, passed}
 use Rattle.trim.proofs.Laws.{startTrimmed-length, endTrimmed-length}
-use Rattle.number.specs.Decimal.{numberOf}
 use Rattle.number.specs.declared.Number.{Number}
 use Rattle.number.specs.declared.Number.the-variants.{Is, Invalid}
-use Rattle.kinds.specs.Kinds.{Kind, kinds, Operation}
-use Rattle.ops.specs.Kinds.{partOf, partedFrom, parted}
+use Rattle.kinds.specs.Kinds as Operands
+use Rattle.kinds.specs.Kinds.{Operand, Kind, kinds, kindOf, Operation, operation}
+use Rattle.ops.specs.Kinds.{follows, partOf, partedFrom, parted}
 use Rattle.ops.specs.Kinds as Kinds
-use Rattle.ops.specs.Line.{ofNumber, operandOf, partRead, skipped, lineOf}
+use Rattle.ops.specs.Line.{Rule, fromStr, badNumber, ofNumber, partRead, skipped, lineOf}
 use Rattle.ops.specs.Numbers.{opsErrorNumbered, parsedOpsNumbered}
-use Rattle.ops.specs.Ops.{Reading, ops, refused, startOf, followedBy, thenRead, readLines, someRead, readText, answerOf, opsOf}
+use Rattle.ops.specs.Ops.{Reading, ops, refused, startOf, followedBy, thenRead, readLines, someRead, readBy, answerOf, opsOf}
 use Rattle.ops.specs.Written.{Each, none, one}
 use Rattle.ops.specs.declared.kind.Parted.{Parted}
 use Rattle.ops.specs.declared.kind.Parted.the-variants.{Alone, Before, Unknown}
-use Rattle.ops.specs.declared.OpsError.the-variants.{NotUtf8, BadPush, BadSlot, BadTarget}
+use Rattle.ops.specs.declared.OpsError.the-variants.{NotUtf8}
 use Rattle.ops.specs.declared.line.LineRead.{LineRead}
 use Rattle.ops.specs.declared.line.LineRead.the-variants.{Skip, Op, Bad}
 use Rattle.relied.specs.Numbers.{Among}
@@ -44,17 +44,20 @@ abbrev long : List Kind → Bool
 long [] = true
 long (w ∷ ws) = leb 2 (length (w .word)) && long ws
 
-part-worded : (k : ℕ) (w : List ℕ) (operand : Bool) (t : List ℕ) → k ≤ 15 → 2 ≤ length w → Kinds.fits (record { word = w; operand = operand }) t ≡ true
-    → Worded t (partOf k (record { word = w; operand = operand }))
-part-worded k w true t h l e = let m = fits (w ++ 32 ∷ []) t e in (h, omega (arith, length-append w (32 ∷ [])))
-part-worded k w false t h l e = let m = fits w t (and-left (prefixOf w t) (eqb (length t) (length w)) e) in (h, omega arith)
+part-worded : (k : ℕ) (w : Kind) (t : List ℕ) → k ≤ 15 → 2 ≤ length (w .word) → Kinds.fits w t ≡ true → Worded t (partOf k w)
+part-worded k w t h l = go (follows (w .operand))
+  where
+    go : (b : Bool) → cond b (prefixOf (w .word ++ 32 ∷ []) t) (prefixOf (w .word) t && eqb (length t) (length (w .word))) ≡ true
+        → Worded t (cond b (Before k (length (w .word) + 1)) (Alone k))
+    go true e = let m = fits (w .word ++ 32 ∷ []) t e in (h, omega (arith, length-append (w .word) (32 ∷ [])))
+    go false e = let m = fits (w .word) t (and-left (prefixOf (w .word) t) (eqb (length t) (length (w .word))) e) in (h, omega arith)
 
 table-worded : (ws : List Kind) (k : ℕ) (t : List ℕ) → k + length ws ≤ 16 → long ws ≡ true → Worded t (partedFrom k ws t)
 table-worded [] k t h e = tt
 table-worded (w ∷ ws) k t h e = go (Kinds.fits w t) refl (table-worded ws (suc k) t (omega arith) (and-right (leb 2 (length (w .word))) (long ws) e))
   where
     go : (b : Bool) → Kinds.fits w t ≡ b → Worded t (partedFrom (suc k) ws t) → Worded t (cond b (partOf k w) (partedFrom (suc k) ws t))
-    go true f ih = part-worded k (w .word) (w .operand) t (omega arith) (leb-true 2 (length (w .word)) (and-left (leb 2 (length (w .word))) (long ws) e)) f
+    go true f ih = part-worded k w t (omega arith) (leb-true 2 (length (w .word)) (and-left (leb 2 (length (w .word))) (long ws) e)) f
     go false f ih = ih
 
 parted-worded : (t : List ℕ) → Worded t (parted t)
@@ -73,32 +76,32 @@ longer n m (Bad e) h s = s
 
 number-says : (n k line place len : ℕ) (x : Number) → k ≤ 15 → 2 ≤ n → Says n (ofNumber k line place len x)
 number-says n k line place len (Is v) h l = (h, l)
-number-says n k line place len Invalid h l = go (eqb k 0) (eqb k 11 || eqb k 12)
+number-says n k line place len Invalid h l = go (kindOf k .operand)
   where
-    go : (p q : Bool) → Says n (Bad (cond p (BadPush line place len) (cond q (BadSlot line place len) (BadTarget line place len))))
-    go true q = refl
-    go false true = refl
-    go false false = refl
+    go : (o : Operand) → Says n (Bad (badNumber o line place len))
+    go Operands.none = refl
+    go Operands.value = refl
+    go Operands.slot = refl
+    go Operands.target = refl
 
-operand-says : (n k line place : ℕ) (rest : List ℕ) → k ≤ 15 → 2 ≤ n → Says n (operandOf k line place rest)
-operand-says n k line place rest h l = number-says n k line (place + passed rest) (length (trimmed rest)) (numberOf (trimmed rest)) h l
-
-part-says : (line place : ℕ) (t : List ℕ) (x : Parted) → Worded t x → Says (length t) (partRead line place t x)
-part-says line place t (Alone k) h = h
-part-says line place t (Before k n) h = operand-says (length t) k line (place + n) (drop n t) (h .0) (h .1)
-part-says line place t Unknown h = refl
+part-says : (rule : Rule) (line place : ℕ) (t : List ℕ) (x : Parted) → Worded t x → Says (length t) (partRead rule line place t x)
+part-says rule line place t (Alone k) h = h
+part-says rule line place t (Before k n) h =
+    let rest = drop n t in
+    number-says (length t) k line (place + n + passed rest) (length (trimmed rest)) (rule (kindOf k .operand) (trimmed rest)) (h .0) (h .1)
+part-says rule line place t Unknown h = refl
 
 trimmed-length : (l : List ℕ) → length (trimmed l) ≤ length l
 trimmed-length l = omega (arith, endTrimmed-length (startTrimmed l), startTrimmed-length l)
 
-line-says : (line start : ℕ) (l : List ℕ) → Says (length l) (lineOf line start l)
-line-says line start l = go (skipped (trimmed l))
+line-says : (rule : Rule) (line start : ℕ) (l : List ℕ) → Says (length l) (lineOf rule line start l)
+line-says rule line start l = go (skipped (trimmed l))
   where
-    go : (b : Bool) → Says (length l) (cond b Skip (partRead line (start + passed l) (trimmed l) (parted (trimmed l))))
+    go : (b : Bool) → Says (length l) (cond b Skip (partRead rule line (start + passed l) (trimmed l) (parted (trimmed l))))
     go true = tt
     go false =
-        longer (length (trimmed l)) (length l) (partRead line (start + passed l) (trimmed l) (parted (trimmed l))) (trimmed-length l)
-        (part-says line (start + passed l) (trimmed l) (parted (trimmed l)) (parted-worded (trimmed l)))
+        longer (length (trimmed l)) (length l) (partRead rule line (start + passed l) (trimmed l) (parted (trimmed l))) (trimmed-length l)
+        (part-says rule line (start + passed l) (trimmed l) (parted (trimmed l)) (parted-worded (trimmed l)))
 
 -- what lines give, by their count, the bytes that they take and the room
 record Got (bytes room : ℕ) (os : List Operation) : Type 0 where
@@ -125,15 +128,15 @@ op-gives count bytes n room o (refused e) k l g = record { gives = g .gives; roo
 line-gives : (count bytes n line room : ℕ) (more : ℕ → Reading) (x : LineRead) → Says n x → ((r : ℕ) → Gives count bytes r (more r)) → Gives (suc count) (n + 1 + bytes) room (thenRead line room more x)
 line-gives count bytes n line room more Skip s ih = skip-gives count bytes n room (more room) (ih room)
 line-gives count bytes n line zero more (Op k v) s ih = record { gives = refl; roomy = λ h. absurd (omega arith) }
-line-gives count bytes n line (suc room) more (Op k v) s ih = op-gives count bytes n room (record { kind = k; operand = v }) (more room) (s .0) (s .1) (ih room)
+line-gives count bytes n line (suc room) more (Op k v) s ih = op-gives count bytes n room (operation k v) (more room) (s .0) (s .1) (ih room)
 line-gives count bytes n line room more (Bad e) s ih =
     record { gives = widen (28 ∷ 29 ∷ 30 ∷ 31 ∷ []) (28 ∷ 29 ∷ 30 ∷ 31 ∷ 32 ∷ []) (opsErrorNumbered e .number) refl s; roomy = λ h. s }
 
-lines-give : (text : List ℕ) (n : ℕ) (ls : List (List ℕ)) (room : ℕ) → Gives (length ls) (size ls) room (readLines text n ls room)
-lines-give text n [] room = record { kinds = none; within = omega arith; third = omega arith }
-lines-give text n (l ∷ ls) room =
-    line-gives (length ls) (size ls) (length l) (n + 1) room (readLines text (n + 1) ls) (lineOf (n + 1) (startOf n text) l) (line-says (n + 1) (startOf n text) l)
-    (λ r. lines-give text (n + 1) ls r)
+lines-give : (rule : Rule) (text : List ℕ) (n : ℕ) (ls : List (List ℕ)) (room : ℕ) → Gives (length ls) (size ls) room (readLines rule text n ls room)
+lines-give rule text n [] room = record { kinds = none; within = omega arith; third = omega arith }
+lines-give rule text n (l ∷ ls) room =
+    line-gives (length ls) (size ls) (length l) (n + 1) room (readLines rule text (n + 1) ls) (lineOf rule (n + 1) (startOf n text) l)
+    (line-says rule (n + 1) (startOf n text) l) (λ r. lines-give rule text (n + 1) ls r)
 
 -- the same of a text's reading, with 0, 27 and 33
 record Told (count bytes room : ℕ) (r : Reading) : Type 0 where
@@ -154,16 +157,17 @@ some-told count bytes room (refused e) g = record {
   roomy = λ h. widen (28 ∷ 29 ∷ 30 ∷ 31 ∷ []) (0 ∷ 27 ∷ 28 ∷ 29 ∷ 30 ∷ 31 ∷ 33 ∷ []) (opsErrorNumbered e .number) refl (g .roomy h);
 }
 
-text-told : (text : List ℕ) (room : ℕ) → Told (length (lines text)) (size (lines text)) room (readText text room)
-text-told text room = go (utf8 text)
+-- by any rule for operands
+text-told : (rule : Rule) (text : List ℕ) (room : ℕ) → Told (length (lines text)) (size (lines text)) room (readBy rule text room)
+text-told rule text room = go (utf8 text)
   where
-    go : (b : Bool) → Told (length (lines text)) (size (lines text)) room (cond b (someRead (readLines text 0 (lines text) room)) (refused NotUtf8))
-    go true = some-told (length (lines text)) (size (lines text)) room (readLines text 0 (lines text) room) (lines-give text 0 (lines text) room)
+    go : (b : Bool) → Told (length (lines text)) (size (lines text)) room (cond b (someRead (readLines rule text 0 (lines text) room)) (refused NotUtf8))
+    go true = some-told (length (lines text)) (size (lines text)) room (readLines rule text 0 (lines text) room) (lines-give rule text 0 (lines text) room)
     go false = record { kinds = none; within = omega arith; third = omega arith; gives = refl; roomy = λ h. refl }
 
 pub read-relied : (text : List ℕ) (room : ℕ) → ReadRelied text room
 read-relied text room =
-    let t = text-told text room in
+    let t = text-told fromStr text room in
     record {
       kinds = t .kinds;
       within = t .within;

@@ -2,7 +2,7 @@
 use Prim.Native.Nat.{ℕ, zero, suc, _-_, _≤_}
 use native.Mathlib.Omega.{arith}
 use mathlib.Core.Path.{_≡_, refl, sym, ap, _∙_}
-use mathlib.Core.List.{List, [], _∷_, reverse}
+use mathlib.Core.List.{List, [], reverse}
 use lib.ListN.{length, getD, replicate, length-append, length-reverse}
 use Rattle.machine.specs.Machine.{Outcome, next, done, stop, decode, whole}
 use Rattle.checks.specs.declared.Refusal.{Refusal}

@@ -6,7 +6,7 @@ use lib.ListN.{length-replicate}
 use lib.Seq.{length-take-le}
 use denote.Ref.{now}
 use Rattle.numbered.specs.declared.Numbered.{Numbered}
-use Rattle.runops.proofs.Reading.{read, not-read, large, small}
+use Rattle.runops.proofs.Reading.{read, read-run, not-read, large, small}
 use borrow.Author.Needs.{needs}
 use Rattle.runops.proofs.report.of_text.Statement.{statement}
 use Rattle.runops.proofs.report.of_text.Tie as tie
@@ -39,16 +39,16 @@ enum-known-parsed-2 : tie.Need-enum-known-parsed-2
 enum-known-parsed-2 c = search needs
 
 array-share-prefix-kinds : tie.Need-array-share-prefix-kinds
-array-share-prefix-kinds c = (read _ _ _ _ _ (c .before .before .before .before .before .parse-ops .ensures) (c .before .parsed2 .given .1)) .kinds-fit
+array-share-prefix-kinds c = (read _ _ _ _ _ (c .before .before .before .before .before .parse-ops .ensures) (c .before .parsed2 .given .1)) .kindsFit
 
 slice-aggregate-of-run : tie.Need-slice-aggregate-of-run
-slice-aggregate-of-run c = sym (length-take-le _ _ ((read _ _ _ _ _ (c .before .before .before .before .before .before .parse-ops .ensures) (c .before .before .parsed2 .given .1)) .kinds-fit))
+slice-aggregate-of-run c = sym (length-take-le _ _ ((read _ _ _ _ _ (c .before .before .before .before .before .before .parse-ops .ensures) (c .before .before .parsed2 .given .1)) .kindsFit))
 
 array-share-prefix-operands : tie.Need-array-share-prefix-operands
-array-share-prefix-operands c = (read _ _ _ _ _ (c .before .before .before .before .before .before .parse-ops .ensures) (c .before .before .parsed2 .given .1)) .operands-fit
+array-share-prefix-operands c = (read _ _ _ _ _ (c .before .before .before .before .before .before .parse-ops .ensures) (c .before .before .parsed2 .given .1)) .operandsFit
 
 slice-aggregate-of-run-2 : tie.Need-slice-aggregate-of-run-2
-slice-aggregate-of-run-2 c = sym (length-take-le _ _ ((read _ _ _ _ _ (c .before .before .before .before .before .before .before .parse-ops .ensures) (c .before .before .before .parsed2 .given .1)) .operands-fit))
+slice-aggregate-of-run-2 c = sym (length-take-le _ _ ((read _ _ _ _ _ (c .before .before .before .before .before .before .before .parse-ops .ensures) (c .before .before .before .parsed2 .given .1)) .operandsFit))
 
 of-run-requires : tie.Need-of-run-requires
 of-run-requires c κs = search needs
@@ -57,7 +57,7 @@ returns-2 : tie.Need-returns-2
 returns-2 c = small (now (c .before .before .before .before .before .before .before .before .before .before .before .before .args .text)) _ (c .before .before .before .before .before .before .before .before .before .before .if1 .left) (not-read _ _ _ _ _ _ _ (c .before .before .before .before .before .before .before .parse-ops .ensures) (c .before .before .before .parsed .given .1) (ap (λ (n : Numbered). n .number) (c .before .numbered .ensures)) (c .refused2 .ensures))
 
 returns-3 : tie.Need-returns-3
-returns-3 c = small (now (c .before .before .before .before .before .before .before .before .before .before .before .before .before .args .text)) _ (c .before .before .before .before .before .before .before .before .before .before .before .if1 .left) (c .of-run .ensures ∙ (read _ _ _ _ _ (c .before .before .before .before .before .before .before .before .parse-ops .ensures) (c .before .before .before .before .parsed2 .given .1)) .run)
+returns-3 c = small (now (c .before .before .before .before .before .before .before .before .before .before .before .before .before .args .text)) _ (c .before .before .before .before .before .before .before .before .before .before .before .if1 .left) (c .of-run .ensures ∙ read-run _ _ _ _ _ (c .before .before .before .before .before .before .before .before .parse-ops .ensures) (c .before .before .before .before .parsed2 .given .1))
 
 pub of-text-spec : {M : Type 1} → statement M
 of-text-spec =
