@@ -5,16 +5,18 @@ use mathlib.Core.List.{List, []}
 use lib.Dec.{leb}
 use lib.ListN.{length}
 use Rattle.byte.proofs.Tests.{by-bool}
-use Rattle.assembler.specs.Assembled.{Assembled, accepted, rejected, assembledTree}
+use Rattle.numbered.specs.Outcome.{Outcome, is, refused}
+use Rattle.expression.specs.Tree.{Tree}
+use Rattle.assembler.specs.Assembled.{assembledTree}
 use Rattle.assembler.specs.Output.{Answer, success, refusal, stemFits, output, named, assembled}
 
 abbrev pub Sized : List ℕ → Answer → Type 0
 Sized text (success n k p v) = length text ≡ n
 Sized text (refusal r) = text ≡ []
 
-named-sized : (x : Assembled) (stem : List ℕ) (room : ℕ) → Sized (named x stem room .text) (named x stem room .answer)
-named-sized (rejected r) stem room = refl
-named-sized (accepted expected t) stem room =
+named-sized : (x : Outcome (ℕ × Tree)) (stem : List ℕ) (room : ℕ) → Sized (named x stem room .text) (named x stem room .answer)
+named-sized (refused r) stem room = refl
+named-sized (is (expected, t)) stem room =
     by-bool (stemFits stem)
     (λ a. by-bool (leb (length (output stem expected t)) room)
     (λ b. simp (a, b))

@@ -7,6 +7,7 @@ use mathlib.Core.Logic.{_↔_}
 use mathlib.Core.Option.{some}
 use lib.Dec.{eqb}
 use lib.ListN.{length, getD, replicate}
+use Rattle.byte.specs.Ascii.{ascii}
 use Rattle.numbered.specs.declared.Numbered.{Numbered}
 use Rattle.numbered.specs.Numbered.{carrying, plain}
 use Rattle.source.specs.Vector.{vectorNumber}
@@ -18,7 +19,8 @@ use Rattle.checks.specs.Verify.{buffersFit}
 use Rattle.perform.specs.Numbers.{answerNumbered}
 use Rattle.perform.specs.Run.{Result}
 use Rattle.expression.specs.Tree.{Tree, valueOf, kOf, pOf}
-use Rattle.assembler.specs.Assembled.{accepted, expectedKey, assembledTree}
+use Rattle.numbered.specs.Outcome.{is}
+use Rattle.assembler.specs.Assembled.{assembledTree}
 use Rattle.assembler.specs.Output.{success, operationsOf}
 use Rattle.compiled.specs.Counting.{price, opAt, costBefore, Short, Fills}
 use Rattle.compiled.specs.Call.{Compilation, Left, assemblyOf, readingOf, transitionOn}
@@ -91,11 +93,11 @@ pub record Hypotheses (x : Compilation) (n k p v : ℕ) : Type 0 where
 pub record Statement (x : Compilation) (k p v : ℕ) (y : Found) : Type 0 where
   -- k, p and the value are those of the last return's tree, from contract and vector alone; the value is the vector's `expected`
   pub tree : Tree
-  pub assembles : assembledTree (x .contract) (x .vector) ≡ accepted v tree
+  pub assembles : assembledTree (x .contract) (x .vector) ≡ is (v, tree)
   pub k-counts : k ≡ kOf tree
   pub p-counts : p ≡ pOf tree
   pub value : valueOf tree ≡ some v
-  pub expected : vectorNumber (x .vector) expectedKey ≡ key.Is v
+  pub expected : vectorNumber (x .vector) (ascii "expected") ≡ key.Is v
   -- reading answers 0 with 2k operations, and both buffers are filled with the tree's
   pub reads : y .reading ≡ carrying 0 (2 * k ∷ [])
   pub kindsFilled : y .kinds ≡ kindsOf (operationsOf tree)
