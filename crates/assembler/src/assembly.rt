@@ -33,7 +33,8 @@ pub struct Assembly {
 }
 
 pub fn checked(contract: &[u8], vector: &[u8]) -> Assembly
-    ensures { λ r. ⌜ Concludes (now (contract .entry)) (now (vector .entry)) (assembledTree (now (contract .entry)) (now (vector .entry))) r ⌝ }
+    ensures { λ r. ⌜ Concludes (now (contract .entry)) (now (vector .entry))
+        (assembledTree (now (contract .entry)) (now (vector .entry))) r ⌝ }
 {
     if !is_readable(contract) {
         return rejected(Refusal::Contract);
@@ -68,7 +69,8 @@ fn rejected(refusal: Refusal) -> Assembly
 
 fn read_function(contract: &[u8], vector: &[u8], places: Places) -> Assembly
     requires { ⌜ Located (now contract) places ⌝ }
-    ensures { λ r. ⌜ Concludes (now (contract .entry)) (now (vector .entry)) (expectedRead (now (contract .entry)) (now (vector .entry)) places (keyed (vectorNumber (now (vector .entry)) expectedKey) 0)) r ⌝ }
+    ensures { λ r. ⌜ Concludes (now (contract .entry)) (now (vector .entry))
+        (expectedRead (now (contract .entry)) (now (vector .entry)) places (keyed (vectorNumber (now (vector .entry)) expectedKey) 0)) r ⌝ }
 {
     let number = number_for(vector, b"expected", 0);
     match number {
@@ -80,7 +82,8 @@ fn read_function(contract: &[u8], vector: &[u8], places: Places) -> Assembly
 // The parameters are bound, then the body is read.
 fn read_places(contract: &[u8], vector: &[u8], places: Places) -> State
     requires { ⌜ Located (now contract) places ⌝ }
-    ensures { λ r. ⌜ Leads (now (contract .entry)) r (bodyRead (now (contract .entry)) (now (vector .entry)) places) goes × Standing (now (contract .entry)) places r ⌝ }
+    ensures { λ r. ⌜ Leads (now (contract .entry)) r (bodyRead (now (contract .entry)) (now (vector .entry)) places) goes
+        × Standing (now (contract .entry)) places r ⌝ }
 {
     let bound = bind_parameters(
         contract,

@@ -33,7 +33,9 @@ pub enum Checked {
 // 65,536 bytes, and with a state that is not refused.
 pub fn read_body(contract: &[u8], start: usize, end: usize, a: State) -> State
     requires { ⌜ Within (now contract) start end × Good (take start (now contract)) a ⌝ }
-    ensures { λ r. ⌜ Follows (take start (now (contract .entry))) a (λ st. linesRead st (lines (part (now (contract .entry)) start end))) (take end (now (contract .entry))) r × Meets (now (contract .entry)) start end a r ⌝ }
+    ensures { λ r. ⌜ Follows (take start (now (contract .entry))) a (λ st. linesRead st (lines (part (now (contract .entry)) start end)))
+        (take end (now (contract .entry))) r
+        × Meets (now (contract .entry)) start end a r ⌝ }
 {
     let mut table = a.table;
     let mut values = a.values;
@@ -134,7 +136,9 @@ pub fn read_body(contract: &[u8], start: usize, end: usize, a: State) -> State
 // The expression of a line. Its names mean the bindings of the table, which is handed by value to no line without an expression.
 fn check(contract: &[u8], expr: Span, line: usize, table: Bindings, values: Values) -> Checked
     requires { ⌜ Within (now contract) (expr .start) (expr .end) ⌝ }
-    ensures { λ r. ⌜ ChecksAll (take (expr .end) (now (contract .entry))) (columns table values) line (part (now (contract .entry)) (expr .start) (expr .end)) r × ReadToLast (take (expr .end) (now (contract .entry))) r ⌝ }
+    ensures { λ r. ⌜ ChecksAll (take (expr .end) (now (contract .entry))) (columns table values) line
+        (part (now (contract .entry)) (expr .start) (expr .end)) r
+        × ReadToLast (take (expr .end) (now (contract .entry))) r ⌝ }
 {
     let end = expr.end;
     let parsed = parse(&contract[..end], expr.start, table, values);

@@ -32,7 +32,9 @@ pub enum Number {
 // most 65,536 bytes.
 pub fn bind_parameters(contract: &[u8], vector: &[u8], start: usize, end: usize, a: State) -> State
     requires { ⌜ Within (now contract) start end ⌝ }
-    ensures { λ r. ⌜ Follows (take start (now (contract .entry))) a (λ st. parametersBound (now (vector .entry)) st (parameters (part (now (contract .entry)) start end))) (take end (now (contract .entry))) r ⌝ }
+    ensures { λ r. ⌜ Follows (take start (now (contract .entry))) a
+        (λ st. parametersBound (now (vector .entry)) st (parameters (part (now (contract .entry)) start end)))
+        (take end (now (contract .entry))) r ⌝ }
 {
     let mut table = a.table;
     let mut values = a.values;
