@@ -137,7 +137,9 @@ pub fn read_body(contract: &[u8], start: usize, end: usize, a: State) -> State
 // The expression of a line. Its names mean the bindings of the table, which is handed by value to no line without an expression.
 fn check(contract: &[u8], expr: Span, line: usize, table: Bindings, values: Values) -> Checked
     requires { ⌜ Within (now contract) (expr .start) (expr .end) ⌝ }
-    ensures { λ r. ⌜ ChecksAll (take (expr .end) (now (contract .entry))) (columns table values) line (part (now (contract .entry)) (expr .start) (expr .end)) r × ReadToLast (take (expr .end) (now (contract .entry))) r ⌝ }
+    ensures { λ r. ⌜ ChecksAll (take (expr .end) (now (contract .entry))) (columns table values) line
+        (part (now (contract .entry)) (expr .start) (expr .end)) r
+        × ReadToLast (take (expr .end) (now (contract .entry))) r ⌝ }
 {
     let end = expr.end;
     let parsed = parse(&contract[..end], expr.start, table, values);

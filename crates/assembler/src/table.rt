@@ -79,9 +79,9 @@ pub fn refuse(a: State, refusal: Refusal) -> State
     }
 }
 
-// What the arrays hold of one binding. Its places lie before a closing parenthesis or brace of a contract of at most 65,536 bytes (1), and its
-// k is 1 or was tested to be 32,768 at most (20): so places and figures fit the arrays' types. The loops over parameters and lines write it
-// into the arrays themselves, at the count, where that is below 256 (21).
+// What the arrays hold of one binding. Its places lie before a closing parenthesis or brace of a contract of at most 65,536 bytes (1), and
+// its k is 1 or was tested to be 32,768 at most (20): so places and figures fit the arrays' types. The loops over parameters and lines
+// write it into the arrays themselves, at the count, where that is below 256 (21).
 pub fn row_of(text: &[u8], name: Span, expr: Span, read: Read) -> Row
     requires { ⌜ Placed name × (Placed expr × (Small read × (name .end ≤ length (now text)))) ⌝ }
     ensures { λ r. ⌜ r ≡ rowOf name expr read (part (now (text .entry)) (name .start) (name .end)) ⌝ }

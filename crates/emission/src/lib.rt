@@ -38,7 +38,8 @@ pub fn emit(
 ) -> usize
     requires { ⌜ Means (now text) (sources table values) count start end ⌝ }
     requires { ⌜ at + length (textOf (treeBetween (now text) (sources table values) count start end)) ≤ length (now out) ⌝ }
-    ensures { λ r. ⌜ Put (now (out .entry)) at (textOf (treeBetween (now (text .entry)) (sources table values) count start end)) (now (out .exit)) r ⌝ }
+    ensures { λ r. ⌜ Put (now (out .entry)) at (textOf (treeBetween (now (text .entry)) (sources table values) count start end))
+        (now (out .exit)) r ⌝ }
 {
     let mut places = [0usize; 256];
     let mut lengths = [0usize; 256];
@@ -77,11 +78,22 @@ fn expression<'a>(
     places: &mut [usize; 256],
     lengths: &mut [usize; 256],
 ) -> usize
-    requires { ⌜ Means (now text) (sourcesOf (now names) (now lens) (now tags) (now starts) (now sizes) (now values)) count start end ⌝ }
-    requires { ⌜ at + length (textOf (treeBetween (now text) (sourcesOf (now names) (now lens) (now tags) (now starts) (now sizes) (now values)) count start end)) ≤ length (now out) ⌝ }
-    requires { ⌜ Kept (now text) (sourcesOf (now names) (now lens) (now tags) (now starts) (now sizes) (now values)) (now out) at (now places) (now lengths) ⌝ }
-    ensures wrote { λ r. ⌜ Put (now (out .entry)) at (textOf (treeBetween (now (text .entry)) (sourcesOf (now (names .entry)) (now (lens .entry)) (now (tags .entry)) (now (starts .entry)) (now (sizes .entry)) (now (values .entry))) count start end)) (now (out .exit)) r ⌝ }
-    ensures keeps { λ r. ⌜ Kept (now (text .entry)) (sourcesOf (now (names .entry)) (now (lens .entry)) (now (tags .entry)) (now (starts .entry)) (now (sizes .entry)) (now (values .entry))) (now (out .exit)) r (now (places .exit)) (now (lengths .exit)) ⌝ }
+    requires { ⌜ Means (now text)
+        (sourcesOf (now names) (now lens) (now tags) (now starts) (now sizes) (now values)) count start end ⌝ }
+    requires { ⌜ at + length (textOf (treeBetween (now text)
+        (sourcesOf (now names) (now lens) (now tags) (now starts) (now sizes) (now values)) count start end))
+        ≤ length (now out) ⌝ }
+    requires { ⌜ Kept (now text)
+        (sourcesOf (now names) (now lens) (now tags) (now starts) (now sizes) (now values))
+        (now out) at (now places) (now lengths) ⌝ }
+    ensures wrote { λ r. ⌜ Put (now (out .entry)) at (textOf (treeBetween (now (text .entry))
+        (sourcesOf (now (names .entry)) (now (lens .entry)) (now (tags .entry))
+        (now (starts .entry)) (now (sizes .entry)) (now (values .entry)))
+        count start end)) (now (out .exit)) r ⌝ }
+    ensures keeps { λ r. ⌜ Kept (now (text .entry))
+        (sourcesOf (now (names .entry)) (now (lens .entry)) (now (tags .entry))
+        (now (starts .entry)) (now (sizes .entry)) (now (values .entry)))
+        (now (out .exit)) r (now (places .exit)) (now (lengths .exit)) ⌝ }
 {
     let mut waiting = [0u8; WAITING];
     let mut n: usize = 0;
@@ -150,11 +162,22 @@ fn binding<'a>(
     places: &mut [usize; 256],
     lengths: &mut [usize; 256],
 ) -> usize
-    requires { ⌜ (b < 256) × AllStand (now text) (sourcesOf (now names) (now lens) (now tags) (now starts) (now sizes) (now values)) (b + 1) ⌝ }
-    requires { ⌜ at + length (textOf (treeOf (now text) (sourcesOf (now names) (now lens) (now tags) (now starts) (now sizes) (now values)) b)) ≤ length (now out) ⌝ }
-    requires { ⌜ Kept (now text) (sourcesOf (now names) (now lens) (now tags) (now starts) (now sizes) (now values)) (now out) at (now places) (now lengths) ⌝ }
-    ensures wrote { λ r. ⌜ Put (now (out .entry)) at (textOf (treeOf (now (text .entry)) (sourcesOf (now (names .entry)) (now (lens .entry)) (now (tags .entry)) (now (starts .entry)) (now (sizes .entry)) (now (values .entry))) b)) (now (out .exit)) r ⌝ }
-    ensures keeps { λ r. ⌜ Kept (now (text .entry)) (sourcesOf (now (names .entry)) (now (lens .entry)) (now (tags .entry)) (now (starts .entry)) (now (sizes .entry)) (now (values .entry))) (now (out .exit)) r (now (places .exit)) (now (lengths .exit)) ⌝ }
+    requires { ⌜ (b < 256) × AllStand (now text)
+        (sourcesOf (now names) (now lens) (now tags) (now starts) (now sizes) (now values)) (b + 1) ⌝ }
+    requires { ⌜ at + length (textOf (treeOf (now text)
+        (sourcesOf (now names) (now lens) (now tags) (now starts) (now sizes) (now values)) b))
+        ≤ length (now out) ⌝ }
+    requires { ⌜ Kept (now text)
+        (sourcesOf (now names) (now lens) (now tags) (now starts) (now sizes) (now values))
+        (now out) at (now places) (now lengths) ⌝ }
+    ensures wrote { λ r. ⌜ Put (now (out .entry)) at (textOf (treeOf (now (text .entry))
+        (sourcesOf (now (names .entry)) (now (lens .entry)) (now (tags .entry))
+        (now (starts .entry)) (now (sizes .entry)) (now (values .entry)))
+        b)) (now (out .exit)) r ⌝ }
+    ensures keeps { λ r. ⌜ Kept (now (text .entry))
+        (sourcesOf (now (names .entry)) (now (lens .entry)) (now (tags .entry))
+        (now (starts .entry)) (now (sizes .entry)) (now (values .entry)))
+        (now (out .exit)) r (now (places .exit)) (now (lengths .exit)) ⌝ }
 {
     let length = lengths[b];
     if 0 < length {

@@ -19,8 +19,8 @@ pub struct Turn {
 }
 
 // An operator first writes every waiting one that binds as tightly or tighter, then waits. A parenthesis writes down to its mark,
-// the end writes all. The loop calls it in an expression that was parsed: so what is written has room, at most so many wait as the array holds, and a closing
-// parenthesis has its mark.
+// the end writes all. The loop calls it in an expression that was parsed: so what is written has room, no more wait than the array
+// holds, and a closing parenthesis has its mark.
 pub fn operate(
     text: &[u8],
     end: usize,
@@ -31,7 +31,8 @@ pub fn operate(
     n: usize,
 ) -> Turn
     requires { ⌜ Ready (now text) end at (now out) to (now waiting) n ⌝ }
-    ensures { λ r. ⌜ Turns (now (text .entry)) end at (now (out .entry)) to (now (waiting .entry)) n (now (out .exit)) (now (waiting .exit)) r ⌝ }
+    ensures { λ r. ⌜ Turns (now (text .entry)) end at (now (out .entry)) to (now (waiting .entry)) n
+        (now (out .exit)) (now (waiting .exit)) r ⌝ }
 {
     let sign = sign_at(&text[..end], at);
     let byte = sign.byte;

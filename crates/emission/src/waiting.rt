@@ -37,7 +37,7 @@ pub fn level_of(sign: u8) -> u8
 }
 
 // Writes the newest of n waiting operators, as far as they bind at least as tightly as a level. Its callers walk an expression that was
-// parsed and whose text has room: at most so many wait, and those that are written are part of that text.
+// parsed and whose text has room: no more wait than the array holds, and those that are written are part of that text.
 pub fn pop(out: &mut [u8], at: usize, waiting: &[u8; WAITING], n: usize, level: u8) -> Popped
     requires { ⌜ (n ≤ most) × (at + length (operatorsText (popped level (stackOf (now waiting) n))) ≤ length (now out)) ⌝ }
     ensures { λ r. ⌜ Pops (now (out .entry)) at (now (waiting .entry)) n level (now (out .exit)) r ⌝ }
