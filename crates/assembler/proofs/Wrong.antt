@@ -13,7 +13,7 @@ use Rattle.word.specs.Apply.{Binary}
 use Rattle.number.specs.Decimal.{allDigits, value}
 use Rattle.token.specs.Token.{allowed, tokens}
 use Rattle.expression.specs.Tree.{Tree}
-use Rattle.expression.specs.Parse.{Env, lookup, Parse, done, refused, lone, expression, joins, operator, joined, closed, nested, named, literal, atom, parseF, moreF, enough, parsed, whole, meaning}
+use Rattle.expression.specs.Parse.{Env, lookup, Parse, done, refused, lone, expression, joins, operator, joined, closed, nested, named, literal, atom, parseF, moreF, enough, parsed, whole, meaning, depth}
 use Rattle.expression.proofs.Steps.{more-refused, more-ends, more-joins, level-up, factor-opens, factor-atom}
 
 abbrev pub OfExpression : ℕ → Type 0
@@ -87,5 +87,5 @@ module _ (env : Env) where
   unfolding meaning
   meaning-wrong s =
       by-bool (allowed s)
-      (λ a. rw (a, WrongIn) (whole-ranged (parsed env (tokens s)) (both-ranged (enough expression (tokens s)) .0 expression 64 (tokens s))))
+      (λ a. rw (a, WrongIn) (whole-ranged (parsed env (tokens s)) (both-ranged (enough expression (tokens s)) .0 expression depth (tokens s))))
       (λ a. rw (a, WrongIn) (omega arith, omega arith))

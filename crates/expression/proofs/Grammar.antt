@@ -21,7 +21,7 @@ use Rattle.token.specs.Tokens as Tokens
 use Rattle.token.proofs.LongestMatch.{longest-match}
 use Rattle.expression.specs.Tree.{Tree, num, bin}
 use Rattle.expression.specs.Environment.{Env, lookup}
-use Rattle.expression.specs.Grammar.{factor, expression, Operator, times, over, plus, minus, Derives, number, name, parentheses, alone, join}
+use Rattle.expression.specs.Grammar.{factor, expression, Operator, times, over, plus, minus, Derives, number, name, parentheses, alone, join, depth}
 use Rattle.expression.specs.Parse.{Parse, done, refused, lone, joins, operator, joined, closed, nested, named, atom, parseF, moreF, enough, parsed, whole, meaning}
 use Rattle.expression.specs.Cycle.{Reads}
 use Rattle.expression.proofs.Steps.{lone-is, looser, Left, starts, turns, stops, closes, number-read, name-read, more-refused, more-ends, more-joins, level-up, factor-opens, factor-atom}
@@ -209,14 +209,14 @@ module _ (env : Env) where
       (rw append-assoc (turns w (j .0) (complete h (w ∷ us ++ rest) (operator-stops l w (us ++ rest) (j .0))) (full l d us u (complete g) rest s)))
 
 -- the tokens of an accepted expression, and those of a derivable one
-accepted-derives : (env : Env) (ts : List (List ℕ)) (t : Tree) → Some ts → parsed env ts ≡ done t [] → Derives env expression 64 ts t
+accepted-derives : (env : Env) (ts : List (List ℕ)) (t : Tree) → Some ts → parsed env ts ≡ done t [] → Derives env expression depth ts t
 accepted-derives env ts t b e =
-    let r = both-sound env (enough expression ts) .0 expression 64 ts t [] b e in
-    subst (λ (x : List (List ℕ)). Derives env expression 64 x t) (sym (r .parts ∙ append-nil (r .used))) (r .derives)
+    let r = both-sound env (enough expression ts) .0 expression depth ts t [] b e in
+    subst (λ (x : List (List ℕ)). Derives env expression depth x t) (sym (r .parts ∙ append-nil (r .used))) (r .derives)
 
-derives-accepted : (env : Env) (ts : List (List ℕ)) (t : Tree) → Derives env expression 64 ts t → parsed env ts ≡ done t []
+derives-accepted : (env : Env) (ts : List (List ℕ)) (t : Tree) → Derives env expression depth ts t → parsed env ts ≡ done t []
 derives-accepted env ts t h =
-    let r = full env expression 64 ts t (complete env h) [] (refl, (refl, tt)) in
+    let r = full env expression depth ts t (complete env h) [] (refl, (refl, tt)) in
     let e = append-nil ts in
     subst (λ (x : List (List ℕ)). parsed env x ≡ done t []) e (r .same (enough expression (ts ++ [])) (omega arith))
 
@@ -237,21 +237,21 @@ unfolding meaning
 meaning-not-allowed env s a = rw (a, meaning)
 
 -- a tree that a text means, by the tokens that the parser reads
-pub meaning-derives : (env : Env) (s : List ℕ) (t : Tree) → meaning env s ≡ is t → (Tokens s (tokens s)) × Derives env expression 64 (tokens s) t
+pub meaning-derives : (env : Env) (s : List ℕ) (t : Tree) → meaning env s ≡ is t → (Tokens s (tokens s)) × Derives env expression depth (tokens s) t
 meaning-derives env s t e =
     by-bool (allowed s)
     (λ a. let h = longest-match s (tokens s) .1 (a, refl) in (h, accepted-derives env (tokens s) t (tokens-some h) (whole-is (parsed env (tokens s)) t (sym (meaning-whole env s a) ∙ e))))
     (λ a. not-tree 13 t (sym (meaning-not-allowed env s a) ∙ e))
 
 -- a text means the tree t exactly where its tokens are an expression with that tree, with at most 64 parentheses open at once
-pub grammar : (env : Env) (s : List ℕ) (t : Tree) → (meaning env s ≡ is t) ↔ ((ts : List (List ℕ)) × (Tokens s ts × Derives env expression 64 ts t))
+pub grammar : (env : Env) (s : List ℕ) (t : Tree) → (meaning env s ≡ is t) ↔ ((ts : List (List ℕ)) × (Tokens s ts × Derives env expression depth ts t))
 grammar env s t = (λ e. (tokens s, meaning-derives env s t e), λ h. back (h .0) (h .1 .0) (h .1 .1))
   where
-    back : (ts : List (List ℕ)) → Tokens s ts → Derives env expression 64 ts t → meaning env s ≡ is t
+    back : (ts : List (List ℕ)) → Tokens s ts → Derives env expression depth ts t → meaning env s ≡ is t
     back ts k h =
         let l = longest-match s ts .0 k in
         meaning-whole env s (l .0) ∙ ap (λ (x : List (List ℕ)). whole (parsed env x)) (l .1) ∙ ap whole (derives-accepted env ts t h)
 
 -- tokens are an expression with one tree alone
-pub unique : (env : Env) (ts : List (List ℕ)) (t u : Tree) → Derives env expression 64 ts t → Derives env expression 64 ts u → t ≡ u
+pub unique : (env : Env) (ts : List (List ℕ)) (t u : Tree) → Derives env expression depth ts t → Derives env expression depth ts u → t ≡ u
 unique env ts t u g h = let p = derives-accepted env ts t g in let q = derives-accepted env ts u h in cc

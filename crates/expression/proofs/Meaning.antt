@@ -16,7 +16,7 @@ use Rattle.expression.specs.declared.ExprError.the-variants.{InvalidChar
 use Rattle.expression.specs.declared.Parsed.{Parsed}
 use Rattle.expression.specs.declared.Parsed.the-variants.{Done, Refused}
 use Rattle.expression.specs.Tree.{Tree}
-use Rattle.expression.specs.Parse.{Env, done, enough, parseF, moreF, whole, meaning, expression}
+use Rattle.expression.specs.Parse.{Env, done, enough, parseF, moreF, whole, meaning, expression, depth}
 use Rattle.expression.specs.Figures.{Figures}
 use Rattle.expression.specs.Table.{Columns, columnsOf, Told, few, Holds}
 use Rattle.expression.specs.Answer.{exprErrorNumbered, said, due, Short, EndsLast, Answers}
@@ -66,12 +66,12 @@ module _ (s : List ℕ) (at : ℕ) (c : Columns) (n : ℕ) (few-is : n ≡ few (
   holds : (env : Env) → Told s c (few (c .count)) env → Holds s (recount n c) env
   holds env h = record { room = omega arith; told = told-recount s c n n env (rw few-is h) }
 
-  pub refused-answers : {e : ExprError} → Meets s at (recount n c) expression 64 (Refused e) → Answers s at c (Refused e)
+  pub refused-answers : {e : ExprError} → Meets s at (recount n c) expression depth (Refused e) → Answers s at c (Refused e)
   refused-answers {e} m = means s at c _ tt (λ env h.
       let x = m .means env (holds env h) in
       (refused (plain (exprErrorNumbered e .number)), (meaning-whole env (drop at s) a ∙ ap whole (x .same (enough expression (tokens (drop at s))) (omega arith)), (refl, tt))))
 
-  pub done-answers : {v : Read} (ts : List (List ℕ)) → tokens (drop (v .next) s) ≡ ts → Meets s at (recount n c) expression 64 (Done v) → Answers s at c (wholeRead ts v)
+  pub done-answers : {v : Read} (ts : List (List ℕ)) → tokens (drop (v .next) s) ≡ ts → Meets s at (recount n c) expression depth (Done v) → Answers s at c (wholeRead ts v)
   done-answers {v} [] q m = means s at c _ (read-ends (m .fine) q) (λ env h.
       let x = m .means env (holds env h) in
       let f = x .1 .1 in (

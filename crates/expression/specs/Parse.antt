@@ -13,7 +13,7 @@ use Rattle.number.specs.Decimal.{allDigits, value}
 use Rattle.token.specs.Token.{allowed, tokens}
 use Rattle.expression.specs.Tree.{Tree, num, bin}
 pub use Rattle.expression.specs.Environment.{Binding, Env, lookup}
-pub use Rattle.expression.specs.Grammar.{factor, term, expression}
+pub use Rattle.expression.specs.Grammar.{factor, term, expression, depth}
 
 -- the tree that is read and the tokens that follow, or the number of a refusal
 pub data Parse : Type 0 where
@@ -83,7 +83,7 @@ enough l ts = 8 * length ts + suc l
 
 -- an expression at the start of a list of tokens
 abbrev pub parsed : Env → List (List ℕ) → Parse
-parsed env ts = parseF (enough expression ts) expression env 64 ts
+parsed env ts = parseF (enough expression ts) expression env depth ts
 
 abbrev pub whole : Parse → Outcome Tree
 whole (done t []) = is t
