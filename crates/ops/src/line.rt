@@ -40,10 +40,14 @@ pub enum Known {
     Unknown,
 }
 
-// The line that starts at a place, its number being line.
+// The line that starts at a place, its number being line. `any_line_at` is called at two places, so that LLVM leaves it a function
+// of its own: inlined here it made the fast path slower.
 pub fn line_read_at(text: &[u8], at: usize, line: usize) -> Reached
     ensures { λ r. ⌜ r ≡ lineReadAt fromStr (now (text .entry)) at line ⌝ }
 {
+    if text.len() <= at {
+        return any_line_at(text, at, line);
+    }
     let known = known_line_at(text, at);
     match known {
         Known::Op {
@@ -63,11 +67,9 @@ pub fn line_read_at(text: &[u8], at: usize, line: usize) -> Reached
 }
 
 fn known_line_at(text: &[u8], at: usize) -> Known
+    requires { ⌜ at < length (now text) ⌝ }
     ensures { λ r. ⌜ KnownRead (now (text .entry)) at r ⌝ }
 {
-    if text.len() <= at {
-        return Known::Unknown;
-    }
     let first = first_at(text, at);
     operation_line_at(text, at, first)
 }

@@ -8,6 +8,12 @@ use borrow.Author.Needs.{needs}
 use Rattle.ops.proofs.line.line_read_at.Statement.{statement}
 use Rattle.ops.proofs.line.line_read_at.Tie as tie
 
+any-line-at-requires : tie.Need-any-line-at-requires
+any-line-at-requires c κs = search needs
+
+returns : tie.Need-returns
+returns c = search needs
+
 known-line-at-requires : tie.Need-known-line-at-requires
 known-line-at-requires c κs = search needs
 
@@ -20,31 +26,33 @@ enum-known-known-2 c = search needs
 enum-told : tie.Need-enum-told
 enum-told c = search needs
 
-any-line-at-requires : tie.Need-any-line-at-requires
-any-line-at-requires c κs = search needs
-
-returns : tie.Need-returns
-returns c =
-    let a = c .before .before .before .before .before .args in
-    sym (subst (KnownRead (now (a .text)) (a .at)) (c .before .known .given .1) (c .before .before .before .known-line-at .ensures) fromStr (λ operand d e. refl) (a .line))
+any-line-at-requires-2 : tie.Need-any-line-at-requires-2
+any-line-at-requires-2 c κs = search needs
 
 returns-2 : tie.Need-returns-2
 returns-2 c =
-    let a = c .before .before .before .before .before .args in
-    sym (subst (KnownRead (now (a .text)) (a .at)) (c .before .known2 .given .1) (c .before .before .before .known-line-at .ensures) fromStr (λ operand d e. refl) (a .line))
+    let a = c .before .before .before .before .before .before .args in
+    sym (subst (KnownRead (now (a .text)) (a .at)) (c .before .known .given .1) (c .before .before .before .known-line-at .ensures) fromStr (λ operand d e. refl) (a .line))
 
 returns-3 : tie.Need-returns-3
-returns-3 c = search needs
+returns-3 c =
+    let a = c .before .before .before .before .before .before .args in
+    sym (subst (KnownRead (now (a .text)) (a .at)) (c .before .known2 .given .1) (c .before .before .before .known-line-at .ensures) fromStr (λ operand d e. refl) (a .line))
+
+returns-4 : tie.Need-returns-4
+returns-4 c = search needs
 
 pub line-read-at-spec : {M : Type 1} → statement M
 line-read-at-spec =
     tie.close
     (tie.spec
+    any-line-at-requires
+    returns
     known-line-at-requires
     enum-known-known
     enum-known-known-2
     enum-told
-    any-line-at-requires
-    returns
+    any-line-at-requires-2
     returns-2
-    returns-3)
+    returns-3
+    returns-4)
