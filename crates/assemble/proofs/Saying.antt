@@ -16,7 +16,7 @@ use Rattle.assembler.specs.Output.{Answer, success, refusal, Assembly, stemFits
 use Rattle.assembly.specs.declared.Answer as assembly
 use Rattle.assembly.specs.declared.Answer.the-variants.{Success, Refused}
 use Rattle.assembly.specs.Answers.{answerOf, Assembles}
-use Rattle.pieces.specs.Added.{Added}
+use Rattle.pieces.specs.Code.Added.{Added}
 use Rattle.pieces.proofs.Adding.{added-fits, whole}
 use Rattle.assemble.specs.declared.say.Said.{Said}
 use Rattle.assemble.specs.declared.say.Said.the-variants.{Text, Message}

@@ -2,7 +2,7 @@
 ghost use Prim.Native.Nat.{_≤_};
 ghost use lib.ListN.{length};
 ghost use Rattle.assemble.specs.Message.{wordsOf, keyText, carriedText, messageOf};
-ghost use Rattle.pieces.specs.Added.{Added};
+ghost use Rattle.pieces.specs.Code.Added.{Added};
 use pieces::add_bytes;
 use pieces::add_decimal;
 

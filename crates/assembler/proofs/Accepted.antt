@@ -40,7 +40,7 @@ use Rattle.assembler.specs.Statement.{Statement, skipped, noEquals, bind
 use Rattle.assembler.specs.Body.{treeOr, performed, lineRead}
 use Rattle.assembler.specs.Parameters.{keyed, parameterBound}
 use Rattle.assembler.specs.Assembled.{readable, bodyRead, compared, returned, functionRead, placesOf, assembledTree}
-use Rattle.assembler.specs.Concluded.{concluded}
+use Rattle.assembler.specs.Code.Concluded.{concluded}
 use Rattle.assembler.proofs.Words.{Words, WordsIn, meaning-words}
 use Rattle.assembler.proofs.Wrong.{WrongIn, meaning-wrong}
 

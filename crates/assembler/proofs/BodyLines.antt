@@ -12,7 +12,7 @@ use Rattle.lines.specs.Lines.{lines}
 use Rattle.lines.specs.Cursor.{lineAt}
 use Rattle.lines.proofs.Cursor.{step-line, step-done}
 use Rattle.assembler.specs.Part.{part}
-use Rattle.assembler.specs.Held.{Within}
+use Rattle.assembler.specs.Code.Held.{Within}
 use Rattle.assembler.proofs.Holding.{part-take}
 use Rattle.assembler.proofs.Coming.{Item}
 

@@ -13,16 +13,16 @@ use Rattle.expression.specs.declared.Parsed.{Parsed}
 use Rattle.expression.specs.declared.Parsed.the-variants as Parsed
 use Rattle.expression.specs.Tree.{Tree, kOf}
 use Rattle.expression.specs.Parse.{Env, meaning}
-use Rattle.expression.specs.Figures.{Figures}
-use Rattle.expression.specs.Table.{Columns, Holds}
+use Rattle.expression.specs.Code.Figures.{Figures}
+use Rattle.expression.specs.Code.Table.{Columns, Holds}
 use Rattle.expression.specs.Answer.{said, due, Short, Answers}
 use Rattle.expression.proofs.Meaning.{held-told}
 use Rattle.assembler.specs.declared.body.Checked.{Checked}
 use Rattle.assembler.specs.declared.body.Checked.the-variants.{Is, Refused}
 use Rattle.assembler.specs.declared.refusal.Refusal.the-variants.{Expression, TooLong}
 use Rattle.assembler.specs.Part.{part}
-use Rattle.assembler.specs.Stored.{Small}
-use Rattle.assembler.specs.Held.{Checks, ChecksAll, Within}
+use Rattle.assembler.specs.Code.Stored.{Small}
+use Rattle.assembler.specs.Code.Held.{Checks, ChecksAll, Within}
 use Rattle.assembler.proofs.Holding.{p-at-most}
 
 module _ (line : ℕ) where

@@ -9,7 +9,7 @@ use Rattle.assembler.specs.declared.state.State as Code
 use Rattle.assembler.specs.Part.{part}
 use Rattle.assembler.specs.State.{State, each}
 use Rattle.numbered.specs.Outcome.{Outcome, andThen}
-use Rattle.assembler.specs.Held.{Represents, Good, Leads, Follows, Within, isRefused}
+use Rattle.assembler.specs.Code.Held.{Represents, Good, Leads, Follows, Within, isRefused}
 use Rattle.assembler.proofs.Leading.{leads-on, leads-off, by-leads, represents-later}
 
 -- The texts from a place on are `items`; all of them stand from start to end. Those before the place `at` were passed, from the state first on, and

@@ -18,8 +18,8 @@ use Rattle.source.proofs.Places.{Ordered, ordered}
 use Rattle.lines.specs.Lines.{lines}
 use Rattle.expression.specs.declared.figures.Value.the-variants.{Is, None}
 use Rattle.expression.specs.Tree.{Tree, valueOf}
-use Rattle.expression.specs.Figures.{optionOf}
-use Rattle.expression.specs.Source.{sources}
+use Rattle.expression.specs.Code.Figures.{optionOf}
+use Rattle.expression.specs.Code.Source.{sources}
 use Rattle.assembler.specs.declared.assembly.Assembly.{Assembly}
 use Rattle.assembler.specs.declared.refusal.Refusal.{Refusal}
 use Rattle.assembler.specs.declared.refusal.Refusal.the-variants.{NoReturn, NoValue, NotExpected}
@@ -36,11 +36,11 @@ use Rattle.numbered.specs.Outcome.{Outcome, is, refused, andThen}
 use Rattle.assembler.specs.Parameters.{parameterBound}
 use Rattle.assembler.specs.Body.{lineRead}
 use Rattle.assembler.specs.Numbers.{refusalNumbered}
-use Rattle.assembler.specs.Stored.{noBindings, noValues, nothingYet}
-use Rattle.assembler.specs.LastReturn.{Place, Met, bodyMet, metOf, Meets, Standing}
-use Rattle.assembler.specs.Held.{LastIs, Represents, Good, Leads, Follows, Within, isRefused}
+use Rattle.assembler.specs.Code.Stored.{noBindings, noValues, nothingYet}
+use Rattle.assembler.specs.Code.LastReturn.{Place, Met, bodyMet, metOf, Meets, Standing}
+use Rattle.assembler.specs.Code.Held.{LastIs, Represents, Good, Leads, Follows, Within, isRefused}
 use Rattle.assembler.specs.Assembled.{readable, bodyRead, compared, returned, functionRead, placesOf, assembledTree}
-use Rattle.assembler.specs.Concluded.{Reached, rejectedFor, ConcludesBy, Concludes, concluded, ConcludesAll, Located}
+use Rattle.assembler.specs.Code.Concluded.{Reached, rejectedFor, ConcludesBy, Concludes, concluded, ConcludesAll, Located}
 use Rattle.assembler.proofs.Holding.{holds-length}
 use Rattle.assembler.proofs.Sourced.{env-none}
 use Rattle.assembler.proofs.Meeting.{all-made, no-place}

@@ -15,7 +15,7 @@ use Rattle.numbered.specs.Outcome.{is, refused}
 use Rattle.assembler.specs.Body.{lineRead}
 use Rattle.number.specs.Decimal.{decimal}
 use Rattle.assembler.specs.Assembled.{assembledTree}
-use Rattle.assembler.specs.LastReturn.{linesMet, lastReturn}
+use Rattle.assembler.specs.Code.LastReturn.{linesMet, lastReturn}
 use Rattle.assembler.specs.Output.{success, nothing, output, assembled}
 
 -- document 01's bench example

@@ -13,11 +13,11 @@ use Rattle.expression.specs.declared.figures.Value.{Value}
 use Rattle.expression.specs.declared.figures.Value.the-variants.{Is, None}
 use Rattle.expression.specs.Tree.{Tree, num, bin, kOf, pOf}
 use Rattle.expression.specs.Parse.{Binding, Env}
-use Rattle.expression.specs.Figures.{Figures, optionOf}
-use Rattle.expression.specs.Table.{Columns, columns, unless, Entry, entryAt, tagOf, Tells, Told, Holds}
+use Rattle.expression.specs.Code.Figures.{Figures, optionOf}
+use Rattle.expression.specs.Code.Table.{Columns, columns, unless, Entry, entryAt, tagOf, Tells, Told, Holds}
 use Rattle.assembler.specs.declared.state.State.{State}
 use Rattle.assembler.specs.Part.{part}
-use Rattle.assembler.specs.Stored.{numberIn, isNone, More}
+use Rattle.assembler.specs.Code.Stored.{numberIn, isNone, More}
 
 module _ (s : List ℕ) (c : Columns) where
   told-length : (n : ℕ) (env : Env) → Told s c n env → length env ≡ n

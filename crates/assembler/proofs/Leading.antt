@@ -10,7 +10,7 @@ use Rattle.source.specs.declared.parameters.Span.{Span}
 use Rattle.expression.specs.declared.figures.Read.{Read}
 use Rattle.expression.specs.Tree.{Tree}
 use Rattle.expression.specs.Parse.{Env}
-use Rattle.expression.specs.Figures.{Figures}
+use Rattle.expression.specs.Code.Figures.{Figures}
 use Rattle.assembler.specs.declared.refusal.Refusal.{Refusal}
 use Rattle.assembler.specs.declared.state.Last.{Last}
 use Rattle.assembler.specs.declared.state.Status.{Status}
@@ -20,8 +20,8 @@ use Rattle.assembler.specs.Part.{part}
 use Rattle.assembler.specs.State.{State, bound}
 use Rattle.numbered.specs.Outcome.{Outcome, is, refused}
 use Rattle.assembler.specs.Numbers.{refusalNumbered}
-use Rattle.assembler.specs.Stored.{numberIn, Bound}
-use Rattle.assembler.specs.Held.{LastIs, Represents, LeadsBy, Leads}
+use Rattle.assembler.specs.Code.Stored.{numberIn, Bound}
+use Rattle.assembler.specs.Code.Held.{LastIs, Represents, LeadsBy, Leads}
 use Rattle.assembler.proofs.Holding.{holds-length, holds-later, holds-more}
 use Rattle.assembler.proofs.Sourced.{env-later, stand-later, last-later, Gives, env-more, stand-more, last-more}
 

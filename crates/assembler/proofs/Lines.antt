@@ -11,7 +11,7 @@ use Rattle.source.specs.declared.parameters.Span.{Span}
 use Rattle.expression.specs.declared.figures.Read.{Read}
 use Rattle.expression.specs.Tree.{Tree, kOf}
 use Rattle.expression.specs.Parse.{Env, meaning}
-use Rattle.expression.specs.Table.{columns}
+use Rattle.expression.specs.Code.Table.{columns}
 use Rattle.expression.proofs.Meaning.{meaning-empty}
 use Rattle.trim.specs.Trim.{trimmed}
 use Rattle.assembler.specs.declared.body.Checked.{Checked}
@@ -27,9 +27,9 @@ use Rattle.numbered.specs.Numbered.{plain}
 use Rattle.numbered.specs.Outcome.{Outcome, is, refused}
 use Rattle.assembler.specs.Statement.{binds, returns}
 use Rattle.assembler.specs.Body.{treeOr, performed, lineRead}
-use Rattle.assembler.specs.Places.{Inside, AllInside, Stands, statementAt, texts}
-use Rattle.assembler.specs.Stored.{refusedAs, returning, numberIn, Placed, Small, Bound}
-use Rattle.assembler.specs.Held.{Represents, Good, Leads, Follows, ChecksAll, Within, LetWithin}
+use Rattle.assembler.specs.Code.Places.{Inside, AllInside, Stands, statementAt, texts}
+use Rattle.assembler.specs.Code.Stored.{refusedAs, returning, numberIn, Placed, Small, Bound}
+use Rattle.assembler.specs.Code.Held.{Represents, Good, Leads, Follows, ChecksAll, Within, LetWithin}
 use Rattle.assembler.proofs.Places.{stands}
 use Rattle.assembler.proofs.Holding.{part-take}
 use Rattle.assembler.proofs.Sourced.{Gives}

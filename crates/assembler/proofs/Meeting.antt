@@ -30,10 +30,10 @@ use Rattle.assembler.specs.declared.state.State as Code
 use Rattle.assembler.specs.State.{State, bound, each}
 use Rattle.numbered.specs.Outcome.{Outcome, is, refused, andThen}
 use Rattle.assembler.specs.Parameters.{keyed, parameterBound}
-use Rattle.assembler.specs.Places.{statementAt}
-use Rattle.assembler.specs.Stored.{returning}
-use Rattle.assembler.specs.LastReturn.{Met, meeting, linesMet, bodyMet, placeOf, metOf, ReadToLast, Meets}
-use Rattle.assembler.specs.Held.{LastIs, Within, isRefused}
+use Rattle.assembler.specs.Code.Places.{statementAt}
+use Rattle.assembler.specs.Code.Stored.{returning}
+use Rattle.assembler.specs.Code.LastReturn.{Met, meeting, linesMet, bodyMet, placeOf, metOf, ReadToLast, Meets}
+use Rattle.assembler.specs.Code.Held.{LastIs, Within, isRefused}
 use Rattle.assembler.proofs.BodyLines.{linesFrom, all-lines, line-item}
 
 -- the lines before `at` were met, from the state first on

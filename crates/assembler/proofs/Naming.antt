@@ -11,14 +11,14 @@ use Rattle.source.specs.declared.parameters.Parameter.{Parameter}
 use Rattle.source.specs.declared.parameters.NextParameter.the-variants.{Is, Done}
 use Rattle.source.specs.Parameters.{parameters}
 use Rattle.source.specs.Vector.{vectorNumber}
-use Rattle.source.specs.Cursor.{parameterAt}
+use Rattle.source.specs.Code.Cursor.{parameterAt}
 use Rattle.source.proofs.Cursor.{next-is, next-done}
 use Rattle.expression.specs.declared.figures.Read.{Read}
 use Rattle.expression.specs.declared.figures.Value.{Value}
 use Rattle.expression.specs.declared.figures.Value.the-variants as Value
 use Rattle.expression.specs.Tree.{num}
 use Rattle.expression.specs.Parse.{Env}
-use Rattle.expression.specs.Figures.{Figures, optionOf}
+use Rattle.expression.specs.Code.Figures.{Figures, optionOf}
 use Rattle.assembler.specs.declared.refusal.Refusal.{Refusal}
 use Rattle.assembler.specs.declared.parameters.Number.{Number}
 use Rattle.assembler.specs.declared.parameters.Number.the-variants as Number
@@ -27,8 +27,8 @@ use Rattle.assembler.specs.Part.{part}
 use Rattle.assembler.specs.State.{State, bound}
 use Rattle.numbered.specs.Outcome.{Outcome, is, andThen}
 use Rattle.assembler.specs.Parameters.{keyed, parameterBound}
-use Rattle.assembler.specs.Stored.{refusedAs, numberIn, Bound}
-use Rattle.assembler.specs.Held.{Leads, Follows, Within, keyedAs}
+use Rattle.assembler.specs.Code.Stored.{refusedAs, numberIn, Bound}
+use Rattle.assembler.specs.Code.Held.{Leads, Follows, Within, keyedAs}
 use Rattle.assembler.proofs.Holding.{part-take}
 use Rattle.assembler.proofs.Sourced.{Gives}
 use Rattle.assembler.proofs.Leading.{leads-off, represents-later, bound-leads}

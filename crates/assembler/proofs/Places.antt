@@ -20,7 +20,7 @@ use Rattle.assembler.specs.Part.{part}
 use Rattle.assembler.specs.declared.statement.Statement.{Statement}
 use Rattle.assembler.specs.declared.statement.Statement.the-variants.{Skipped, NoEquals, Let, Return}
 use Rattle.assembler.specs.Statement.{returns, letOf, statement}
-use Rattle.assembler.specs.Places.{trimmedIn, letAt, trimmedAt, statementAt, texts, Inside, AllInside, Stands}
+use Rattle.assembler.specs.Code.Places.{trimmedIn, letAt, trimmedAt, statementAt, texts, Inside, AllInside, Stands}
 
 module _ (s : List ℕ) (start end : ℕ) (h : start ≤ end) (k : end ≤ length s) where
   pub part-length : length (part s start end) ≡ end - start

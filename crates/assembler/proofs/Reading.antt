@@ -11,7 +11,7 @@ use Rattle.lines.specs.Lines.{lines}
 use Rattle.lines.specs.Cursor.{lineAt}
 use Rattle.source.specs.declared.parameters.Span.{Span}
 use Rattle.expression.specs.declared.figures.Read.{Read}
-use Rattle.expression.specs.Table.{columns}
+use Rattle.expression.specs.Code.Table.{columns}
 use Rattle.assembler.specs.declared.body.Checked.{Checked}
 use Rattle.assembler.specs.declared.body.Checked.the-variants.{Is, Refused}
 use Rattle.assembler.specs.declared.refusal.Refusal.{Refusal}
@@ -21,9 +21,9 @@ use Rattle.assembler.specs.declared.statement.Statement.the-variants as 
 use Rattle.assembler.specs.Part.{part}
 use Rattle.assembler.specs.State.{each}
 use Rattle.assembler.specs.Body.{lineRead}
-use Rattle.assembler.specs.Places.{statementAt}
-use Rattle.assembler.specs.Stored.{refusedAs, returning, Placed, Small, Bound}
-use Rattle.assembler.specs.Held.{Good, Follows, ChecksAll, Within, isRefused}
+use Rattle.assembler.specs.Code.Places.{statementAt}
+use Rattle.assembler.specs.Code.Stored.{refusedAs, returning, Placed, Small, Bound}
+use Rattle.assembler.specs.Code.Held.{Good, Follows, ChecksAll, Within, isRefused}
 use Rattle.assembler.proofs.Lines.{let-within, return-within, skipped-follows, no-equals-follows, let-refused, let-fits, let-follows, return-refused, return-follows}
 use Rattle.assembler.proofs.Coming.{Turn, Item, item-within, turn-good, turn-next, turn-off}
 use Rattle.assembler.proofs.BodyLines.{linesFrom, line-item}

@@ -16,15 +16,15 @@ use Rattle.expression.specs.declared.Values.{Values}
 use Rattle.expression.specs.declared.figures.Read.{Read}
 use Rattle.expression.specs.Tree.{Tree, num}
 use Rattle.expression.specs.Parse.{Env, meaning}
-use Rattle.expression.specs.Table.{tagOf}
-use Rattle.expression.specs.Source.{Sources, sources, nameOf, expressionOf, envOf, treeOf, Stands, AllStand}
+use Rattle.expression.specs.Code.Table.{tagOf}
+use Rattle.expression.specs.Code.Source.{Sources, sources, nameOf, expressionOf, envOf, treeOf, Stands, AllStand}
 use Rattle.assembler.specs.declared.state.State.{State}
 use Rattle.assembler.specs.declared.state.Returned.{Returned}
 use Rattle.assembler.specs.declared.state.Last.{Last}
 use Rattle.assembler.specs.declared.state.Last.the-variants as Last
 use Rattle.assembler.specs.Part.{part}
-use Rattle.assembler.specs.Stored.{numberIn, More}
-use Rattle.assembler.specs.Held.{ReturnIs, LastIs}
+use Rattle.assembler.specs.Code.Stored.{numberIn, More}
+use Rattle.assembler.specs.Code.Held.{ReturnIs, LastIs}
 use Rattle.assembler.proofs.Holding.{later}
 
 pub env-none : (s : List ℕ) (c : Sources) (n : ℕ) → n ≡ 0 → [] ≡ envOf s c n

@@ -13,7 +13,7 @@ use Rattle.expression.specs.declared.figures.Read.{Read}
 use Rattle.assembler.specs.declared.state.Last.{Last}
 use Rattle.assembler.specs.declared.state.Status.{Status}
 use Rattle.assembler.specs.declared.table.Row.{Row}
-use Rattle.assembler.specs.Stored.{Set, rowOf, More}
+use Rattle.assembler.specs.Code.Stored.{Set, rowOf, More}
 
 set-one : {A : Type 0} (d : A) (l : List A) (i : ℕ) {v w : A} → v ≡ w → i < length l → Set d l i w (set l i v)
 set-one d l i {v} e h = record { here = getD-set-same l i v d h ∙ e; other = λ j n. getD-set-other l i j v d n }

@@ -4,10 +4,6 @@ pub mod State
 pub mod Parameters
 pub mod Body
 pub mod Assembled
-pub mod Places
-pub mod Stored
 pub mod Numbers
-pub mod LastReturn
-pub mod Held
-pub mod Concluded
 pub mod Output
+pub mod Code

@@ -1,10 +1,10 @@
 // What assembly makes of a contract and a vector, before anything is written.
 ghost use mathlib.Core.Path.{_≡_};
 ghost use Rattle.numbered.specs.Outcome.{is};
-ghost use Rattle.assembler.specs.LastReturn.{Standing};
-ghost use Rattle.assembler.specs.Held.{Leads};
+ghost use Rattle.assembler.specs.Code.LastReturn.{Standing};
+ghost use Rattle.assembler.specs.Code.Held.{Leads};
 ghost use Rattle.assembler.specs.Assembled.{readable, bodyRead, functionRead, assembledTree};
-ghost use Rattle.assembler.specs.Concluded.{rejectedFor, Concludes, ConcludesAll, Located};
+ghost use Rattle.assembler.specs.Code.Concluded.{rejectedFor, Concludes, ConcludesAll, Located};
 use crate::body::read_body;
 use crate::parameters::Number;
 use crate::parameters::bind_parameters;

@@ -1,12 +1,12 @@
 // The body of a function, line by line.
 ghost use lib.ListN.{take};
 ghost use Rattle.lines.specs.Lines.{lines};
-ghost use Rattle.expression.specs.Table.{columns};
+ghost use Rattle.expression.specs.Code.Table.{columns};
 ghost use Rattle.assembler.specs.Part.{part};
 ghost use Rattle.assembler.specs.Body.{lineRead};
 ghost use Rattle.assembler.specs.State.{each};
-ghost use Rattle.assembler.specs.LastReturn.{ReadToLast, Meets};
-ghost use Rattle.assembler.specs.Held.{Good, Follows, ChecksAll, Within};
+ghost use Rattle.assembler.specs.Code.LastReturn.{ReadToLast, Meets};
+ghost use Rattle.assembler.specs.Code.Held.{Good, Follows, ChecksAll, Within};
 use crate::refusal::Refusal;
 use crate::state::Last;
 use crate::state::Returned;

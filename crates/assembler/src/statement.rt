@@ -2,7 +2,7 @@
 ghost use mathlib.Core.Path.{_≡_};
 ghost use Prim.Native.Nat.{_≤_};
 ghost use lib.ListN.{length};
-ghost use Rattle.assembler.specs.Places.{trimmedIn, letAt, trimmedAt, statementAt};
+ghost use Rattle.assembler.specs.Code.Places.{trimmedIn, letAt, trimmedAt, statementAt};
 use search::Found;
 use search::find_byte;
 use search::starts_with;

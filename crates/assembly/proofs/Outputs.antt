@@ -13,12 +13,12 @@ use Rattle.byte.specs.Ascii.{ascii}
 use Rattle.ops.specs.Ops.{onto}
 use Rattle.expression.specs.Tree.{Tree, lenOf}
 use Rattle.expression.specs.Parse.{meaning}
-use Rattle.expression.specs.Source.{sources, treeIn, envOf}
+use Rattle.expression.specs.Code.Source.{sources, treeIn, envOf}
 use Rattle.expression.specs.Written.{opsOf, textOf}
 use Rattle.expression.proofs.Written.{written-append, text-length}
-use Rattle.writer.specs.Pieces.{Put}
+use Rattle.writer.specs.Code.Pieces.{Put}
 use Rattle.writer.proofs.Pieces.{put-then}
-use Rattle.emission.specs.Emitted.{treeBetween, Means}
+use Rattle.emission.specs.Code.Emitted.{treeBetween, Means}
 use Rattle.assembler.specs.declared.assembly.Assembly as Code
 use Rattle.assembler.specs.declared.state.Last.{Last}
 use Rattle.assembler.specs.declared.state.Last.the-variants.{Is, Nothing}
@@ -31,8 +31,8 @@ use Rattle.assembler.specs.declared.refusal.Refusal.the-variants.{BadStem, Outp
 use Rattle.assembler.specs.Part.{part}
 use Rattle.assembler.specs.Assembled.{assembledTree}
 use Rattle.numbered.specs.Outcome.{Outcome, is}
-use Rattle.assembler.specs.Held.{LastIs, ReturnIs}
-use Rattle.assembler.specs.Concluded.{Accepts, ConcludesBy, Concludes}
+use Rattle.assembler.specs.Code.Held.{LastIs, ReturnIs}
+use Rattle.assembler.specs.Code.Concluded.{Accepts, ConcludesBy, Concludes}
 use Rattle.assembler.specs.Output as Output
 use Rattle.assembler.specs.Output.{assemblyNumbered, stemFits, header, output, named, assembled}
 use Rattle.assembly.specs.declared.Answer.{Answer}

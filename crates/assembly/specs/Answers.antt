@@ -9,7 +9,7 @@ use Rattle.assembler.specs.declared.assembly.Assembly as Code
 use Rattle.assembler.specs.Numbers.{refusalNumbered}
 use Rattle.numbered.specs.Outcome.{Outcome}
 use Rattle.expression.specs.Tree.{Tree}
-use Rattle.assembler.specs.Concluded.{Accepts}
+use Rattle.assembler.specs.Code.Concluded.{Accepts}
 use Rattle.assembler.specs.Output as Output
 use Rattle.assembler.specs.Output.{success, refusal, assemblyNumbered, stemFits, named}
 use Rattle.assembly.specs.declared.Answer.{Answer}

@@ -3,7 +3,7 @@ ghost use mathlib.Core.Path.{_≡_};
 ghost use Prim.Native.Nat.{_≤_};
 ghost use lib.ListN.{length};
 ghost use Rattle.assembler.specs.Output.{header};
-ghost use Rattle.writer.specs.Pieces.{Put};
+ghost use Rattle.writer.specs.Code.Pieces.{Put};
 use number::decimal_len;
 use writer::put_bytes;
 use writer::put_decimal;

@@ -11,7 +11,7 @@ use Rattle.lines.specs.declared.Step.{Step}
 use Rattle.lines.specs.declared.Step.the-variants.{Next, Done}
 use Rattle.trim.specs.Trim.{trimmed, passed}
 use Rattle.source.specs.declared.parameters.Span.{Span}
-use Rattle.source.specs.Cursor.{trimmedSpan}
+use Rattle.source.specs.Code.Cursor.{trimmedSpan}
 use Rattle.ops.specs.Ops.{lineNumbered}
 use Rattle.atc_vm.specs.Calls.{placeIn, placeNumbered}
 use Rattle.atc_vm.specs.Words.{Tells}

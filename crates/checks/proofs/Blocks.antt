@@ -13,7 +13,7 @@ use Rattle.byte.proofs.Tests.{never, by-leb}
 use Rattle.kinds.specs.Kinds.{target, takes, operation}
 use Rattle.checks.specs.declared.Check.the-variants.{Passed}
 use Rattle.checks.specs.Verify.{targetFits, operationCheck, operationsCheck}
-use Rattle.checks.specs.Blocks.{Clear}
+use Rattle.checks.specs.Code.Blocks.{Clear}
 use Rattle.checks.proofs.Laws.{check-at, no-jump}
 
 pub or-left : (p q : Bool) → (p || q) ≡ false → p ≡ false

@@ -1,3 +1,3 @@
 pub mod Verify
-pub mod Blocks
 pub mod Numbers
+pub mod Code

@@ -9,7 +9,7 @@ ghost use Rattle.kinds.specs.Kinds.{operation};
 ghost use Rattle.checks.specs.declared.Refusal.the-variants.{JumpOutOfRange};
 ghost use Rattle.checks.specs.declared.Check.the-variants as check;
 ghost use Rattle.checks.specs.Verify.{operationCheck, operationsCheck};
-ghost use Rattle.checks.specs.Blocks.{Passes, Clear};
+ghost use Rattle.checks.specs.Code.Blocks.{Passes, Clear};
 use super::Check;
 use super::Refusal;
 

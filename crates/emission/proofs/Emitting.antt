@@ -13,18 +13,18 @@ use Rattle.token.specs.Token.{tokens, tokenAt, scan}
 use Rattle.expression.specs.Tree.{num}
 use Rattle.expression.specs.Grammar.{levels}
 use Rattle.expression.specs.Parse.{meaning}
-use Rattle.expression.specs.Source.{Sources, treeIn, expressionOf, envOf, treeOf, AllStand}
+use Rattle.expression.specs.Code.Source.{Sources, treeIn, expressionOf, envOf, treeOf, AllStand}
 use Rattle.expression.specs.Written.{textOf}
-use Rattle.writer.specs.Pieces.{Put, pushText, operatorsText}
+use Rattle.writer.specs.Code.Pieces.{Put, pushText, operatorsText}
 use Rattle.writer.proofs.Pieces.{put-none, put-then, put-length}
 use Rattle.emission.specs.declared.factor.Factor.{Factor}
 use Rattle.emission.specs.declared.factor.Factor.the-variants.{Open, Literal, Name, Nothing}
 use Rattle.emission.specs.declared.factor.FactorAt.{FactorAt}
 use Rattle.emission.specs.declared.operator.Turn.{Turn}
-use Rattle.emission.specs.Factor.{factorAt}
-use Rattle.emission.specs.Waiting.{most, popped, stackOf}
-use Rattle.emission.specs.Turn.{signAt, downTo, Ready, Turns}
-use Rattle.emission.specs.Emitted.{treeBetween, Means, Kept}
+use Rattle.emission.specs.Code.Factor.{factorAt}
+use Rattle.emission.specs.Code.Waiting.{most, popped, stackOf}
+use Rattle.emission.specs.Code.Turn.{signAt, downTo, Ready, Turns}
+use Rattle.emission.specs.Code.Emitted.{treeBetween, Means, Kept}
 use Rattle.emission.proofs.Stack.{stack-length, stack-more, text-num}
 use Rattle.emission.proofs.Walk.{Walks}
 use Rattle.emission.proofs.Postfix.{postfix}

@@ -17,12 +17,12 @@ use Rattle.token.specs.declared.Token.{Token}
 use Rattle.token.proofs.Tokens.{Next, tokenFrom, digit-token, digits-all}
 use Rattle.expression.specs.declared.names.Found.{Found}
 use Rattle.expression.specs.Parse.{lone}
-use Rattle.expression.specs.Table.{found}
+use Rattle.expression.specs.Code.Table.{found}
 use Rattle.expression.proofs.Signs.{next-of, none-of}
 use Rattle.emission.specs.declared.factor.Factor.{Factor}
 use Rattle.emission.specs.declared.factor.Factor.the-variants.{Open, Literal, Nothing}
 use Rattle.emission.specs.declared.factor.FactorAt.{FactorAt}
-use Rattle.emission.specs.Factor.{literalOf, namedBy, factorOf, factorAt}
+use Rattle.emission.specs.Code.Factor.{literalOf, namedBy, factorOf, factorAt}
 
 -- the digits' value as `number` gives it
 clash : {P : Type 0} {n : ℕ} → Digits.Is n ≡ Digits.TooLarge → P

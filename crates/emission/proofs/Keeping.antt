@@ -6,11 +6,11 @@ use native.Mathlib.Omega.{arith}
 use lib.ListN.{length, getD, set, replicate, length-set}
 use lib.Seq.{slice, length-slice, getD-set-same, getD-set-other}
 use Rattle.byte.proofs.Tests.{by-eqb}
-use Rattle.expression.specs.Source.{Sources, treeOf}
+use Rattle.expression.specs.Code.Source.{Sources, treeOf}
 use Rattle.expression.specs.Written.{textOf}
-use Rattle.writer.specs.Pieces.{Put}
+use Rattle.writer.specs.Code.Pieces.{Put}
 use Rattle.writer.proofs.Pieces.{put-slice, put-there}
-use Rattle.emission.specs.Emitted.{Kept}
+use Rattle.emission.specs.Code.Emitted.{Kept}
 
 module _ {s : List ℕ} {c : Sources} where
   pub kept-put : {out : List ℕ} {to : ℕ} {places lengths bytes after : List ℕ} {r : ℕ} → Kept s c out to places lengths → Put out to bytes after r → to + length bytes ≤ length out → Kept s c after r places lengths

@@ -13,8 +13,8 @@ use Rattle.byte.proofs.Tests.{by-bool}
 use Rattle.expression.specs.declared.names.Found.{Found}
 use Rattle.expression.specs.declared.names.Found.the-variants.{At, Nothing}
 use Rattle.expression.specs.Parse.{lookup}
-use Rattle.expression.specs.Table.{tagOf, called, found}
-use Rattle.expression.specs.Source.{Sources, nameOf, envOf, treeOf, AllStand}
+use Rattle.expression.specs.Code.Table.{tagOf, called, found}
+use Rattle.expression.specs.Code.Source.{Sources, nameOf, envOf, treeOf, AllStand}
 use Rattle.expression.proofs.Tags.{tag-same}
 
 module _ (s : List ℕ) (c : Sources) (w : List ℕ) where

@@ -4,9 +4,9 @@ use mathlib.Core.Path.{_≡_, refl, sym, ap, _∙_}
 use mathlib.Core.List.{List, [], _∷_, _++_, append-nil, append-assoc}
 use native.Mathlib.Omega.{arith}
 use lib.ListN.{length, getD, length-append}
-use Rattle.writer.specs.Pieces.{Put, operatorText, operatorsText}
+use Rattle.writer.specs.Code.Pieces.{Put, operatorText, operatorsText}
 use Rattle.writer.proofs.Pieces.{put-none, put-then, put-length}
-use Rattle.emission.specs.Waiting.{levelOf, most, popped, left, stackOf, Pops}
+use Rattle.emission.specs.Code.Waiting.{levelOf, most, popped, left, stackOf, Pops}
 use Rattle.emission.proofs.Stack.{left-one, left-none, stack-top, popped-empty, popped-shut, popped-more}
 
 -- o is written so far, and k of n operators wait

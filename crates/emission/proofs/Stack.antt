@@ -13,8 +13,8 @@ use Rattle.expression.specs.Parse.{joins}
 use Rattle.expression.specs.Tree.{num}
 use Rattle.expression.specs.Written.{textOf}
 use Rattle.expression.proofs.Steps.{looser}
-use Rattle.writer.specs.Pieces.{pushText, operatorText, operatorsText}
-use Rattle.emission.specs.Waiting.{levelOf, popped, left, stackOf}
+use Rattle.writer.specs.Code.Pieces.{pushText, operatorText, operatorsText}
+use Rattle.emission.specs.Code.Waiting.{levelOf, popped, left, stackOf}
 
 -- an operator's level is the one that it joins to
 

@@ -17,15 +17,15 @@ use Rattle.expression.specs.declared.names.Found.the-variants as Found
 use Rattle.expression.specs.Tree.{Tree}
 use Rattle.expression.specs.Grammar.{levels}
 use Rattle.expression.specs.Parse.{lookup, lone}
-use Rattle.expression.specs.Source.{Sources, envOf, treeOf, AllStand}
-use Rattle.expression.specs.Table.{found}
+use Rattle.expression.specs.Code.Source.{Sources, envOf, treeOf, AllStand}
+use Rattle.expression.specs.Code.Table.{found}
 use Rattle.expression.specs.Written.{textOf}
-use Rattle.writer.specs.Pieces.{pushText, operatorsText}
+use Rattle.writer.specs.Code.Pieces.{pushText, operatorsText}
 use Rattle.emission.specs.declared.factor.Factor.{Factor}
 use Rattle.emission.specs.declared.factor.Factor.the-variants.{Open, Literal, Name, Nothing}
-use Rattle.emission.specs.Factor.{namedBy, factorOf}
-use Rattle.emission.specs.Waiting.{levelOf, most, popped, left}
-use Rattle.emission.specs.Turn.{downTo, stackAfter}
+use Rattle.emission.specs.Code.Factor.{namedBy, factorOf}
+use Rattle.emission.specs.Code.Waiting.{levelOf, most, popped, left}
+use Rattle.emission.specs.Code.Turn.{downTo, stackAfter}
 use Rattle.emission.proofs.Stack.{text-num}
 use Rattle.emission.proofs.Walk.{FactorStep, opens, number, name, OperatorStep, closes, waits, Walks}
 use Rattle.emission.proofs.Names.{Looked, looked}

@@ -10,10 +10,10 @@ use lib.ListN.{length, set, take, drop, length-set}
 use Rattle.byte.proofs.Tests.{by-eqb}
 use Rattle.token.specs.Token.{tokenAt}
 use Rattle.expression.specs.Grammar.{levels}
-use Rattle.writer.specs.Pieces.{operatorsText}
+use Rattle.writer.specs.Code.Pieces.{operatorsText}
 use Rattle.emission.specs.declared.waiting.Popped.{Popped}
-use Rattle.emission.specs.Waiting.{levelOf, most, popped, left, stackOf, Pops}
-use Rattle.emission.specs.Turn.{signAt, downTo, Ready, Turns}
+use Rattle.emission.specs.Code.Waiting.{levelOf, most, popped, left, stackOf, Pops}
+use Rattle.emission.specs.Code.Turn.{signAt, downTo, Ready, Turns}
 use Rattle.emission.proofs.Stack.{stack-length, stack-more, stack-top}
 
 module _ {s : List ℕ} {end at : ℕ} {out : List ℕ} {to : ℕ} {waiting : List ℕ} {n : ℕ} (r : Ready s end at out to waiting n) {b : ℕ} (e : b ≡ signAt s end at) where

@@ -10,8 +10,8 @@ use Rattle.expression.specs.Tree.{Tree, num}
 use Rattle.expression.specs.Grammar.{levels}
 use Rattle.expression.specs.Parse.{Env, lookup, lone}
 use Rattle.expression.specs.Written.{textOf}
-use Rattle.writer.specs.Pieces.{operatorsText}
-use Rattle.emission.specs.Waiting.{levelOf, most, popped, left}
+use Rattle.writer.specs.Code.Pieces.{operatorsText}
+use Rattle.emission.specs.Code.Waiting.{levelOf, most, popped, left}
 
 -- The token w where a factor is due: `(` is marked on the stack, a number and a name are written.
 -- `next due st o`: the walk over the tokens behind w, with the stack st, writes o; due says whether it starts with a factor.

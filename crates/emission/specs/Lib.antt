@@ -1,4 +1,1 @@
-pub mod Waiting
-pub mod Factor
-pub mod Turn
-pub mod Emitted
+pub mod Code

@@ -3,7 +3,7 @@ ghost use mathlib.Core.Path.{_≡_};
 ghost use Prim.Native.Nat.{_≤_};
 ghost use lib.ListN.{length, drop};
 ghost use Rattle.number.specs.Decimal.{digits};
-ghost use Rattle.emission.specs.Factor.{literalOf, namedBy, factorAt};
+ghost use Rattle.emission.specs.Code.Factor.{literalOf, namedBy, factorAt};
 use expression::names::Found;
 use expression::names::lookup;
 use expression::parts::lone_byte;

@@ -2,10 +2,10 @@
 // expression; what a binding wrote once is copied from the output.
 ghost use Prim.Native.Nat.{_+_, _<_, _≤_};
 ghost use lib.ListN.{length};
-ghost use Rattle.expression.specs.Source.{sourcesOf, sources, treeOf, AllStand};
+ghost use Rattle.expression.specs.Code.Source.{sourcesOf, sources, treeOf, AllStand};
 ghost use Rattle.expression.specs.Written.{textOf};
-ghost use Rattle.writer.specs.Pieces.{Put};
-ghost use Rattle.emission.specs.Emitted.{treeBetween, Means, Kept};
+ghost use Rattle.writer.specs.Code.Pieces.{Put};
+ghost use Rattle.emission.specs.Code.Emitted.{treeBetween, Means, Kept};
 
 mod factor;
 mod operator;

@@ -3,7 +3,7 @@ ghost use mathlib.Core.Path.{_≡_};
 ghost use mathlib.Core.Bool.{cond};
 ghost use Prim.Native.Nat.{_-_, _<_};
 ghost use lib.Dec.{eqb};
-ghost use Rattle.emission.specs.Turn.{Ready, Turns};
+ghost use Rattle.emission.specs.Code.Turn.{Ready, Turns};
 use crate::waiting::LEVELS;
 use crate::waiting::WAITING;
 use crate::waiting::level_of;

@@ -2,8 +2,8 @@
 ghost use mathlib.Core.Path.{_≡_};
 ghost use Prim.Native.Nat.{_+_, _≤_};
 ghost use lib.ListN.{length};
-ghost use Rattle.writer.specs.Pieces.{operatorsText};
-ghost use Rattle.emission.specs.Waiting.{levelOf, most, popped, stackOf, Pops};
+ghost use Rattle.writer.specs.Code.Pieces.{operatorsText};
+ghost use Rattle.emission.specs.Code.Waiting.{levelOf, most, popped, stackOf, Pops};
 use expression::DEPTH;
 use expression::parts::is_product;
 use expression::parts::is_sum;

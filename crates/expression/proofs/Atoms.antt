@@ -17,7 +17,7 @@ use Rattle.expression.specs.declared.figures.Value.the-variants.{Is}
 use Rattle.expression.specs.declared.ExprError.the-variants.{UnexpectedEnd, UnbalancedParenthesis, InvalidLiteral}
 use Rattle.expression.specs.declared.Parsed.the-variants.{Done, Refused}
 use Rattle.expression.specs.Parse.{lone}
-use Rattle.expression.specs.Parts.{literalRead, closedRead}
+use Rattle.expression.specs.Code.Parts.{literalRead, closedRead}
 use Rattle.expression.proofs.Signs.{none-of, next-of}
 
 not-large : {P : Type 0} (n : ℕ) → Digits.Is n ≡ Digits.TooLarge → P

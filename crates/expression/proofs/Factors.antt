@@ -24,10 +24,10 @@ use Rattle.expression.specs.declared.Parsed.{Parsed}
 use Rattle.expression.specs.declared.Parsed.the-variants.{Done, Refused}
 use Rattle.expression.specs.Tree.{num}
 use Rattle.expression.specs.Parse.{Binding, lookup, lone, factor, expression}
-use Rattle.expression.specs.Figures.{Figures, optionOf}
-use Rattle.expression.specs.Table.{Columns, Entry, entryAt, Tells, unless, found}
-use Rattle.expression.specs.Parts.{literalRead, boundValue, boundRead, nameRead, AllFit, closedRead}
-use Rattle.expression.specs.Cycle.{Reads, Meets}
+use Rattle.expression.specs.Code.Figures.{Figures, optionOf}
+use Rattle.expression.specs.Code.Table.{Columns, Entry, entryAt, Tells, unless, found}
+use Rattle.expression.specs.Code.Parts.{literalRead, boundValue, boundRead, nameRead, AllFit, closedRead}
+use Rattle.expression.specs.Code.Cycle.{Reads, Meets}
 use Rattle.expression.proofs.Steps.{ended, too-deep, opened-refused, unclosed, closes, not-closed, number-read, number-refused, name-read, name-refused}
 use Rattle.expression.proofs.Lookup.{Looked, looked}
 use Rattle.expression.proofs.Atoms.{closed-is, closed-other}

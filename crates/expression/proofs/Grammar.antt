@@ -23,7 +23,7 @@ use Rattle.expression.specs.Tree.{Tree, num, bin}
 use Rattle.expression.specs.Environment.{Env, lookup}
 use Rattle.expression.specs.Grammar.{factor, expression, Operator, times, over, plus, minus, Derives, number, name, parentheses, alone, join, depth}
 use Rattle.expression.specs.Parse.{Parse, done, refused, lone, joins, operator, joined, closed, nested, named, atom, parseF, moreF, enough, parsed, whole, meaning}
-use Rattle.expression.specs.Cycle.{Reads}
+use Rattle.expression.specs.Code.Cycle.{Reads}
 use Rattle.expression.proofs.Steps.{lone-is, looser, Left, starts, turns, stops, closes, number-read, name-read, more-refused, more-ends, more-joins, level-up, factor-opens, factor-atom}
 
 not-done : {P : Type 0} (n : ℕ) (t : Tree) (ts : List (List ℕ)) → refused n ≡ done t ts → P

@@ -15,7 +15,7 @@ use Rattle.byte.proofs.Parts.{next}
 use Rattle.expression.specs.declared.names.Found.{Found}
 use Rattle.expression.specs.declared.names.Found.the-variants.{At, Nothing}
 use Rattle.expression.specs.Parse.{Binding, Env, lookup}
-use Rattle.expression.specs.Table.{Columns, entryAt, Tells, Told, tagOf, called, found}
+use Rattle.expression.specs.Code.Table.{Columns, entryAt, Tells, Told, tagOf, called, found}
 use Rattle.expression.proofs.Tags.{tag-same}
 
 part : (s : List ℕ) (a n i : ℕ) → i < n → a + n ≤ length s → take (n - i) (drop (a + i) s) ≡ getD s (a + i) 0 ∷ take (n - (i + 1)) (drop (a + (i + 1)) s)

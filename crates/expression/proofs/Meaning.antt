@@ -17,11 +17,11 @@ use Rattle.expression.specs.declared.Parsed.{Parsed}
 use Rattle.expression.specs.declared.Parsed.the-variants.{Done, Refused}
 use Rattle.expression.specs.Tree.{Tree}
 use Rattle.expression.specs.Parse.{Env, done, enough, parseF, moreF, whole, meaning, expression, depth}
-use Rattle.expression.specs.Figures.{Figures}
-use Rattle.expression.specs.Table.{Columns, columnsOf, Told, few, Holds}
+use Rattle.expression.specs.Code.Figures.{Figures}
+use Rattle.expression.specs.Code.Table.{Columns, columnsOf, Told, few, Holds}
 use Rattle.expression.specs.Answer.{exprErrorNumbered, said, due, Short, EndsLast, Answers}
-use Rattle.expression.specs.Parts.{wholeRead}
-use Rattle.expression.specs.Cycle.{Placed, Meets}
+use Rattle.expression.specs.Code.Parts.{wholeRead}
+use Rattle.expression.specs.Code.Cycle.{Placed, Meets}
 use Rattle.expression.proofs.Signs.{none-of, next-of}
 use Rattle.expression.proofs.Grammar.{meaning-whole, meaning-not-allowed}
 

@@ -17,10 +17,10 @@ use Rattle.expression.specs.declared.Parsed.{Parsed}
 use Rattle.expression.specs.declared.Parsed.the-variants.{Done, Refused}
 use Rattle.expression.specs.Tree.{Tree, bin, lineOf}
 use Rattle.expression.specs.Parse.{Env, lone, joins, operator, expression}
-use Rattle.expression.specs.Figures.{Figures, Small, Joined}
-use Rattle.expression.specs.Table.{Columns, Holds}
-use Rattle.expression.specs.Parts.{signAt}
-use Rattle.expression.specs.Cycle.{Reads, Placed, Meets}
+use Rattle.expression.specs.Code.Figures.{Figures, Small, Joined}
+use Rattle.expression.specs.Code.Table.{Columns, Holds}
+use Rattle.expression.specs.Code.Parts.{signAt}
+use Rattle.expression.specs.Code.Cycle.{Reads, Placed, Meets}
 use Rattle.expression.proofs.Steps.{Left, starts, starts-refused, turns, turns-refused, stops}
 
 pub carry : {s : List ℕ} {at : ℕ} {c : Columns} {l d : ℕ} {r q : Parsed} → r ≡ q → Meets s at c l d r → Meets s at c l d q

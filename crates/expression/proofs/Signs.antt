@@ -10,7 +10,7 @@ use Rattle.token.specs.declared.Token.{Token}
 use Rattle.token.proofs.Tokens.{Next, token-none, token-next}
 use Rattle.expression.specs.declared.parts.Sign.{Sign}
 use Rattle.expression.specs.Parse.{lone}
-use Rattle.expression.specs.Parts.{signAt}
+use Rattle.expression.specs.Code.Parts.{signAt}
 
 pub lone-one : (s : List ℕ) (start end : ℕ) → start < length s → end - start ≡ 1 → getD s start 0 ≡ lone (take (end - start) (drop start s))
 lone-one s start end h e = rw (e, next s start (start + 1) h refl)

@@ -13,7 +13,7 @@ use Rattle.number.specs.Decimal.{allDigits, value}
 use Rattle.token.specs.Token.{first}
 use Rattle.expression.specs.Tree.{Tree, num, bin}
 use Rattle.expression.specs.Parse.{Env, lookup, Parse, done, refused, lone, joins, operator, joined, closed, nested, atom, parseF, moreF, enough, factor, expression}
-use Rattle.expression.specs.Cycle.{Reads, Refuses}
+use Rattle.expression.specs.Code.Cycle.{Reads, Refuses}
 
 pub lone-is : (w : List ℕ) (a : ℕ) → 0 < a → lone w ≡ a → w ≡ a ∷ []
 lone-is [] a h e = absurd (omega arith)

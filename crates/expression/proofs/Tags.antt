@@ -11,7 +11,7 @@ use lib.ListN.{length, getD, take, drop, length-drop}
 use lib.Seq.{length-take-le, getD-take, getD-drop}
 use Rattle.byte.specs.Equal.{equal}
 use Rattle.byte.proofs.Tests.{never, and-left, and-right, by-bool, by-cond}
-use Rattle.expression.specs.Table.{mix, tagOf, called, found, hasTag, isFree}
+use Rattle.expression.specs.Code.Table.{mix, tagOf, called, found, hasTag, isFree}
 
 same-is : (v w : List ℕ) → equal v w ≡ true → v ≡ w
 same-is [] [] e = refl

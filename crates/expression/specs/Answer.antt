@@ -13,9 +13,9 @@ use Rattle.expression.specs.declared.ExprError.the-variants.{InvalidChar
 use Rattle.expression.specs.declared.Parsed.{Parsed}
 use Rattle.expression.specs.declared.Parsed.the-variants as Parsed
 use Rattle.expression.specs.Tree.{Tree, valueOf, kOf, pOf, lenOf}
-use Rattle.expression.specs.Figures.{optionOf}
+use Rattle.expression.specs.Code.Figures.{optionOf}
 use Rattle.expression.specs.Parse.{Env, meaning}
-use Rattle.expression.specs.Table.{Columns, Told, few}
+use Rattle.expression.specs.Code.Table.{Columns, Told, few}
 
 -- document 01's number of each refusal; the line is the caller's to add
 abbrev pub exprErrorNumbered : ExprError → Numbered

@@ -3,9 +3,5 @@ pub mod Environment
 pub mod Grammar
 pub mod Parse
 pub mod Answer
-pub mod Table
-pub mod Source
-pub mod Figures
-pub mod Parts
-pub mod Cycle
 pub mod Written
+pub mod Code

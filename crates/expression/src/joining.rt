@@ -4,7 +4,7 @@ ghost use Prim.Native.Nat.{max, _≤_};
 ghost use Rattle.word.specs.Apply.{apply};
 ghost use Rattle.expression.specs.Tree.{applied, lineOf};
 ghost use Rattle.expression.specs.Parse.{operator};
-ghost use Rattle.expression.specs.Figures.{optionOf, Small, Joined};
+ghost use Rattle.expression.specs.Code.Figures.{optionOf, Small, Joined};
 use crate::figures::Read;
 use crate::figures::Value;
 use std::num::wrapping_add_u64;

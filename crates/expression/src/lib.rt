@@ -4,8 +4,8 @@ ghost use Prim.Native.Nat.{_≤_};
 ghost use lib.ListN.{length};
 ghost use Rattle.expression.specs.Parse.{factor, term, expression};
 ghost use Rattle.expression.specs.Answer.{exprErrorNumbered, Answers};
-ghost use Rattle.expression.specs.Table.{columnsOf, columns, few};
-ghost use Rattle.expression.specs.Cycle.{Ready, Meets};
+ghost use Rattle.expression.specs.Code.Table.{columnsOf, columns, few};
+ghost use Rattle.expression.specs.Code.Cycle.{Ready, Meets};
 
 pub mod figures;
 mod joining;

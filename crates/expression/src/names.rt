@@ -5,7 +5,7 @@ ghost use Prim.Native.Nat.{_+_, _≤_, _<_};
 ghost use lib.Dec.{leb};
 ghost use lib.ListN.{length, take, drop};
 ghost use Rattle.byte.specs.Equal.{equal};
-ghost use Rattle.expression.specs.Table.{tagOf, mix, called, found, hasTag, isFree};
+ghost use Rattle.expression.specs.Code.Table.{tagOf, mix, called, found, hasTag, isFree};
 use byte::either;
 
 pub enum Found {

@@ -3,7 +3,7 @@ ghost use mathlib.Core.Path.{_≡_};
 ghost use Prim.Native.Nat.{_-_, _≤_, _<_};
 ghost use lib.ListN.{length, take, drop};
 ghost use Rattle.expression.specs.Parse.{lone, term, expression, joins};
-ghost use Rattle.expression.specs.Parts.{signAt};
+ghost use Rattle.expression.specs.Code.Parts.{signAt};
 use byte::either;
 use token::token_at;
 

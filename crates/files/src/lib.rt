@@ -1,6 +1,6 @@
 // Arguments and files, read into a buffer as far as it holds them.
 ghost use Rattle.io.specs.Counts.{Counts};
-ghost use Rattle.files.specs.Held.{Held};
+ghost use Rattle.files.specs.Code.Held.{Held};
 
 // How many bytes stand in the buffer, or that the file can't be opened or read.
 pub enum Contents {

@@ -4,7 +4,7 @@ use mathlib.Core.Path.{_≡_, refl}
 use mathlib.Core.List.{List, [], _∷_}
 use native.Mathlib.Omega.{arith}
 use Rattle.byte.proofs.Tests.{by-eqb}
-use Rattle.kmp.specs.Shift.{Shift}
+use Rattle.kmp.specs.Code.Shift.{Shift}
 
 abbrev a : ℕ
 a = 0x61

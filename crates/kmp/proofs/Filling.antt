@@ -6,7 +6,7 @@ use native.Mathlib.Omega.{arith}
 use lib.ListN.{length, getD, set, length-set}
 use lib.Seq.{getD-set-same, getD-set-other}
 use Rattle.byte.proofs.Tests.{by-eqb, by-leb}
-use Rattle.kmp.specs.Shift.{Agrees, Shift, Table}
+use Rattle.kmp.specs.Code.Shift.{Agrees, Shift, Table}
 use Rattle.kmp.proofs.Shifts.{shorter, empty, longer, differs, shifted, between}
 
 -- the first j bytes of p stand at its place c, and at no earlier place but 0 does p agree beyond them

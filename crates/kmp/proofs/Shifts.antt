@@ -5,7 +5,7 @@ use mathlib.Core.List.{List}
 use native.Mathlib.Omega.{arith}
 use lib.ListN.{getD}
 use Rattle.byte.proofs.Tests.{by-eqb}
-use Rattle.kmp.specs.Shift.{Agrees, Shift}
+use Rattle.kmp.specs.Code.Shift.{Agrees, Shift}
 
 module _ (p s : List ℕ) (c : ℕ) where
   -- up to an earlier end

@@ -11,7 +11,7 @@ use Rattle.search.specs.declared.Found.the-variants.{At, Nothing}
 use Rattle.search.specs.First.{prefixOf, firstAt}
 use Rattle.search.proofs.Prefix.{same-at, each}
 use Rattle.search.proofs.Laws.{hit, miss, no-room}
-use Rattle.kmp.specs.Shift.{Agrees, Shift}
+use Rattle.kmp.specs.Code.Shift.{Agrees, Shift}
 use Rattle.kmp.proofs.Shifts.{empty, longer, differs, shifted, between}
 
 -- the first j bytes of p stand at the place c of s, and p stands at no place before c

@@ -1,1 +1,1 @@
-pub mod Shift
+pub mod Code

@@ -3,7 +3,7 @@ ghost use mathlib.Core.Path.{_≡_};
 ghost use Prim.Native.Nat.{_+_, _<_, _≤_};
 ghost use lib.ListN.{length};
 ghost use Rattle.search.specs.First.{firstAt};
-ghost use Rattle.kmp.specs.Shift.{Table};
+ghost use Rattle.kmp.specs.Code.Shift.{Table};
 use search::Found;
 
 // A longer pattern has no table.

@@ -12,7 +12,7 @@ use Rattle.word.specs.Apply.{Binary, add, sub, mul, div, eq, lt, apply}
 use Rattle.kinds.specs.Kinds.{Operation, operation}
 use Rattle.kinds.proofs.ByKind.{Span, end, _&_, span}
 use Rattle.machine.specs.Machine.{stackLimitExceeded, outsideStorage, Frame, Effect, moves, jumps, ends, fails, Act, over, costs, Outcome, next, done, stop, storeAt, pushOf, valueOf, twoOf, dupOf, swapOf, jumpIfZeroOf, jumpIfNotZeroOf, storeOf, effectOf, priceOf, halt, settle, pay, actOf, machine, follow, runOf, start, whole}
-use Rattle.machine.specs.Alike.{holding, AlikeBut}
+use Rattle.machine.specs.Code.Alike.{holding, AlikeBut}
 use Rattle.machine.proofs.Program.{effect-high}
 use Rattle.machine.proofs.Runs.{unpaid, afforded}
 

@@ -6,7 +6,7 @@ use mathlib.Core.List.{List}
 use lib.ListN.{length, take}
 use Rattle.machine.specs.declared.Regs.{Regs}
 use Rattle.machine.specs.Machine.{Frame, Effect, moves, jumps, fails, stop}
-use Rattle.machine.specs.Registers.{down, frameOf, faultOf, byCode, goneOn, stopped, Did}
+use Rattle.machine.specs.Code.Registers.{down, frameOf, faultOf, byCode, goneOn, stopped, Did}
 
 -- any code but 0 and 1 is a refusal
 pub refused : (code note g : ℕ) (fr : Frame) → 2 ≤ code → byCode code note g fr ≡ stop (faultOf code note g)

@@ -8,7 +8,7 @@ use lib.ListN.{length, getD, List·getD-eq-default}
 use Rattle.word.specs.Apply.{lt}
 use Rattle.kinds.specs.Kinds.{operation}
 use Rattle.machine.specs.Machine.{effects, effectOf, haltOf, halt, decode}
-use Rattle.machine.specs.Registers.{binaryOf}
+use Rattle.machine.specs.Code.Registers.{binaryOf}
 
 -- a kind above 14 has the effect of Halt
 pub effect-high : (c room k v : ℕ) → 15 ≤ k → effectOf c room (operation k v) ≡ haltOf

@@ -6,7 +6,7 @@ use mathlib.Core.Path.{_≡_, refl, ap}
 use mathlib.Core.List.{List, [], _∷_}
 use lib.ListN.{length, getD, set, length-set}
 use lib.Seq.{getD-set-same, getD-set-other}
-use Rattle.machine.specs.Registers.{down}
+use Rattle.machine.specs.Code.Registers.{down}
 
 pub length-down : (n : ℕ) (xs : List ℕ) → length (down n xs) ≡ n
 unfolding down

@@ -1,3 +1,2 @@
 pub mod Machine
-pub mod Registers
-pub mod Alike
+pub mod Code

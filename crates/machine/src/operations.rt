@@ -7,7 +7,7 @@ ghost use Prim.Native.Nat.{ℕ, _+_, _-_, _≤_, _<_, _^_};
 ghost use lib.ListN.{length, take, drop, replicate};
 ghost use Rattle.word.specs.Apply.{apply as applyOf};
 ghost use Rattle.machine.specs.Machine.{jumps, pushOf, twoOf, dupOf, swapOf, jumpIfZeroOf, jumpIfNotZeroOf, loadOf, storeOf, requested as requestedOf};
-ghost use Rattle.machine.specs.Registers.{Ready, Did, DidAny, binaryOf, goneOn};
+ghost use Rattle.machine.specs.Code.Registers.{Ready, Did, DidAny, binaryOf, goneOn};
 use super::Regs;
 use super::registers;
 

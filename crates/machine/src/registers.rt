@@ -2,7 +2,7 @@
 // only where the gas is enough.
 ghost use mathlib.Core.Path.{_≡_};
 ghost use Prim.Native.Nat.{_≤_};
-ghost use Rattle.machine.specs.Registers.{ended, stopped, paid};
+ghost use Rattle.machine.specs.Code.Registers.{ended, stopped, paid};
 use super::Regs;
 
 pub fn pay(r: Regs, price: u64) -> Regs

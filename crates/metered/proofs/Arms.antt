@@ -11,7 +11,7 @@ use Rattle.kinds.specs.Kinds.{Operation, operation, kindOf}
 use Rattle.kinds.proofs.ByKind.{unpriced}
 use Rattle.machine.specs.Machine.{effectOf}
 use Rattle.machine.proofs.Program.{effect-high}
-use Rattle.machine.specs.Registers.{Held, Ready, Running, Kept, Did, Stepped, paid, ended, stopped}
+use Rattle.machine.specs.Code.Registers.{Held, Ready, Running, Kept, Did, Stepped, paid, ended, stopped}
 
 -- the registers after the payment are ready for the operation
 pub ready : (price : ℕ) {n room : ℕ} {r p : Regs} → p ≡ paid r price → Running r n room → r .pos < 2 ^ 63 → Ready p n

@@ -8,7 +8,7 @@ use borrow.Author.Tests.{lt-ltb, le-ltb}
 use Rattle.kinds.specs.Kinds.{operation}
 use Rattle.machine.specs.Machine.{decode, Frame, Act, over, Outcome, next, pay, actOf, machine, runOf}
 use Rattle.machine.specs.declared.Regs.{Regs}
-use Rattle.machine.specs.Registers.{frameOf, byCode, outcomeOf, Stepped}
+use Rattle.machine.specs.Code.Registers.{frameOf, byCode, outcomeOf, Stepped}
 use Rattle.machine.proofs.Program.{decode-length, decode-at}
 
 module _ (ks vs : List ℕ) (c room : ℕ) (fr : Frame) (same : length ks ≡ length vs) where

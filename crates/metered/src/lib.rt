@@ -2,7 +2,7 @@
 ghost use mathlib.Core.Path.{_≡_};
 ghost use lib.ListN.{length};
 ghost use Rattle.machine.specs.Machine.{decode};
-ghost use Rattle.machine.specs.Registers.{Running, Ran};
+ghost use Rattle.machine.specs.Code.Registers.{Running, Ran};
 
 mod step;
 

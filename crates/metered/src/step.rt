@@ -2,7 +2,7 @@
 ghost use Prim.Native.Nat.{_<_, _^_};
 ghost use lib.ListN.{length};
 ghost use Rattle.kinds.specs.Kinds.{operation};
-ghost use Rattle.machine.specs.Registers.{Running, Stepped};
+ghost use Rattle.machine.specs.Code.Registers.{Running, Stepped};
 use machine::Regs;
 use machine::operations;
 use machine::price;

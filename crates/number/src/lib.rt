@@ -5,7 +5,7 @@ ghost use lib.Dec.{ltb};
 ghost use lib.ListN.{length, getD, drop};
 ghost use Rattle.number.specs.Decimal.{digit, digits, digitsAt, withoutPlus, numberOf};
 ghost use Rattle.number.specs.Decimal.{decimal, put, writtenAt, bufferAfter};
-ghost use Rattle.number.specs.Zeros.{ZerosTo, ZerosAt};
+ghost use Rattle.number.specs.Code.Zeros.{ZerosTo, ZerosAt};
 use byte::both;
 use byte::in_range;
 use byte::widen;

@@ -16,14 +16,14 @@ use Rattle.lines.specs.Cursor.{feedFrom, span, headOf, firstLine}
 use Rattle.lines.proofs.Written.{free-cons, free-append, line-then}
 use Rattle.lines.proofs.Cursor.{fed}
 use Rattle.trim.specs.Trim.{white1, startTrimmed, endTrimmed, trimmed}
-use Rattle.trim.specs.Blank.{blanksLen}
+use Rattle.trim.specs.Code.Blank.{blanksLen}
 use Rattle.trim.proofs.Laws.{start-stays}
 use Rattle.trim.proofs.Suffix.{end-start}
 use Rattle.trim.proofs.Blanks.{Blank, none, one, three, Blanks, blanks, no-blank, wide, start-blank, end-blank}
 use Rattle.kinds.specs.Kinds.{kindOf}
 use Rattle.ops.specs.Kinds.{lineWith}
 use Rattle.ops.specs.Line.{Rule, ReadsDigits, skipped, lineOf}
-use Rattle.ops.specs.Passes.{lineReadAt, Indented, OperationAt}
+use Rattle.ops.specs.Code.Passes.{lineReadAt, Indented, OperationAt}
 use Rattle.ops.specs.declared.line.LineRead.{LineRead}
 use Rattle.ops.specs.declared.line.LineRead.the-variants.{Skip, Op}
 use Rattle.ops.proofs.PlainLines.{digits-graphic, Reads, reads}

@@ -12,7 +12,7 @@ use Rattle.lines.specs.Lines.{lines}
 use Rattle.kinds.specs.Kinds.{Operation, operation}
 use Rattle.ops.specs.Line.{Rule}
 use Rattle.ops.specs.Ops.{Reading, ops, refused, followedBy, thenRead, readLines, opsOf, kindsOf, operandsOf, onto}
-use Rattle.ops.specs.Passes.{lineReadAt, readInto, Good, Filled}
+use Rattle.ops.specs.Code.Passes.{lineReadAt, readInto, Good, Filled}
 use Rattle.ops.specs.declared.OpsError.{OpsError}
 use Rattle.ops.specs.declared.line.LineRead.{LineRead}
 use Rattle.ops.specs.declared.line.LineRead.the-variants.{Skip, Op, Bad}

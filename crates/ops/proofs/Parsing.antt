@@ -10,7 +10,7 @@ use Rattle.kinds.specs.Kinds.{Operation}
 use Rattle.ops.specs.Line.{fromStr}
 use Rattle.ops.specs.Ops.{Reading, ops, refused, someRead, readText, answerOf, opsOf, kindsOf, operandsOf, onto, Parsed}
 use Rattle.ops.specs.Numbers.{parsedOpsNumbered}
-use Rattle.ops.specs.Passes.{readInto, Good, Passed}
+use Rattle.ops.specs.Code.Passes.{readInto, Good, Passed}
 use Rattle.ops.specs.declared.OpsError.{OpsError}
 use Rattle.ops.specs.declared.OpsError.the-variants.{NotUtf8}
 use Rattle.ops.specs.declared.ParsedOps.{ParsedOps}

@@ -9,7 +9,7 @@ use Rattle.byte.proofs.Tests.{never}
 use Rattle.lines.specs.Lines.{lines}
 use Rattle.ops.specs.Line.{Rule}
 use Rattle.ops.specs.Ops.{readLines, someRead, answerOf}
-use Rattle.ops.specs.Passes.{lineReadAt, Good, Filled, Passed}
+use Rattle.ops.specs.Code.Passes.{lineReadAt, Good, Filled, Passed}
 use Rattle.ops.specs.declared.OpsError.{OpsError}
 use Rattle.ops.specs.declared.OpsError.the-variants.{Full, Empty}
 use Rattle.ops.specs.declared.ParsedOps.{ParsedOps}

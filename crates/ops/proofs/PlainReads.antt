@@ -16,7 +16,7 @@ use Rattle.number.proofs.Runs.{digits-own, digits-short}
 use Rattle.number.proofs.FromStr.{asNumber, not-signed, read-all}
 use Rattle.kinds.specs.Kinds.{kindOf}
 use Rattle.ops.specs.Kinds.{follows, lineWith}
-use Rattle.ops.specs.Passes.{OperationAt, PlainRead, WordAt}
+use Rattle.ops.specs.Code.Passes.{OperationAt, PlainRead, WordAt}
 use Rattle.ops.specs.declared.plain.Plain.the-variants.{Op, Other}
 use Rattle.ops.proofs.Words.{joined}
 

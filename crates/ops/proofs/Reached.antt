@@ -16,7 +16,7 @@ use Rattle.lines.proofs.Cursor.{line-here, line-done, step-line}
 use Rattle.ops.specs.Line.{Rule, lineOf}
 use Rattle.trim.specs.Trim.{trimmed}
 use Rattle.ops.specs.Ops.{startOf, nthLine, trimmedLine, nthStep, lineNumbered}
-use Rattle.ops.specs.Passes.{lineReadAt}
+use Rattle.ops.specs.Code.Passes.{lineReadAt}
 use Rattle.ops.specs.declared.line.LineRead.{LineRead}
 use Rattle.ops.specs.declared.line.LineRead.the-variants.{Skip}
 use Rattle.ops.specs.declared.line.Reached.{Reached}

@@ -13,7 +13,7 @@ use Rattle.lines.specs.Cursor.{span, firstLine}
 use Rattle.kinds.specs.Kinds.{Operation, operation}
 use Rattle.ops.specs.Line.{Rule, lineOf}
 use Rattle.ops.specs.Ops.{Reading, ops, refused, startOf, followedBy, thenRead, readLines, someRead, answerOf}
-use Rattle.ops.specs.Passes.{lineReadAt}
+use Rattle.ops.specs.Code.Passes.{lineReadAt}
 use Rattle.ops.specs.declared.OpsError.{OpsError}
 use Rattle.ops.specs.declared.OpsError.the-variants.{Full, Empty}
 use Rattle.ops.specs.declared.ParsedOps.{ParsedOps}

@@ -2,5 +2,5 @@ pub mod Kinds
 pub mod Line
 pub mod Ops
 pub mod Written
-pub mod Passes
 pub mod Numbers
+pub mod Code

@@ -14,7 +14,7 @@ ghost use Prim.Native.Nat.{_+_, _-_, _^_, _<_, _≤_};
 ghost use lib.ListN.{length, take, drop};
 ghost use Rattle.kinds.specs.Kinds.{kindOf};
 ghost use Rattle.ops.specs.Line.{fromStr, ruleOf, badNumber, operandOf, skipped, lineOf};
-ghost use Rattle.ops.specs.Passes.{lineReadAt, KnownRead, Indented};
+ghost use Rattle.ops.specs.Code.Passes.{lineReadAt, KnownRead, Indented};
 
 // The rules for operands.
 pub enum Rule {

@@ -9,7 +9,7 @@ ghost use mathlib.Core.Path.{_≡_};
 ghost use mathlib.Core.Bool.{true, cond};
 ghost use Prim.Native.Nat.{_<_, _≤_};
 ghost use lib.ListN.{length};
-ghost use Rattle.ops.specs.Passes.{PlainRead, WordAt};
+ghost use Rattle.ops.specs.Code.Passes.{PlainRead, WordAt};
 
 // An operation, and where it ends.
 pub enum Plain {

@@ -11,7 +11,7 @@ use lib.Seq.{split-at, take-take, length-take-le}
 use Rattle.byte.proofs.Parts.{next, rest, middle}
 use Rattle.byte.proofs.Tests.{never, by-eqb}
 use Rattle.path.specs.Stem.{partsFrom, ignored, lastOf, component, parent, has, beforeLast, stemOf}
-use Rattle.path.specs.Scan.{Last, StartsPart}
+use Rattle.path.specs.Code.Scan.{Last, StartsPart}
 
 -- a byte that a text has not
 module _ (b a : ℕ) (s : List ℕ) (h : has b (a ∷ s) ≡ false) where

@@ -1,2 +1,2 @@
 pub mod Stem
-pub mod Scan
+pub mod Code

@@ -3,7 +3,7 @@ ghost use mathlib.Core.Path.{_≡_};
 ghost use Prim.Native.Nat.{_≤_};
 ghost use lib.ListN.{length};
 ghost use Rattle.path.specs.Stem.{ignored, parent, component, fileName, stemOf, fileStem};
-ghost use Rattle.path.specs.Scan.{LastAt, StartsPart};
+ghost use Rattle.path.specs.Code.Scan.{LastAt, StartsPart};
 use byte::both;
 use search::Found;
 

@@ -12,13 +12,13 @@ use Rattle.machine.specs.declared.Regs.{Regs}
 use Rattle.checks.specs.declared.Refusal.{Refusal}
 use Rattle.checks.specs.Numbers.{refusalNumbered}
 use Rattle.machine.specs.Machine.{Outcome, next, done, stop, decode, whole}
-use Rattle.machine.specs.Alike.{AlikeBut}
-use Rattle.machine.specs.Registers.{down, frameOf, outcomeOf, faultOf, Ran}
+use Rattle.machine.specs.Code.Alike.{AlikeBut}
+use Rattle.machine.specs.Code.Registers.{down, frameOf, outcomeOf, faultOf, Ran}
 use Rattle.machine.proofs.Stack.{length-down}
 use Rattle.machine.proofs.Effects.{refused}
 use Rattle.perform.specs.declared.Answer.{Answer}
 use Rattle.perform.specs.declared.Answer.the-variants.{Success, Refused}
-use Rattle.perform.specs.Needed.{needed, changed, Copied, Serves}
+use Rattle.perform.specs.Code.Needed.{needed, changed, Copied, Serves}
 use Rattle.perform.specs.Call.{Call}
 use Rattle.perform.specs.Lent.{Lent}
 use Rattle.perform.specs.Run.{ofRun, refusalOf, Meets}

@@ -15,11 +15,11 @@ use Rattle.byte.proofs.Parts.{next}
 use Rattle.kinds.specs.Kinds.{Operation, operation}
 use Rattle.kinds.proofs.ByKind.{takes-slot}
 use Rattle.machine.specs.Machine.{storeAt, priceOf, halt, decode, whole}
-use Rattle.machine.specs.Alike.{AlikeBut}
+use Rattle.machine.specs.Code.Alike.{AlikeBut}
 use Rattle.machine.proofs.Alike.{Respects, same-whole}
 use Rattle.machine.proofs.Program.{decode-length, decode-at}
 use Rattle.machine.proofs.Slots.{store-length, store-same, store-other}
-use Rattle.perform.specs.Needed.{names, named, needed, stores, changed, Copied, Serves}
+use Rattle.perform.specs.Code.Needed.{names, named, needed, stores, changed, Copied, Serves}
 
 pub copied-none : (c : ℕ → Bool) (s d : List ℕ) → ((j : ℕ) → c j ≡ false) → Copied c s d d
 copied-none c s d e = record { long = refl; each = λ j h. rw (e j) }

@@ -1,4 +1,4 @@
--- What 34 leaves to be relied on. The contracts of helpers use it, and no entry's.
+-- What 34 leaves to be relied on. The contracts of helpers use it, and crate `relied`.
 use Prim.Native.Nat.{ℕ, _≤_}
 use mathlib.Core.Path.{_≡_}
 use mathlib.Core.List.{List}

@@ -2,4 +2,4 @@ pub mod Numbers
 pub mod Call
 pub mod Run
 pub mod Lent
-pub mod Needed
+pub mod Code

@@ -5,7 +5,7 @@ ghost use mathlib.Core.Bool.{_&&_};
 ghost use Prim.Native.Nat.{_-_, _≤_};
 ghost use lib.ListN.{length, take, replicate};
 ghost use lib.Dec.{leb, ltb};
-ghost use Rattle.perform.specs.Needed.{Copied};
+ghost use Rattle.perform.specs.Code.Needed.{Copied};
 
 // The part of `s` from `a` up to `e`, put at the same place of `d`.
 pub fn copy_part(d: &mut [u64], s: &[u64], a: usize, e: usize)

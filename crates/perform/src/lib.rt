@@ -4,12 +4,12 @@ ghost use mathlib.Core.Path.{_≡_};
 ghost use Prim.Native.Nat.{ℕ, _≤_};
 ghost use lib.ListN.{length};
 ghost use Rattle.machine.specs.Machine.{Outcome};
-ghost use Rattle.machine.specs.Alike.{AlikeBut};
-ghost use Rattle.machine.specs.Registers.{outcomeOf, faultOf, Held};
+ghost use Rattle.machine.specs.Code.Alike.{AlikeBut};
+ghost use Rattle.machine.specs.Code.Registers.{outcomeOf, faultOf, Held};
 ghost use Rattle.perform.specs.Numbers.{answerNumbered};
 ghost use Rattle.perform.specs.Run.{Meets, performed, ofRun, refusalOf};
 ghost use Rattle.perform.specs.Lent.{Lent};
-ghost use Rattle.perform.specs.Needed.{Serves};
+ghost use Rattle.perform.specs.Code.Needed.{Serves};
 
 mod buffers;
 mod slots;

@@ -6,7 +6,7 @@ ghost use Prim.Native.Nat.{_≤_};
 ghost use lib.Dec.{ltb};
 ghost use lib.ListN.{length};
 ghost use Rattle.kinds.specs.Kinds.{operation};
-ghost use Rattle.perform.specs.Needed.{Copied, names, named, needed, stores, changed};
+ghost use Rattle.perform.specs.Code.Needed.{Copied, names, named, needed, stores, changed};
 use super::buffers;
 
 // All the used slots, or those that a short program names.

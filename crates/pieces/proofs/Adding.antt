@@ -8,9 +8,9 @@ use lib.Seq.{take-at, take-all, take-append-add, drop-append-add, drop-drop, len
 use native.Mathlib.Nat.{zero-add}
 use Rattle.number.specs.Decimal.{decimal}
 use Rattle.ops.specs.Ops.{onto}
-use Rattle.writer.specs.Pieces.{Put}
+use Rattle.writer.specs.Code.Pieces.{Put}
 use Rattle.writer.proofs.Pieces.{put-length}
-use Rattle.pieces.specs.Added.{extended, Added}
+use Rattle.pieces.specs.Code.Added.{extended, Added}
 
 cut-twice : (n : ℕ) (a b : List ℕ) → take n (take n a ++ b) ≡ take n (a ++ b)
 cut-twice zero a b = refl

@@ -9,7 +9,7 @@ use Rattle.byte.specs.Ascii.{ascii}
 use Rattle.number.specs.Decimal.{decimal}
 use Rattle.number.proofs.Decimal.{length-word}
 use Rattle.ops.specs.Ops.{onto}
-use Rattle.pieces.specs.Added.{Added}
+use Rattle.pieces.specs.Code.Added.{Added}
 use Rattle.runops.specs.declared.report.Report.{Report}
 use Rattle.runops.specs.Report.{spaced, printed, Prints}
 

@@ -1,7 +1,7 @@
 // A report as document 01's two lines: the names, then the values.
 ghost use Prim.Native.Nat.{_≤_};
 ghost use lib.ListN.{length};
-ghost use Rattle.pieces.specs.Added.{Added};
+ghost use Rattle.pieces.specs.Code.Added.{Added};
 ghost use Rattle.runops.specs.Report.{spaced, Prints};
 use super::report::Report;
 use libc::STDOUT_FILENO;

@@ -11,7 +11,7 @@ use Rattle.byte.proofs.Parts.{next}
 use Rattle.search.specs.declared.Found.{Found}
 use Rattle.search.specs.declared.Found.the-variants.{At, Nothing}
 use Rattle.search.specs.First.{prefixOf, firstFrom, firstAt, First}
-use Rattle.search.specs.Scan.{orElse, Clear}
+use Rattle.search.specs.Code.Scan.{orElse, Clear}
 use Rattle.search.proofs.Prefix.{fits, too-long}
 
 nowhere : {P : Type 0} (i : ℕ) → Nothing ≡ At i → P

@@ -9,7 +9,7 @@ use lib.Dec.{eqb, ltb}
 use lib.ListN.{length, getD}
 use Rattle.byte.proofs.Tests.{by-eqb, by-leb}
 use Rattle.search.specs.First.{firstAt}
-use Rattle.search.specs.Scan.{Least}
+use Rattle.search.specs.Code.Scan.{Least}
 use Rattle.search.proofs.Prefix.{byte-yes, byte-no}
 use Rattle.search.proofs.Laws.{hit, miss}
 

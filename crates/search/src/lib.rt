@@ -10,7 +10,7 @@ ghost use Prim.Native.Nat.{_+_, _<_, _≤_};
 ghost use lib.Dec.{leb, ltb};
 ghost use lib.ListN.{length, drop};
 ghost use Rattle.search.specs.First.{prefixOf, firstAt};
-ghost use Rattle.search.specs.Scan.{orElse, Places, Passed, Clear, Least};
+ghost use Rattle.search.specs.Code.Scan.{orElse, Places, Passed, Clear, Least};
 
 // How many places a block has.
 const BLOCK: usize = 16;

@@ -6,7 +6,7 @@ use native.Mathlib.Omega.{arith}
 use lib.ListN.{length, take, drop}
 use Rattle.byte.proofs.Tests.{by-leb}
 use Rattle.source.specs.Parameters.{pieces, name, unlessEmpty, parameters}
-use Rattle.source.specs.Cursor.{placed, parameterAt, visited, IsParameter}
+use Rattle.source.specs.Code.Cursor.{placed, parameterAt, visited, IsParameter}
 use Rattle.source.specs.declared.parameters.Parameter.{Parameter}
 use Rattle.source.specs.declared.parameters.NextParameter.{NextParameter}
 use Rattle.source.specs.declared.parameters.NextParameter.the-variants.{Is, Done}

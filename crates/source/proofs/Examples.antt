@@ -7,7 +7,7 @@ use Rattle.source.specs.declared.function.Function.the-variants.{Found, 
 use Rattle.source.specs.declared.vector.KeyValue.the-variants.{Is, NoKey, NoColon, NoDigit, TooLarge}
 use Rattle.source.specs.Function.{functionOf}
 use Rattle.source.specs.Parameters.{parameters}
-use Rattle.source.specs.Cursor.{parameterAt, visited}
+use Rattle.source.specs.Code.Cursor.{parameterAt, visited}
 use Rattle.source.specs.declared.parameters.NextParameter.the-variants as NextParameter
 use Rattle.source.specs.Vector.{vectorNumber}
 

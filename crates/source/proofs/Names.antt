@@ -7,7 +7,7 @@ use lib.ListN.{length, take, drop}
 use Rattle.byte.proofs.Parts.{inner}
 use Rattle.trim.specs.Trim.{passed, trimmed}
 use Rattle.source.specs.Parameters.{before, name}
-use Rattle.source.specs.Cursor.{trimmedSpan, nameSpan}
+use Rattle.source.specs.Code.Cursor.{trimmedSpan, nameSpan}
 use Rattle.source.specs.declared.parameters.Span.{Span}
 use Rattle.source.proofs.Cuts.{before-length, before-starts, cutAt}
 use Rattle.source.proofs.Trimmed.{trimmed-place, trimmed-fits}

@@ -12,7 +12,7 @@ use Rattle.byte.proofs.Tests.{by-bool, by-eqb, never, and-left, and-right}
 use Rattle.search.specs.declared.Found.{Found}
 use Rattle.search.specs.declared.Found.the-variants.{Nothing}
 use Rattle.search.specs.First.{prefixOf, firstAt}
-use Rattle.search.specs.Scan.{orElse}
+use Rattle.search.specs.Code.Scan.{orElse}
 use Rattle.search.proofs.Prefix.{same, other, same-at, common, append, split, each, byte-yes}
 use Rattle.search.proofs.Laws.{no-room, or-nothing}
 use Rattle.source.specs.Vector.{quoted}

@@ -12,7 +12,7 @@ use Rattle.search.specs.First.{prefixOf, firstAt}
 use Rattle.search.proofs.Prefix.{same-at}
 use Rattle.search.proofs.Laws.{hit, miss}
 use Rattle.source.specs.Vector.{quoted}
-use Rattle.source.specs.Marked.{Quotes}
+use Rattle.source.specs.Code.Marked.{Quotes}
 use Rattle.source.proofs.Keys.{quoted-length}
 use Rattle.source.proofs.Quoted.{key-byte, closing-quote, byte-here}
 

@@ -10,8 +10,8 @@ use lib.ListN.{length, getD, drop, length-append, length-drop}
 use lib.Seq.{drop-drop}
 use Rattle.byte.proofs.Tests.{never, and-left, and-right, by-bool, by-leb}
 use Rattle.trim.specs.Trim.{white1, white2, white3, startTrimmed, back, endTrimmed}
-use Rattle.trim.specs.Step.{back2, back3, threeLen}
-use Rattle.trim.specs.Blank.{blank1, blanksLen, blanks1, blanks2, blanksEnd, BlankAt}
+use Rattle.trim.specs.Code.Step.{back2, back3, threeLen}
+use Rattle.trim.specs.Code.Blank.{blank1, blanksLen, blanks1, blanks2, blanksEnd, BlankAt}
 use Rattle.trim.proofs.White.{by-white3, not1, not2, not3}
 use Rattle.trim.proofs.Laws.{yes1, yes3}
 use Rattle.trim.proofs.Steps.{at1, at3, three-short}

@@ -8,7 +8,7 @@ use lib.ListN.{length, getD, take, drop, length-drop, drop-of-length-le}
 use Rattle.byte.proofs.Tests.{by-bool, by-leb}
 use Rattle.byte.proofs.Parts.{next, last}
 use Rattle.trim.specs.Trim.{white2, white3}
-use Rattle.trim.specs.Step.{Step, WhiteAt, threeLen}
+use Rattle.trim.specs.Code.Step.{Step, WhiteAt, threeLen}
 use Rattle.trim.proofs.White.{not1, not2}
 use Rattle.trim.proofs.Laws.{yes3, no3, end1, end2}
 

@@ -1,3 +1,2 @@
 pub mod Trim
-pub mod Step
-pub mod Blank
+pub mod Code

@@ -9,7 +9,7 @@ use native.Mathlib.Nat.{le-trans}
 use Rattle.byte.proofs.Parts.{next}
 use Rattle.byte.proofs.Tests.{by-leb}
 use Rattle.utf8.specs.Utf8.{utf8, two, three, four}
-use Rattle.utf8.specs.Passed.{Step, Bound}
+use Rattle.utf8.specs.Code.Passed.{Step, Bound}
 use Rattle.utf8.proofs.Lead.{one-is, two-is, three-is, four-is, two-short, three-short, four-short}
 
 module _ (s : List ℕ) (at : ℕ) (h : at < length s) where

@@ -13,8 +13,8 @@ use Rattle.byte.specs.Range.{within}
 use Rattle.byte.proofs.Parts.{next}
 use Rattle.byte.proofs.Tests.{never, and-left, and-right, and-both, by-or, by-leb, between, inside}
 use Rattle.utf8.specs.Utf8.{utf8, tail}
-use Rattle.utf8.specs.Passed.{Passed}
-use Rattle.utf8.specs.Windows.{opened, lowest, highest, follows, whole, Follow}
+use Rattle.utf8.specs.Code.Passed.{Passed}
+use Rattle.utf8.specs.Code.Windows.{opened, lowest, highest, follows, whole, Follow}
 use Rattle.utf8.proofs.Lead.{one-is, two-is, three-is, four-is}
 use Rattle.utf8.proofs.Second.{three-by, four-by}
 

@@ -1,4 +1,3 @@
 pub mod Utf8
 pub mod Encode
-pub mod Passed
-pub mod Windows
+pub mod Code

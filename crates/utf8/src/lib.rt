@@ -8,8 +8,8 @@ ghost use mathlib.Core.Bool.{true, cond};
 ghost use Prim.Native.Nat.{ℕ, _+_, _≤_, _<_};
 ghost use lib.ListN.{length, getD};
 ghost use Rattle.utf8.specs.Utf8.{utf8, tail, two, three, four};
-ghost use Rattle.utf8.specs.Passed.{Step, Passed, Bound, Ascii};
-ghost use Rattle.utf8.specs.Windows.{opened, follows, Follow};
+ghost use Rattle.utf8.specs.Code.Passed.{Step, Passed, Bound, Ascii};
+ghost use Rattle.utf8.specs.Code.Windows.{opened, follows, Follow};
 
 pub fn is_utf8(s: &[u8]) -> bool
     ensures { λ r. ⌜ r ≡ utf8 (now (s .entry)) ⌝ }

@@ -1,3 +1,3 @@
 pub mod Transition
 pub mod Refusals
-pub mod Verified
+pub mod Code

@@ -3,7 +3,7 @@ ghost use Rattle.context.specs.Gate.{gateOf};
 ghost use Rattle.perform.specs.Lent.{Lent};
 ghost use Rattle.perform.specs.Run.{Meets};
 ghost use Rattle.vm.specs.Transition.{meteredOf, transitionOf};
-ghost use Rattle.vm.specs.Verified.{verified};
+ghost use Rattle.vm.specs.Code.Verified.{verified};
 use checks::Check;
 use checks::Refusal;
 use context::Gate;

@@ -12,7 +12,7 @@ use Rattle.number.specs.declared.Written.{Written}
 use Rattle.number.specs.declared.Written.the-variants.{To, NoRoom}
 use Rattle.number.proofs.Buffer.{room}
 use borrow.Author.Tests.{ne-eqb}
-use Rattle.writer.specs.Pieces.{Put, pushText, operatorText}
+use Rattle.writer.specs.Code.Pieces.{Put, pushText, operatorText}
 
 pub put-none : (out : List ℕ) (at : ℕ) → Put out at [] out at
 put-none out at = record { is = rw (add-zero, append-nil) (sym (take-append-drop at out)); next = sym (add-zero at) }

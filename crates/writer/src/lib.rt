@@ -3,7 +3,7 @@ ghost use Prim.Native.Nat.{_+_, _≤_};
 ghost use lib.ListN.{length};
 ghost use lib.Seq.{slice};
 ghost use Rattle.number.specs.Decimal.{decimal};
-ghost use Rattle.writer.specs.Pieces.{Put, pushText, operatorText};
+ghost use Rattle.writer.specs.Code.Pieces.{Put, pushText, operatorText};
 use number::Written;
 use number::write_decimal;
 

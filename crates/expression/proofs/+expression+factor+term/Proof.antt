@@ -4,8 +4,8 @@ use mathlib.Core.Path.{_≡_, refl, sym, ap, subst, _∙_}
 use native.Mathlib.Omega.{arith}
 use lib.ListN.{length}
 use Rattle.expression.specs.Parse.{lone}
-use Rattle.expression.specs.Table.{columnsOf}
-use Rattle.expression.specs.Parts.{signAt, AllFit}
+use Rattle.expression.specs.Code.Table.{columnsOf}
+use Rattle.expression.specs.Code.Parts.{signAt, AllFit}
 use Rattle.token.proofs.Tokens.{Next, tokenFrom}
 use Rattle.expression.proofs.Signs.{none-of, next-of}
 use Rattle.expression.proofs.Reading.{carry, small, operator-next, Going, begins, begins-refused, finishes, goes-on, goes-refused}

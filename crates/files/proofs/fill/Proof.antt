@@ -9,7 +9,7 @@ use lib.Seq.{length-take-le}
 use Rattle.byte.proofs.Parts.{rest}
 use Rattle.files.specs.declared.Contents.{Contents}
 use Rattle.files.specs.declared.Contents.the-variants.{Read}
-use Rattle.files.specs.Held.{Held}
+use Rattle.files.specs.Code.Held.{Held}
 use Rattle.files.proofs.Counted.{counted}
 use borrow.Author.Needs.{needs}
 use Rattle.files.proofs.fill.Statement.{statement}

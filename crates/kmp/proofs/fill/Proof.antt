@@ -1,6 +1,6 @@
 -- `kmp::fill` meets its contract: each byte that agrees gives one shift more, and where one differs p is shifted over itself.
 use mathlib.Core.Path.{_≡_, refl}
-use Rattle.kmp.specs.Shift.{Shift}
+use Rattle.kmp.specs.Code.Shift.{Shift}
 use Rattle.kmp.proofs.Filling.{Filling, started, matched, moved, slid, shift-of}
 use borrow.Author.Needs.{needs}
 use native.Mathlib.Omega.{arith}

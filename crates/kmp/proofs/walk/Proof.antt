@@ -1,6 +1,6 @@
 -- `kmp::walk` meets its contract: where a byte differs, p stands neither there nor at a place that it is shifted past.
 use mathlib.Core.Path.{sym}
-use Rattle.kmp.specs.Shift.{Shift}
+use Rattle.kmp.specs.Code.Shift.{Shift}
 use Rattle.kmp.proofs.Walking.{Walking, started, found, matched, moved, slid, ended}
 use borrow.Author.Needs.{needs}
 use native.Mathlib.Omega.{arith}

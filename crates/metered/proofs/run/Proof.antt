@@ -5,7 +5,7 @@ use native.Mathlib.Omega.{arith}
 use native.Mathlib.Nat.{le-trans}
 use lib.ListN.{length}
 use Rattle.machine.specs.Machine.{decode, done, machine, pay}
-use Rattle.machine.specs.Registers.{frameOf, outcomeOf, Running}
+use Rattle.machine.specs.Code.Registers.{frameOf, outcomeOf, Running}
 use Rattle.metered.proofs.Turns.{act-over, Leads, goes-on, ends-with, turn}
 use borrow.Author.Needs.{needs}
 use Rattle.metered.proofs.run.Statement.{statement}

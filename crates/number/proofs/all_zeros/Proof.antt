@@ -7,7 +7,7 @@ use native.Mathlib.Omega.{arith}
 use lib.Dec.{eqb}
 use lib.ListN.{length, getD}
 use Rattle.byte.proofs.Tests.{and-left, and-right}
-use Rattle.number.specs.Zeros.{ZerosTo}
+use Rattle.number.specs.Code.Zeros.{ZerosTo}
 use Rattle.number.proofs.Runs.{no-zeros, more-zeros, one-zero}
 use borrow.Author.Needs.{needs}
 use Rattle.number.proofs.all_zeros.Statement.{statement}

@@ -3,7 +3,7 @@ use Prim.Native.Nat.{_-_}
 use mathlib.Core.Path.{refl}
 use native.Mathlib.Omega.{arith}
 use lib.ListN.{length}
-use Rattle.number.specs.Zeros.{ZerosTo}
+use Rattle.number.specs.Code.Zeros.{ZerosTo}
 use Rattle.number.proofs.Runs.{no-zeros, more-zeros}
 use borrow.Author.Needs.{needs}
 use Rattle.number.proofs.pass_zeros.Statement.{statement}

@@ -5,7 +5,7 @@ use native.Mathlib.Omega.{arith}
 use lib.ListN.{take}
 use lib.Seq.{length-take-le}
 use denote.Ref.{now}
-use Rattle.path.specs.Scan.{LastAt}
+use Rattle.path.specs.Code.Scan.{LastAt}
 use Rattle.path.proofs.Laws.{starts-first, starts-behind}
 use borrow.Author.Needs.{needs}
 use Rattle.path.proofs.part_start.Statement.{statement}

@@ -4,7 +4,7 @@ use mathlib.Core.Path.{sym, subst}
 use native.Mathlib.Omega.{arith}
 use lib.Seq.{length-take-le}
 use denote.Ref.{now}
-use Rattle.path.specs.Scan.{LastAt}
+use Rattle.path.specs.Code.Scan.{LastAt}
 use Rattle.path.proofs.Laws.{stem-empty, stem-whole, stem-cut, tail, tail-length}
 use borrow.Author.Needs.{needs}
 use Rattle.path.proofs.stem.Statement.{statement}

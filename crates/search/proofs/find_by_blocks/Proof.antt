@@ -2,7 +2,7 @@
 use mathlib.Core.Path.{sym, ap, _∙_}
 use mathlib.Core.List.{[], _∷_}
 use native.Mathlib.Omega.{arith}
-use Rattle.search.specs.Scan.{orElse}
+use Rattle.search.specs.Code.Scan.{orElse}
 use Rattle.search.proofs.Laws.{no-room, or-nothing}
 use borrow.Author.Needs.{needs}
 use Rattle.search.proofs.find_by_blocks.Statement.{statement}

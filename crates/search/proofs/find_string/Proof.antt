@@ -3,7 +3,7 @@ use Prim.Native.Nat.{_-_}
 use mathlib.Core.Path.{_≡_, refl, sym, _∙_}
 use native.Mathlib.Omega.{arith}
 use Rattle.search.specs.First.{firstAt}
-use Rattle.search.specs.Scan.{Places}
+use Rattle.search.specs.Code.Scan.{Places}
 use Rattle.search.proofs.Laws.{no-room}
 use borrow.Author.Needs.{needs}
 use Rattle.search.proofs.find_string.Statement.{statement}

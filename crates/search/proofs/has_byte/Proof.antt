@@ -6,7 +6,7 @@ use borrow.Author.Tests.{eqb-false}
 use native.Mathlib.Omega.{arith}
 use lib.Dec.{eqb}
 use lib.ListN.{length, getD}
-use Rattle.search.specs.Scan.{Clear}
+use Rattle.search.specs.Code.Scan.{Clear}
 use Rattle.search.proofs.Prefix.{byte-no}
 use Rattle.search.proofs.Laws.{none-yet, one-more}
 use borrow.Author.Needs.{needs}

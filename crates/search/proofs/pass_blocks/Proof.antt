@@ -5,7 +5,7 @@ use mathlib.Core.List.{[], _∷_}
 use borrow.Author.Tests.{leb-true}
 use native.Mathlib.Omega.{arith}
 use lib.ListN.{length}
-use Rattle.search.specs.Scan.{Passed}
+use Rattle.search.specs.Code.Scan.{Passed}
 use borrow.Author.Needs.{needs}
 use Rattle.search.proofs.pass_blocks.Statement.{statement}
 use Rattle.search.proofs.pass_blocks.Tie as tie

@@ -5,7 +5,7 @@ use mathlib.Core.Path.{_≡_}
 use mathlib.Core.List.{[], _∷_}
 use native.Mathlib.Omega.{arith}
 use denote.Ref.{now}
-use Rattle.search.specs.Scan.{Least}
+use Rattle.search.specs.Code.Scan.{Least}
 use Rattle.search.proofs.Placed.{none-placed, one-placed}
 use borrow.Author.Needs.{needs}
 use Rattle.search.proofs.place_in.Statement.{statement}

@@ -5,7 +5,7 @@ use mathlib.Core.Path.{_≡_, refl, ap}
 use native.Mathlib.Omega.{arith}
 use lib.ListN.{length, drop-of-length-le}
 use denote.Ref.{now}
-use Rattle.trim.specs.Blank.{blanksLen, blanksEnd}
+use Rattle.trim.specs.Code.Blank.{blanksLen, blanksEnd}
 use borrow.Author.Needs.{needs}
 use Rattle.trim.proofs.blanks_end.Statement.{statement}
 use Rattle.trim.proofs.blanks_end.Tie as tie

@@ -5,7 +5,7 @@ use mathlib.Core.Bool.{cond}
 use native.Mathlib.Omega.{arith}
 use lib.ListN.{length-drop, drop}
 use denote.Ref.{now}
-use Rattle.trim.specs.Step.{threeLen}
+use Rattle.trim.specs.Code.Step.{threeLen}
 use Rattle.trim.proofs.Steps.{at3, three-short}
 use borrow.Author.Needs.{needs}
 use Rattle.trim.proofs.three_at.Statement.{statement}

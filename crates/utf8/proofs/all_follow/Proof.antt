@@ -6,7 +6,7 @@ use mathlib.Core.Bool.{true}
 use native.Mathlib.Omega.{arith}
 use denote.Ref.{now}
 use Rattle.byte.proofs.Tests.{and-left, and-right}
-use Rattle.utf8.specs.Windows.{Follow}
+use Rattle.utf8.specs.Code.Windows.{Follow}
 use Rattle.utf8.proofs.Whole.{none-follow, one-follow}
 use borrow.Author.Needs.{needs}
 use Rattle.utf8.proofs.all_follow.Statement.{statement}

@@ -4,7 +4,7 @@ use Prim.Native.Nat.{_-_}
 use mathlib.Core.Path.{refl}
 use lib.ListN.{length}
 use denote.Ref.{now}
-use Rattle.utf8.specs.Passed.{Passed}
+use Rattle.utf8.specs.Code.Passed.{Passed}
 use Rattle.utf8.proofs.Whole.{not-passed, passed-more}
 use borrow.Author.Needs.{needs}
 use Rattle.utf8.proofs.blocks.Statement.{statement}

@@ -4,7 +4,7 @@ use Prim.Native.Nat.{_-_, _≤_}
 use mathlib.Core.Path.{_≡_}
 use native.Mathlib.Omega.{arith}
 use denote.Ref.{now}
-use Rattle.utf8.specs.Passed.{Bound}
+use Rattle.utf8.specs.Code.Passed.{Bound}
 use Rattle.utf8.proofs.Laws.{none-larger, one-larger}
 use borrow.Author.Needs.{needs}
 use Rattle.utf8.proofs.largest.Statement.{statement}

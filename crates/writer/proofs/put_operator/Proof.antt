@@ -2,7 +2,7 @@
 use mathlib.Core.Path.{ap}
 use native.Mathlib.Omega.{arith}
 use lib.ListN.{length}
-use Rattle.writer.specs.Pieces.{operatorText}
+use Rattle.writer.specs.Code.Pieces.{operatorText}
 use Rattle.writer.proofs.Pieces.{operator-div}
 use borrow.Author.Needs.{needs}
 use Rattle.writer.proofs.put_operator.Statement.{statement}

@@ -8,7 +8,7 @@ use Rattle.numbered.specs.Outcome.{Outcome, andThen}
 use Rattle.source.specs.declared.function.Function.{Function}
 use Rattle.expression.specs.Tree.{Tree}
 use Rattle.assembler.specs.Assembled.{functionRead, placesOf}
-use Rattle.assembler.specs.Concluded.{Concludes}
+use Rattle.assembler.specs.Code.Concluded.{Concludes}
 use Rattle.assembler.proofs.Concluding.{concludes-off, no-contract, no-vector, both-readable, readable-short}
 use borrow.Author.Needs.{needs}
 use Rattle.assembler.proofs.assembly.checked.Statement.{statement}

@@ -5,9 +5,9 @@ use mathlib.Core.Path.{sym, ap, subst, _∙_}
 use denote.Ref.{now}
 use Rattle.numbered.specs.Outcome.{Outcome, andThen}
 use Rattle.expression.specs.Tree.{Tree}
-use Rattle.assembler.specs.Held.{keyedAs}
+use Rattle.assembler.specs.Code.Held.{keyedAs}
 use Rattle.assembler.specs.Assembled.{bodyRead}
-use Rattle.assembler.specs.Concluded.{Concludes, concluded}
+use Rattle.assembler.specs.Code.Concluded.{Concludes, concluded}
 use Rattle.assembler.proofs.Concluding.{concludes-off}
 use borrow.Author.Needs.{needs}
 use Rattle.assembler.proofs.assembly.read_function.Statement.{statement}

@@ -4,7 +4,7 @@ use mathlib.Core.Path.{sym, ap, _∙_}
 use native.Mathlib.Omega.{arith}
 use denote.Ref.{now}
 use Rattle.source.specs.declared.parameters.Span.{Span}
-use Rattle.assembler.specs.Places.{trimmedAt}
+use Rattle.assembler.specs.Code.Places.{trimmedAt}
 use Rattle.assembler.proofs.Places.{trimmed-inside, short-skipped}
 use borrow.Author.Needs.{needs}
 use Rattle.assembler.proofs.statement.statement_at.Statement.{statement}

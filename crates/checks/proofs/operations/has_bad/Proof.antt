@@ -3,7 +3,7 @@ use Prim.Native.Nat.{_+_, _-_, _≤_}
 use mathlib.Core.Path.{_≡_, sym, _∙_}
 use native.Mathlib.Omega.{arith}
 use native.Mathlib.Nat.{add-zero}
-use Rattle.checks.specs.Blocks.{Clear}
+use Rattle.checks.specs.Code.Blocks.{Clear}
 use Rattle.checks.proofs.Blocks.{clear-next}
 use borrow.Author.Needs.{needs}
 use Rattle.checks.proofs.operations.has_bad.Statement.{statement}

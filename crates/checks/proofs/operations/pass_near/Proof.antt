@@ -3,7 +3,7 @@ use Prim.Native.Nat.{_-_}
 use mathlib.Core.Path.{refl, _∙_}
 use native.Mathlib.Omega.{arith}
 use lib.ListN.{length}
-use Rattle.checks.specs.Blocks.{Passes}
+use Rattle.checks.specs.Code.Blocks.{Passes}
 use borrow.Author.Needs.{needs}
 use Rattle.checks.proofs.operations.pass_near.Statement.{statement}
 use Rattle.checks.proofs.operations.pass_near.Tie as tie

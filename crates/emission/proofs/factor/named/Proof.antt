@@ -1,6 +1,6 @@
 -- `emission::factor::named` meets its contract: by what is found.
 use mathlib.Core.Path.{sym, ap}
-use Rattle.emission.specs.Factor.{namedBy}
+use Rattle.emission.specs.Code.Factor.{namedBy}
 use borrow.Author.Needs.{needs}
 use Rattle.emission.proofs.factor.named.Statement.{statement}
 use Rattle.emission.proofs.factor.named.Tie as tie

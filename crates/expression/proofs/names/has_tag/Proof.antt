@@ -2,7 +2,7 @@
 use Prim.Native.Nat.{ℕ, _-_, _≤_}
 use mathlib.Core.Path.{_≡_, sym, ap, _∙_}
 use native.Mathlib.Omega.{arith}
-use Rattle.expression.specs.Table.{hasTag}
+use Rattle.expression.specs.Code.Table.{hasTag}
 use Rattle.expression.proofs.Tags.{has-none, has-more}
 use borrow.Author.Needs.{needs}
 use Rattle.expression.proofs.names.has_tag.Statement.{statement}

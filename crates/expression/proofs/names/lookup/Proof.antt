@@ -3,7 +3,7 @@ use Prim.Native.Nat.{_≤_, _-_}
 use native.Mathlib.Omega.{arith}
 use mathlib.Core.Path.{_≡_, sym, _∙_}
 use lib.ListN.{take, drop}
-use Rattle.expression.specs.Table.{tagOf, found}
+use Rattle.expression.specs.Code.Table.{tagOf, found}
 use Rattle.expression.proofs.Tags.{free-room, free-passed}
 use Rattle.expression.proofs.Lookup.{found-here, found-older, found-none}
 use borrow.Author.Needs.{needs}

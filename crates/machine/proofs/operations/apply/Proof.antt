@@ -5,7 +5,7 @@ use Prim.Native.Nat.{ℕ, _+_, _-_, _≤_, _<_, _%_, _^_}
 use native.Mathlib.Omega.{arith}
 use borrow.Author.Tests.{lt-ltb, le-ltb, eq-eqb, ne-eqb}
 use Rattle.word.specs.Apply.{lt}
-use Rattle.machine.specs.Registers.{binaryOf}
+use Rattle.machine.specs.Code.Registers.{binaryOf}
 use Rattle.machine.proofs.Program.{other-lt}
 use borrow.Author.Needs.{needs}
 use Rattle.machine.proofs.operations.apply.Statement.{statement}

@@ -7,7 +7,7 @@ use native.Mathlib.Omega.{arith}
 use lib.ListN.{length, take}
 use borrow.Author.Tests.{eq-eqb}
 use Rattle.machine.specs.Machine.{twoOf}
-use Rattle.machine.specs.Registers.{binaryOf}
+use Rattle.machine.specs.Code.Registers.{binaryOf}
 use Rattle.machine.proofs.Stack.{below-two, down-two, down-put}
 use Rattle.machine.proofs.Effects.{fails-by, moves-by}
 use borrow.Author.Needs.{needs}

@@ -9,7 +9,7 @@ use Rattle.machine.specs.declared.Regs.{Regs}
 use Rattle.kinds.specs.Kinds.{operation, kindOf}
 use Rattle.kinds.proofs.ByKind.{end, _&_, past}
 use Rattle.machine.specs.Machine.{effectOf}
-use Rattle.machine.specs.Registers.{Ready, Did, Stepped}
+use Rattle.machine.specs.Code.Registers.{Ready, Did, Stepped}
 use Rattle.metered.proofs.Arms.{ready, arm, out-of-gas, ends-by}
 use borrow.Author.Needs.{needs}
 use Rattle.metered.proofs.step.step_of.Statement.{statement}

@@ -3,7 +3,7 @@
 use mathlib.Core.Path.{refl, sym, subst}
 use denote.Ref.{now}
 use Rattle.ops.specs.Line.{fromStr}
-use Rattle.ops.specs.Passes.{KnownRead}
+use Rattle.ops.specs.Code.Passes.{KnownRead}
 use borrow.Author.Needs.{needs}
 use Rattle.ops.proofs.line.line_read_at.Statement.{statement}
 use Rattle.ops.proofs.line.line_read_at.Tie as tie

@@ -5,7 +5,7 @@ use borrow.Author.Tests.{not-false}
 use native.Mathlib.Omega.{arith}
 use denote.Ref.{now}
 use Rattle.trim.proofs.Blanks.{Blanks, blanks, no-blanks}
-use Rattle.ops.specs.Passes.{PlainRead}
+use Rattle.ops.specs.Code.Passes.{PlainRead}
 use Rattle.ops.proofs.PlainReads.{operation-within}
 use Rattle.ops.proofs.BlankLines.{indent, operation-read}
 use borrow.Author.Needs.{needs}

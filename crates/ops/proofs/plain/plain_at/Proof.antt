@@ -5,7 +5,7 @@ use mathlib.Core.Path.{refl, sym, subst}
 use native.Mathlib.Omega.{arith}
 use denote.Ref.{now}
 use Rattle.byte.specs.Ascii.{ascii}
-use Rattle.ops.specs.Passes.{PlainRead}
+use Rattle.ops.specs.Code.Passes.{PlainRead}
 use Rattle.ops.proofs.PlainReads.{alone-read, word-at, spelled}
 use borrow.Author.Needs.{needs}
 use Rattle.ops.proofs.plain.plain_at.Statement.{statement}

@@ -5,7 +5,7 @@ use mathlib.Core.Path.{_≡_, refl}
 use mathlib.Core.Bool.{_&&_}
 use lib.ListN.{length, length-set}
 use lib.Dec.{leb, ltb}
-use Rattle.perform.specs.Needed.{Copied}
+use Rattle.perform.specs.Code.Needed.{Copied}
 use Rattle.perform.proofs.Needed.{part-starts, part-more, part-ends}
 use borrow.Author.Needs.{needs}
 use Rattle.perform.proofs.buffers.copy_part.Statement.{statement}

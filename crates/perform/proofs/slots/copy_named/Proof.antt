@@ -5,7 +5,7 @@ use mathlib.Core.Path.{_≡_, refl, _∙_}
 use mathlib.Core.Bool.{_&&_}
 use lib.Dec.{ltb}
 use lib.ListN.{length}
-use Rattle.perform.specs.Needed.{named, Copied}
+use Rattle.perform.specs.Code.Needed.{named, Copied}
 use Rattle.perform.proofs.Needed.{named-none, named-more}
 use borrow.Author.Needs.{needs}
 use Rattle.perform.proofs.slots.copy_named.Statement.{statement}

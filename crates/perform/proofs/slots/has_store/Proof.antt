@@ -4,7 +4,7 @@ use native.Mathlib.Omega.{arith}
 use mathlib.Core.Path.{_≡_, refl, sym, _∙_}
 use mathlib.Core.Bool.{_||_}
 use lib.ListN.{length, drop}
-use Rattle.perform.specs.Needed.{stores}
+use Rattle.perform.specs.Code.Needed.{stores}
 use Rattle.perform.proofs.Needed.{store-next, store-end}
 use borrow.Author.Needs.{needs}
 use Rattle.perform.proofs.slots.has_store.Statement.{statement}

@@ -4,7 +4,7 @@ use mathlib.Core.Path.{sym, _∙_}
 use native.Mathlib.Omega.{arith}
 use lib.ListN.{length, take, length-take}
 use denote.Ref.{now}
-use Rattle.source.specs.Cursor.{IsParameter}
+use Rattle.source.specs.Code.Cursor.{IsParameter}
 use Rattle.source.proofs.Cursor.{next-is}
 use borrow.Author.Needs.{needs}
 use Rattle.replay.proofs.contract.parameters.Statement.{statement}

@@ -2,7 +2,7 @@
 use Prim.Native.Nat.{_-_, _≤_}
 use mathlib.Core.Path.{_≡_}
 use native.Mathlib.Omega.{arith}
-use Rattle.source.specs.Marked.{Quotes}
+use Rattle.source.specs.Code.Marked.{Quotes}
 use Rattle.source.proofs.Quotes.{none-read, one-before}
 use borrow.Author.Needs.{needs}
 use Rattle.source.proofs.key.last_other.Statement.{statement}

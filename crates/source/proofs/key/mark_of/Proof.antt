@@ -3,7 +3,7 @@ use Prim.Native.Nat.{_≤_}
 use mathlib.Core.Path.{_≡_, refl}
 use native.Mathlib.Omega.{arith}
 use lib.ListN.{length}
-use Rattle.source.specs.Marked.{Quotes}
+use Rattle.source.specs.Code.Marked.{Quotes}
 use Rattle.source.proofs.Quoted.{key-byte}
 use Rattle.source.proofs.Quotes.{none-read, one-before, quotes-around}
 use borrow.Author.Needs.{needs}

@@ -4,7 +4,7 @@ use mathlib.Core.Path.{_≡_, sym, _∙_}
 use native.Mathlib.Omega.{arith}
 use lib.ListN.{length}
 use denote.Ref.{now}
-use Rattle.source.specs.Cursor.{parameterAt}
+use Rattle.source.specs.Code.Cursor.{parameterAt}
 use Rattle.source.proofs.Pieces.{past, Stands, stands}
 use Rattle.source.proofs.Cursor.{here, skipped}
 use borrow.Author.Needs.{needs}

@@ -5,7 +5,7 @@ use Prim.Native.Nat.{ℕ}
 use native.Mathlib.Omega.{arith}
 use lib.Seq.{take-all, length-take-le}
 use denote.Ref.{now}
-use Rattle.source.specs.Cursor.{parameterAt}
+use Rattle.source.specs.Code.Cursor.{parameterAt}
 use borrow.Author.Needs.{needs}
 use Rattle.source.proofs.parameters.next_parameter.Statement.{statement}
 use Rattle.source.proofs.parameters.next_parameter.Tie as tie

@@ -16,7 +16,7 @@ use Rattle.expression.specs.declared.ExprError.the-variants.{UnexpectedE
 use Rattle.expression.specs.declared.Parsed.{Parsed}
 use Rattle.expression.specs.declared.Parsed.the-variants.{Done, Refused}
 use Rattle.expression.specs.Parse.{lone}
-use Rattle.expression.specs.Table.{Columns, Entry, entryAt}
+use Rattle.expression.specs.Code.Table.{Columns, Entry, entryAt}
 
 -- the token from a place on as a sign
 abbrev pub signAt : List ℕ → ℕ → Sign

@@ -10,7 +10,7 @@ use Rattle.expression.specs.declared.Values.{Values}
 use Rattle.expression.specs.declared.figures.Read.{Read}
 use Rattle.expression.specs.declared.figures.Value.{Value}
 use Rattle.expression.specs.declared.figures.Value.the-variants.{Is, None}
-use Rattle.expression.specs.Table.{tagOf}
+use Rattle.expression.specs.Code.Table.{tagOf}
 use Rattle.assembler.specs.declared.refusal.Refusal.{Refusal}
 use Rattle.assembler.specs.declared.refusal.Refusal.the-variants.{TooManyBindings}
 use Rattle.assembler.specs.declared.state.State.{State}

@@ -16,9 +16,9 @@ use Rattle.assembler.specs.declared.state.Status.the-variants.{Going, Re
 use Rattle.assembler.specs.declared.state.State as Code
 use Rattle.assembler.specs.State.{State}
 use Rattle.assembler.specs.Numbers.{refusalNumbered}
-use Rattle.assembler.specs.Stored.{refusedAs, nothingYet}
-use Rattle.assembler.specs.LastReturn.{lastReturn, placeOf, Standing}
-use Rattle.assembler.specs.Held.{LastIs, Represents, Leads}
+use Rattle.assembler.specs.Code.Stored.{refusedAs, nothingYet}
+use Rattle.assembler.specs.Code.LastReturn.{lastReturn, placeOf, Standing}
+use Rattle.assembler.specs.Code.Held.{LastIs, Represents, Leads}
 use Rattle.assembler.specs.Assembled.{bodyRead, returned}
 
 -- the contract's body was read, and a is what it has come to

@@ -6,7 +6,7 @@ use mathlib.Core.Bool.{cond}
 use Rattle.byte.specs.Ascii.{ascii}
 use Rattle.search.specs.First.{prefixOf, firstAt}
 use Rattle.source.specs.Found.{foundOr}
-use Rattle.source.specs.Cursor.{trimmedSpan}
+use Rattle.source.specs.Code.Cursor.{trimmedSpan}
 use Rattle.source.specs.declared.parameters.Span.{Span}
 use Rattle.assembler.specs.declared.statement.Statement.{Statement}
 use Rattle.assembler.specs.declared.statement.Statement.the-variants.{Skipped, NoEquals, Let, Return}

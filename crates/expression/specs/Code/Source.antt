@@ -9,7 +9,7 @@ use Rattle.numbered.specs.Outcome.{Outcome, is, refused}
 use Rattle.expression.specs.declared.Bindings.{Bindings}
 use Rattle.expression.specs.declared.Values.{Values}
 use Rattle.expression.specs.Tree.{Tree, num}
-use Rattle.expression.specs.Table.{tagOf}
+use Rattle.expression.specs.Code.Table.{tagOf}
 use Rattle.expression.specs.Parse.{Env, meaning}
 
 -- where names start, their lengths and tags, where expressions start and their lengths, the values; oldest first

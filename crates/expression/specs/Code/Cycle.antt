@@ -11,8 +11,8 @@ use Rattle.expression.specs.declared.Parsed.the-variants.{Done, Refused}
 use Rattle.expression.specs.Tree.{Tree}
 use Rattle.expression.specs.Parse.{Env, done, refused, parseF, enough}
 use Rattle.expression.specs.Answer.{exprErrorNumbered}
-use Rattle.expression.specs.Table.{Columns, Holds}
-use Rattle.expression.specs.Figures.{Figures}
+use Rattle.expression.specs.Code.Table.{Columns, Holds}
+use Rattle.expression.specs.Code.Figures.{Figures}
 
 module _ (env : Env) (l d : ℕ) (ts : List (List ℕ)) where
   -- the parser reads the tree t and leaves rest, with every fuel that is enough

@@ -6,7 +6,7 @@ use lib.ListN.{length, getD, take}
 use Rattle.search.specs.declared.Found.{Found}
 use Rattle.search.specs.declared.Found.the-variants.{At, Nothing}
 use Rattle.search.specs.First.{firstAt}
-use Rattle.search.specs.Scan.{orElse}
+use Rattle.search.specs.Code.Scan.{orElse}
 use Rattle.source.specs.Vector.{quoted}
 use Rattle.source.specs.declared.key.Mark.{Mark}
 

@@ -7,7 +7,7 @@ use lib.Seq.{slice}
 use Rattle.numbered.specs.Outcome.{is}
 use Rattle.expression.specs.Tree.{Tree}
 use Rattle.expression.specs.Parse.{meaning}
-use Rattle.expression.specs.Source.{Sources, treeIn, envOf, treeOf, AllStand}
+use Rattle.expression.specs.Code.Source.{Sources, treeIn, envOf, treeOf, AllStand}
 use Rattle.expression.specs.Written.{textOf}
 
 -- from start to end of the text s, among the first count bindings

@@ -9,7 +9,7 @@ use Rattle.number.specs.Decimal.{allDigits, numberOf}
 use Rattle.number.specs.declared.Number.the-variants.{Is}
 use Rattle.lines.specs.Lines.{lines}
 use Rattle.lines.specs.Cursor.{span, firstLine}
-use Rattle.trim.specs.Blank.{blanksEnd}
+use Rattle.trim.specs.Code.Blank.{blanksEnd}
 use Rattle.kinds.specs.Kinds.{kindOf, Operation}
 use Rattle.ops.specs.Kinds.{follows, lineWith}
 use Rattle.ops.specs.Line.{Rule, ReadsDigits, lineOf}

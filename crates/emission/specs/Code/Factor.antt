@@ -9,7 +9,7 @@ use Rattle.token.specs.Token.{tokens, tokenAt}
 use Rattle.expression.specs.declared.names.Found.{Found}
 use Rattle.expression.specs.declared.names.Found.the-variants as Found
 use Rattle.expression.specs.Parse.{lone}
-use Rattle.expression.specs.Table.{found}
+use Rattle.expression.specs.Code.Table.{found}
 use Rattle.emission.specs.declared.factor.Factor.{Factor}
 use Rattle.emission.specs.declared.factor.Factor.the-variants.{Open, Literal, Name, Nothing}
 use Rattle.emission.specs.declared.factor.FactorAt.{FactorAt}

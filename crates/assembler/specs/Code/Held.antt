@@ -9,11 +9,11 @@ use Rattle.numbered.specs.Outcome.{Outcome, is, refused}
 use Rattle.source.specs.declared.parameters.Span.{Span}
 use Rattle.expression.specs.Tree.{Tree, kOf}
 use Rattle.expression.specs.Parse.{Env, meaning}
-use Rattle.expression.specs.Figures.{Figures}
+use Rattle.expression.specs.Code.Figures.{Figures}
 use Rattle.expression.specs.declared.Bindings.{Bindings}
 use Rattle.expression.specs.declared.Values.{Values}
-use Rattle.expression.specs.Table.{Columns, columns, Holds}
-use Rattle.expression.specs.Source.{sources, envOf, AllStand}
+use Rattle.expression.specs.Code.Table.{Columns, columns, Holds}
+use Rattle.expression.specs.Code.Source.{sources, envOf, AllStand}
 use Rattle.assembler.specs.declared.body.Checked.{Checked}
 use Rattle.assembler.specs.declared.body.Checked.the-variants as Checked
 use Rattle.assembler.specs.declared.state.Returned.{Returned}

@@ -18,7 +18,7 @@ use Rattle.assembler.specs.declared.state.Last.the-variants as Last
 use Rattle.assembler.specs.declared.state.Status.the-variants.{Going}
 use Rattle.assembler.specs.declared.state.State.{State}
 use Rattle.assembler.specs.Part.{part}
-use Rattle.assembler.specs.Places.{statementAt}
+use Rattle.assembler.specs.Code.Places.{statementAt}
 
 pub record Place : Type 0 where
   pub start : ℕ

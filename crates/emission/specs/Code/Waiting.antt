@@ -7,7 +7,7 @@ use lib.Dec.{leb}
 use lib.ListN.{getD}
 use Rattle.expression.specs.Grammar.{levels, term, expression, depth}
 use Rattle.expression.specs.Parse.{joins}
-use Rattle.writer.specs.Pieces.{Put, operatorsText}
+use Rattle.writer.specs.Code.Pieces.{Put, operatorsText}
 use Rattle.emission.specs.declared.waiting.Popped.{Popped}
 
 -- the level that an operator joins to; for every other byte, the mark among them, one above all levels

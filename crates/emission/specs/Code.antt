@@ -1,0 +1,4 @@
+pub mod Waiting
+pub mod Factor
+pub mod Turn
+pub mod Emitted

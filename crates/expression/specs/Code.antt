@@ -1,0 +1,5 @@
+pub mod Table
+pub mod Source
+pub mod Figures
+pub mod Parts
+pub mod Cycle
