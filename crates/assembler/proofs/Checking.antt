@@ -15,7 +15,7 @@ use Rattle.expression.specs.Tree.{Tree, kOf}
 use Rattle.expression.specs.Parse.{Env, meaning}
 use Rattle.expression.specs.Code.Figures.{Figures}
 use Rattle.expression.specs.Code.Table.{Columns, Holds}
-use Rattle.expression.specs.Answer.{said, due, Short, Answers}
+use Rattle.expression.specs.Code.Answers.{said, due, Short, Answers}
 use Rattle.expression.proofs.Meaning.{held-told}
 use Rattle.assembler.specs.declared.body.Checked.{Checked}
 use Rattle.assembler.specs.declared.body.Checked.the-variants.{Is, Refused}

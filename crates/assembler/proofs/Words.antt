@@ -8,7 +8,8 @@ use native.Mathlib.Omega.{arith}
 use Rattle.numbered.specs.Outcome.{is}
 use Rattle.byte.specs.Equal.{equal}
 use Rattle.number.proofs.Decimal.{length-word}
-use Rattle.expression.specs.Tree.{Tree, num, bin, kOf, lenOf}
+use Rattle.expression.specs.Tree.{Tree, num, bin, kOf}
+use Rattle.expression.specs.Code.Lengths.{lenOf}
 use Rattle.expression.specs.Parse.{Env, lookup, meaning}
 use Rattle.expression.specs.Grammar.{Derives, number, name, parentheses, alone, join}
 use Rattle.expression.proofs.Grammar.{grammar}

@@ -11,10 +11,12 @@ use Rattle.byte.proofs.Parts.{middle}
 use Rattle.number.specs.Decimal.{decimal}
 use Rattle.byte.specs.Ascii.{ascii}
 use Rattle.ops.specs.Ops.{onto}
-use Rattle.expression.specs.Tree.{Tree, lenOf}
+use Rattle.expression.specs.Tree.{Tree}
+use Rattle.expression.specs.Code.Lengths.{lenOf}
 use Rattle.expression.specs.Parse.{meaning}
 use Rattle.expression.specs.Code.Source.{sources, treeIn, envOf}
-use Rattle.expression.specs.Written.{opsOf, textOf}
+use Rattle.expression.specs.Written.{opsOf}
+use Rattle.expression.specs.Code.Texts.{textOf}
 use Rattle.expression.proofs.Written.{written-append, text-length}
 use Rattle.writer.specs.Code.Pieces.{Put}
 use Rattle.writer.proofs.Pieces.{put-then}

@@ -1,5 +1,5 @@
 // The output of an accepted contract: the header, the operations of the last return's tree, `Halt`.
-ghost use Rattle.assembly.specs.Answers.{Ready, Writes};
+ghost use Rattle.assembly.specs.Code.Ready.{Ready, Writes};
 use crate::Answer;
 use crate::header::header_len;
 use crate::header::put_header;

@@ -9,12 +9,13 @@ use lib.Seq.{length-take-le}
 use borrow.Author.Tests.{eq-eqb, ne-eqb}
 use Rattle.numbered.specs.Outcome.{is}
 use Rattle.byte.proofs.Parts.{middle}
-use Rattle.token.specs.Token.{tokens, tokenAt, scan}
+use Rattle.token.specs.Token.{tokens, scan}
+use Rattle.token.specs.Code.Places.{tokenAt}
 use Rattle.expression.specs.Tree.{num}
 use Rattle.expression.specs.Grammar.{levels}
 use Rattle.expression.specs.Parse.{meaning}
 use Rattle.expression.specs.Code.Source.{Sources, treeIn, expressionOf, envOf, treeOf, AllStand}
-use Rattle.expression.specs.Written.{textOf}
+use Rattle.expression.specs.Code.Texts.{textOf}
 use Rattle.writer.specs.Code.Pieces.{Put, pushText, operatorsText}
 use Rattle.writer.proofs.Pieces.{put-none, put-then, put-length}
 use Rattle.emission.specs.declared.factor.Factor.{Factor}

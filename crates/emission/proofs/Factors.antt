@@ -10,9 +10,11 @@ use lib.ListN.{length, getD, take, drop}
 use lib.Seq.{length-take-le, getD-take}
 use Rattle.byte.proofs.Tests.{by-bool}
 use Rattle.byte.proofs.Parts.{next, inner}
-use Rattle.number.specs.Decimal.{digit, digits, allDigits, value, capped}
+use Rattle.number.specs.Decimal.{digit, digits, allDigits, value}
+use Rattle.number.specs.Code.Digits.{capped}
 use Rattle.number.specs.declared.Value.the-variants as Digits
-use Rattle.token.specs.Token.{tokens, tokenAt}
+use Rattle.token.specs.Token.{tokens}
+use Rattle.token.specs.Code.Places.{tokenAt}
 use Rattle.token.specs.declared.Token.{Token}
 use Rattle.token.proofs.Tokens.{Next, tokenFrom, digit-token, digits-all}
 use Rattle.expression.specs.declared.names.Found.{Found}

@@ -7,7 +7,7 @@ use lib.ListN.{length, getD, set, replicate, length-set}
 use lib.Seq.{slice, length-slice, getD-set-same, getD-set-other}
 use Rattle.byte.proofs.Tests.{by-eqb}
 use Rattle.expression.specs.Code.Source.{Sources, treeOf}
-use Rattle.expression.specs.Written.{textOf}
+use Rattle.expression.specs.Code.Texts.{textOf}
 use Rattle.writer.specs.Code.Pieces.{Put}
 use Rattle.writer.proofs.Pieces.{put-slice, put-there}
 use Rattle.emission.specs.Code.Emitted.{Kept}

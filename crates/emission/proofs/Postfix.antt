@@ -11,7 +11,7 @@ use Rattle.token.specs.Token.{tokens}
 use Rattle.expression.specs.Tree.{Tree, bin}
 use Rattle.expression.specs.Parse.{Env, lone, operator, meaning}
 use Rattle.expression.specs.Grammar.{levels, Derives, number, name, parentheses, alone, join}
-use Rattle.expression.specs.Written.{textOf}
+use Rattle.expression.specs.Code.Texts.{textOf}
 use Rattle.expression.proofs.Steps.{lone-is}
 use Rattle.expression.proofs.Grammar.{operator-is, digits-no-parenthesis, meaning-derives}
 use Rattle.expression.proofs.Written.{text-bin}

@@ -11,7 +11,7 @@ use lib.Seq.{getD-set-same, getD-set-other}
 use Rattle.byte.proofs.Tests.{never, by-leb}
 use Rattle.expression.specs.Parse.{joins}
 use Rattle.expression.specs.Tree.{num}
-use Rattle.expression.specs.Written.{textOf}
+use Rattle.expression.specs.Code.Texts.{textOf}
 use Rattle.expression.proofs.Steps.{looser}
 use Rattle.writer.specs.Code.Pieces.{pushText, operatorText, operatorsText}
 use Rattle.emission.specs.Code.Waiting.{levelOf, popped, left, stackOf}

@@ -10,7 +10,8 @@ use lib.Dec.{leb}
 use lib.ListN.{length, drop, drop-of-length-le}
 use Rattle.byte.proofs.Tests.{by-leb}
 use Rattle.number.specs.Decimal.{value}
-use Rattle.token.specs.Token.{tokens, tokenAt, startAt, first, scan}
+use Rattle.token.specs.Token.{tokens, scan}
+use Rattle.token.specs.Code.Places.{tokenAt, startAt, first}
 use Rattle.token.proofs.Tokens.{token-none, token-next, tokenFrom, next-at}
 use Rattle.expression.specs.declared.names.Found.{Found}
 use Rattle.expression.specs.declared.names.Found.the-variants as Found
@@ -19,7 +20,7 @@ use Rattle.expression.specs.Grammar.{levels}
 use Rattle.expression.specs.Parse.{lookup, lone}
 use Rattle.expression.specs.Code.Source.{Sources, envOf, treeOf, AllStand}
 use Rattle.expression.specs.Code.Table.{found}
-use Rattle.expression.specs.Written.{textOf}
+use Rattle.expression.specs.Code.Texts.{textOf}
 use Rattle.writer.specs.Code.Pieces.{pushText, operatorsText}
 use Rattle.emission.specs.declared.factor.Factor.{Factor}
 use Rattle.emission.specs.declared.factor.Factor.the-variants.{Open, Literal, Name, Nothing}

@@ -8,7 +8,7 @@ use borrow.Author.Tests.{le-leb, lt-leb, eq-eqb, ne-eqb}
 use lib.Dec.{eqb, leb}
 use lib.ListN.{length, set, take, drop, length-set}
 use Rattle.byte.proofs.Tests.{by-eqb}
-use Rattle.token.specs.Token.{tokenAt}
+use Rattle.token.specs.Code.Places.{tokenAt}
 use Rattle.expression.specs.Grammar.{levels}
 use Rattle.writer.specs.Code.Pieces.{operatorsText}
 use Rattle.emission.specs.declared.waiting.Popped.{Popped}

@@ -9,7 +9,7 @@ use Rattle.number.specs.Decimal.{allDigits, value}
 use Rattle.expression.specs.Tree.{Tree, num}
 use Rattle.expression.specs.Grammar.{levels}
 use Rattle.expression.specs.Parse.{Env, lookup, lone}
-use Rattle.expression.specs.Written.{textOf}
+use Rattle.expression.specs.Code.Texts.{textOf}
 use Rattle.writer.specs.Code.Pieces.{operatorsText}
 use Rattle.emission.specs.Code.Waiting.{levelOf, most, popped, left}
 

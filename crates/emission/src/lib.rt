@@ -3,7 +3,7 @@
 ghost use Prim.Native.Nat.{_+_, _<_, _≤_};
 ghost use lib.ListN.{length};
 ghost use Rattle.expression.specs.Code.Source.{sourcesOf, sources, treeOf, AllStand};
-ghost use Rattle.expression.specs.Written.{textOf};
+ghost use Rattle.expression.specs.Code.Texts.{textOf};
 ghost use Rattle.writer.specs.Code.Pieces.{Put};
 ghost use Rattle.emission.specs.Code.Emitted.{treeBetween, Means, Kept};
 

@@ -7,10 +7,12 @@ use borrow.Author.Tests.{eq-eqb, ne-eqb}
 use lib.Dec.{ltb}
 use lib.ListN.{length, take, drop, length-drop}
 use Rattle.byte.proofs.Tests.{by-bool}
-use Rattle.number.specs.Decimal.{digits, value, capped, decimal}
+use Rattle.number.specs.Decimal.{digits, value, decimal}
+use Rattle.number.specs.Code.Digits.{capped}
 use Rattle.number.specs.declared.Value.the-variants as Digits
 use Rattle.number.proofs.Runs.{digits-short}
-use Rattle.token.specs.Token.{tokens, tokenAt}
+use Rattle.token.specs.Token.{tokens}
+use Rattle.token.specs.Code.Places.{tokenAt}
 use Rattle.token.specs.declared.Token.{Token}
 use Rattle.expression.specs.declared.figures.Read.{Read}
 use Rattle.expression.specs.declared.figures.Value.the-variants.{Is}

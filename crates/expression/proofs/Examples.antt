@@ -12,8 +12,8 @@ use Rattle.byte.specs.Ascii.{ascii}
 use Rattle.token.specs.Token.{scan}
 use Rattle.expression.specs.Tree.{Tree, num, bin}
 use Rattle.expression.specs.Parse.{Binding, Env, parseF, meaning}
-use Rattle.expression.specs.Answer.{Answer, figures, due}
-use Rattle.expression.specs.Written.{textOf}
+use Rattle.expression.specs.Code.Answers.{Answer, figures, due}
+use Rattle.expression.specs.Code.Texts.{textOf}
 
 -- k, p, value and the text's length
 abbrev answer : Env → String → Answer

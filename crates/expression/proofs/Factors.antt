@@ -12,7 +12,8 @@ use Rattle.byte.proofs.Tests.{by-bool, by-leb, by-eqb}
 use Rattle.byte.proofs.Parts.{next}
 use Rattle.number.specs.Decimal.{digit, digits, allDigits, value, decimal}
 use Rattle.number.proofs.Decimal.{length-word}
-use Rattle.token.specs.Token.{tokens, tokenAt}
+use Rattle.token.specs.Token.{tokens}
+use Rattle.token.specs.Code.Places.{tokenAt}
 use Rattle.token.proofs.Tokens.{Next, tokenFrom, token-none, token-next, digit-token, digits-all}
 use Rattle.expression.specs.declared.figures.Read.{Read}
 use Rattle.expression.specs.declared.figures.Value.the-variants.{Is}

@@ -15,7 +15,8 @@ use Rattle.numbered.specs.Outcome.{is}
 use Rattle.byte.proofs.Tests.{never, by-bool, by-or, between, and-left}
 use Rattle.word.specs.Apply.{Binary, add, sub, mul, div}
 use Rattle.number.specs.Decimal.{digit, allDigits, value}
-use Rattle.token.specs.Token.{allowed, tokens, first}
+use Rattle.token.specs.Token.{allowed, tokens}
+use Rattle.token.specs.Code.Places.{first}
 use Rattle.token.specs.Tokens.{IsToken, Tokens}
 use Rattle.token.specs.Tokens as Tokens
 use Rattle.token.proofs.LongestMatch.{longest-match}

@@ -7,7 +7,8 @@ use native.Mathlib.Omega.{arith}
 use lib.ListN.{drop}
 use Rattle.numbered.specs.Numbered.{plain}
 use Rattle.numbered.specs.Outcome.{Outcome, is, refused}
-use Rattle.token.specs.Token.{allowed, scan, tokens, tokenAt, lastEnd}
+use Rattle.token.specs.Token.{allowed, scan, tokens}
+use Rattle.token.specs.Code.Places.{tokenAt, lastEnd}
 use Rattle.token.specs.declared.Token.{Token}
 use Rattle.token.proofs.LastEnd.{last-end}
 use Rattle.expression.specs.declared.figures.Read.{Read}
@@ -19,7 +20,8 @@ use Rattle.expression.specs.Tree.{Tree}
 use Rattle.expression.specs.Parse.{Env, done, enough, parseF, moreF, whole, meaning, expression, depth}
 use Rattle.expression.specs.Code.Figures.{Figures}
 use Rattle.expression.specs.Code.Table.{Columns, columnsOf, Told, few, Holds}
-use Rattle.expression.specs.Answer.{exprErrorNumbered, said, due, Short, EndsLast, Answers}
+use Rattle.expression.specs.Answer.{exprErrorNumbered}
+use Rattle.expression.specs.Code.Answers.{said, due, Short, EndsLast, Answers}
 use Rattle.expression.specs.Code.Parts.{wholeRead}
 use Rattle.expression.specs.Code.Cycle.{Placed, Meets}
 use Rattle.expression.proofs.Signs.{none-of, next-of}

@@ -8,14 +8,16 @@ use lib.ListN.{length, drop}
 use Rattle.byte.proofs.Tests.{never, by-leb}
 use Rattle.byte.proofs.Parts.{next}
 use Rattle.word.specs.Apply.{Binary, add, sub, mul, div, eq, lt}
-use Rattle.token.specs.Token.{tokens, first, tokenAt}
+use Rattle.token.specs.Token.{tokens}
+use Rattle.token.specs.Code.Places.{first, tokenAt}
 use Rattle.token.proofs.Tokens.{tokenFrom, token-none, token-next}
 use Rattle.expression.specs.declared.figures.Read.{Read}
 use Rattle.expression.specs.declared.ExprError.{ExprError}
 use Rattle.expression.specs.declared.parts.Sign.{Sign}
 use Rattle.expression.specs.declared.Parsed.{Parsed}
 use Rattle.expression.specs.declared.Parsed.the-variants.{Done, Refused}
-use Rattle.expression.specs.Tree.{Tree, bin, lineOf}
+use Rattle.expression.specs.Tree.{Tree, bin}
+use Rattle.expression.specs.Code.Lengths.{lineOf}
 use Rattle.expression.specs.Parse.{Env, lone, joins, operator, expression}
 use Rattle.expression.specs.Code.Figures.{Figures, Small, Joined}
 use Rattle.expression.specs.Code.Table.{Columns, Holds}

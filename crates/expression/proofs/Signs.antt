@@ -5,7 +5,8 @@ use mathlib.Core.List.{List, []}
 use native.Mathlib.Omega.{arith}
 use lib.ListN.{length, getD, take, drop}
 use Rattle.byte.proofs.Parts.{next}
-use Rattle.token.specs.Token.{tokens, first, tokenAt}
+use Rattle.token.specs.Token.{tokens}
+use Rattle.token.specs.Code.Places.{first, tokenAt}
 use Rattle.token.specs.declared.Token.{Token}
 use Rattle.token.proofs.Tokens.{Next, token-none, token-next}
 use Rattle.expression.specs.declared.parts.Sign.{Sign}

@@ -10,7 +10,7 @@ use lib.Dec.{eqb}
 use lib.ListN.{length}
 use Rattle.byte.proofs.Tests.{never, by-or}
 use Rattle.number.specs.Decimal.{allDigits, value}
-use Rattle.token.specs.Token.{first}
+use Rattle.token.specs.Code.Places.{first}
 use Rattle.expression.specs.Tree.{Tree, num, bin}
 use Rattle.expression.specs.Parse.{Env, lookup, Parse, done, refused, lone, joins, operator, joined, closed, nested, atom, parseF, moreF, enough, factor, expression}
 use Rattle.expression.specs.Code.Cycle.{Reads, Refuses}

@@ -8,8 +8,10 @@ use Rattle.word.specs.Apply.{Binary, add, sub, mul, div, eq, lt}
 use Rattle.number.specs.Decimal.{decimal}
 use Rattle.kinds.specs.Kinds.{Operation}
 use Rattle.ops.specs.Written.{written, writtenAll}
-use Rattle.expression.specs.Tree.{Tree, num, bin, kOf, lineOf, lenOf}
-use Rattle.expression.specs.Written.{operatorOf, opsOf, textOf}
+use Rattle.expression.specs.Tree.{Tree, num, bin, kOf}
+use Rattle.expression.specs.Code.Lengths.{lineOf, lenOf}
+use Rattle.expression.specs.Written.{operatorOf, opsOf}
+use Rattle.expression.specs.Code.Texts.{textOf}
 
 pub written-append : (a b : List Operation) → writtenAll (a ++ b) ≡ writtenAll a ++ writtenAll b
 written-append [] b = refl

@@ -1,9 +1,7 @@
 -- What an expression means: a closed tree, in which a name stands as the tree of its binding.
 use Prim.Native.Nat.{ℕ, _+_, max}
 use mathlib.Core.Option.{Option, some, none}
-use lib.ListN.{length}
-use Rattle.word.specs.Apply.{Binary, add, sub, mul, div, eq, lt, apply}
-use Rattle.number.specs.Decimal.{decimal}
+use Rattle.word.specs.Apply.{Binary, apply}
 
 pub data Tree : Type 0 where
   num : ℕ → Tree
@@ -28,17 +26,3 @@ kOf (bin op l r) = kOf l + kOf r
 abbrev pub pOf : Tree → ℕ
 pOf (num n) = 1
 pOf (bin op l r) = max (pOf l) (pOf r + 1)
-
--- the length of the line that an operator is written as: its word and a line feed
-abbrev pub lineOf : Binary → ℕ
-lineOf add = 4
-lineOf sub = 4
-lineOf mul = 4
-lineOf div = 4
-lineOf eq = 3
-lineOf lt = 3
-
--- the length of the text that a tree is written as: `Push`, a space, the decimal and a line feed for a number
-abbrev pub lenOf : Tree → ℕ
-lenOf (num n) = 6 + length (decimal n)
-lenOf (bin op l r) = lenOf l + lenOf r + lineOf op

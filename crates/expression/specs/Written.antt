@@ -3,7 +3,6 @@ use Prim.Native.Nat.{ℕ}
 use mathlib.Core.List.{List, [], _∷_, _++_}
 use Rattle.word.specs.Apply.{Binary, add, sub, mul, div, eq, lt}
 use Rattle.kinds.specs.Kinds.{Operation}
-use Rattle.ops.specs.Written.{writtenAll}
 use Rattle.expression.specs.Tree.{Tree, num, bin}
 
 -- the number of an operator's kind; Push is 0
@@ -21,6 +20,3 @@ operatorOf op = record { kind = kindNumber op; operand = 0 }
 abbrev pub opsOf : Tree → List Operation
 opsOf (num n) = record { kind = 0; operand = n } ∷ []
 opsOf (bin op l r) = opsOf l ++ opsOf r ++ operatorOf op ∷ []
-
-abbrev pub textOf : Tree → List ℕ
-textOf t = writtenAll (opsOf t)

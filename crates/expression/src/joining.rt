@@ -2,7 +2,8 @@
 ghost use mathlib.Core.Path.{_≡_};
 ghost use Prim.Native.Nat.{max, _≤_};
 ghost use Rattle.word.specs.Apply.{apply};
-ghost use Rattle.expression.specs.Tree.{applied, lineOf};
+ghost use Rattle.expression.specs.Tree.{applied};
+ghost use Rattle.expression.specs.Code.Lengths.{lineOf};
 ghost use Rattle.expression.specs.Parse.{operator};
 ghost use Rattle.expression.specs.Code.Figures.{optionOf, Small, Joined};
 use crate::figures::Read;

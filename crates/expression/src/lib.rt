@@ -3,7 +3,8 @@ ghost use mathlib.Core.Path.{_≡_};
 ghost use Prim.Native.Nat.{_≤_};
 ghost use lib.ListN.{length};
 ghost use Rattle.expression.specs.Parse.{factor, term, expression};
-ghost use Rattle.expression.specs.Answer.{exprErrorNumbered, Answers};
+ghost use Rattle.expression.specs.Answer.{exprErrorNumbered};
+ghost use Rattle.expression.specs.Code.Answers.{Answers};
 ghost use Rattle.expression.specs.Code.Table.{columnsOf, columns, few};
 ghost use Rattle.expression.specs.Code.Cycle.{Ready, Meets};
 

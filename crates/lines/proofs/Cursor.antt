@@ -15,7 +15,8 @@ use Rattle.search.specs.First.{firstFrom}
 use Rattle.search.proofs.Prefix.{other}
 use Rattle.search.proofs.Laws.{from-miss, within}
 use Rattle.lines.specs.Lines.{front, feedNext, lines, feedFree}
-use Rattle.lines.specs.Cursor.{feedFrom, placeOr, span, headOf, firstLine, lineFrom, lineAt, visited, IsLine}
+use Rattle.lines.specs.Cursor.{span, firstLine, lineFrom, lineAt}
+use Rattle.lines.specs.Code.Visits.{feedFrom, placeOr, headOf, visited, IsLine}
 use Rattle.lines.specs.declared.Line.{Line}
 use Rattle.lines.specs.declared.Step.{Step}
 use Rattle.lines.specs.declared.Step.the-variants.{Next, Done}

@@ -5,7 +5,8 @@ use mathlib.Core.List.{List, [], _∷_, _++_}
 use mathlib.Core.Bool.{true}
 use borrow.Author.Tests.{ne-eqb}
 use Rattle.byte.proofs.Tests.{by-eqb, never}
-use Rattle.lines.specs.Lines.{front, lines, feedFree, lessReturn}
+use Rattle.lines.specs.Lines.{front, lines, feedFree}
+use Rattle.lines.specs.Code.Returns.{lessReturn}
 use Rattle.lines.proofs.Laws.{lines-other, no-return, no-feed}
 
 pub free-cons : (a : ℕ) (x : List ℕ) → (a ≡ 10 → ⊥) → feedFree (a ∷ x) ≡ feedFree x

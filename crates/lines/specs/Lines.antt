@@ -1,11 +1,12 @@
 -- The lines of a text, as documented for `str::lines`: lines end in a line feed or in a carriage return and a line feed,
--- no line has its ending, the last ending is optional, and a carriage return anywhere else is part of its line.
--- Both endings are ASCII, so the definition serves bytes and code points alike.
 use Prim.Native.Nat.{ℕ}
 use mathlib.Core.List.{List, [], _∷_}
 use mathlib.Core.Bool.{Bool, true, false, _&&_}
 use lib.Dec.{eqb}
 pub use Rattle.byte.specs.Texts.{front}
+
+-- no line has its ending, the last ending is optional, and a carriage return anywhere else is part of its line.
+-- Both endings are ASCII, so the definition serves bytes and code points alike.
 
 -- a line feed comes next
 abbrev pub feedNext : List ℕ → Bool
@@ -24,9 +25,3 @@ lines (a ∷ s) = elim (eqb a 10) [
 abbrev pub feedFree : List ℕ → Bool
 feedFree [] = true
 feedFree (a ∷ s) = elim (eqb a 10) [ true ↦ false | false ↦ feedFree s ]
-
--- less a carriage return at its end
-abbrev pub lessReturn : List ℕ → List ℕ
-lessReturn [] = []
-lessReturn (a ∷ []) = elim (eqb a 13) [ true ↦ [] | false ↦ a ∷ [] ]
-lessReturn (a ∷ b ∷ s) = a ∷ lessReturn (b ∷ s)

@@ -3,7 +3,8 @@ use search::Found;
 ghost use mathlib.Core.Path.{_≡_};
 ghost use Prim.Native.Nat.{ℕ, _+_, _<_, _≤_};
 ghost use lib.ListN.{length, drop};
-ghost use Rattle.lines.specs.Cursor.{feedFrom, lineAt, firstLine};
+ghost use Rattle.lines.specs.Cursor.{lineAt, firstLine};
+ghost use Rattle.lines.specs.Code.Visits.{feedFrom};
 
 // A line's text stands from start to end; the line after it starts at next.
 pub struct Line {

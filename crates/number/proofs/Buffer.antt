@@ -7,7 +7,8 @@ use native.Mathlib.Omega.{arith}
 use lib.ListN.{length, take, drop, set, length-append, length-set, take-append-drop}
 use lib.Seq.{append-snoc, take-set-le, drop-set-lt, getD-set-same}
 use Rattle.byte.proofs.Parts.{next}
-use Rattle.number.specs.Decimal.{decimal, put, writtenAt, bufferAfter}
+use Rattle.number.specs.Decimal.{decimal}
+use Rattle.number.specs.Code.Digits.{put, writtenAt, bufferAfter}
 use Rattle.number.specs.declared.Written.the-variants.{To, NoRoom}
 use Rattle.number.proofs.Decimal.{decimal-one, decimal-more, length-one, length-more, length-positive}
 

@@ -1,7 +1,8 @@
 -- What the definitions give, computed.
 use mathlib.Core.Path.{_≡_, refl}
 use mathlib.Core.List.{[], _∷_}
-use Rattle.number.specs.Decimal.{digitsAt, numberOf, decimal}
+use Rattle.number.specs.Decimal.{numberOf, decimal}
+use Rattle.number.specs.Code.Digits.{digitsAt}
 use Rattle.number.specs.declared.Value.the-variants as Value
 use Rattle.number.specs.declared.Number.the-variants.{Is, Invalid}
 

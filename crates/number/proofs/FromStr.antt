@@ -8,7 +8,8 @@ use native.Mathlib.Omega.{arith}
 use lib.Dec.{ltb}
 use lib.ListN.{length, getD, drop, length-drop}
 use Rattle.byte.proofs.Tests.{by-bool}
-use Rattle.number.specs.Decimal.{allDigits, digits, value, capped, digitsAt, withoutPlus, fromDigits, numberOf}
+use Rattle.number.specs.Decimal.{allDigits, digits, value, withoutPlus, fromDigits, numberOf}
+use Rattle.number.specs.Code.Digits.{capped, digitsAt}
 use Rattle.number.specs.declared.Value.{Value}
 use Rattle.number.specs.declared.Value.the-variants as Value
 use Rattle.number.specs.declared.Number.{Number}

@@ -8,7 +8,8 @@ use native.Mathlib.Omega.{arith}
 use lib.ListN.{length, getD, drop, length-drop, drop-of-length-le, List·getD-eq-default}
 use Rattle.byte.proofs.Tests.{never, by-bool, by-leb, and-left, and-right, between}
 use Rattle.byte.proofs.Parts.{next}
-use Rattle.number.specs.Decimal.{digit, allDigits, digits, valueFrom, value, capped, digitsAt}
+use Rattle.number.specs.Decimal.{digit, allDigits, digits, valueFrom, value}
+use Rattle.number.specs.Code.Digits.{capped, digitsAt}
 use Rattle.number.specs.Code.Zeros.{ZerosTo}
 use Rattle.number.specs.declared.Value.{Value}
 use Rattle.number.specs.declared.Value.the-variants.{Is, TooLarge}

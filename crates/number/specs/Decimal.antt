@@ -1,18 +1,14 @@
 -- Numbers in plain decimal: what a text of digits writes, `u64::from_str`, and the digits of a number.
--- A choice between two results binds the one that recurs by `let`, so that it is computed only where it is taken.
 use Prim.Native.Nat.{ℕ, zero, suc, _+_, _-_, _*_, _/_, _%_, _^_}
 use mathlib.Core.List.{List, [], _∷_, _++_}
 use mathlib.Core.Bool.{Bool, true, cond, _&&_}
-use lib.Dec.{eqb, leb, ltb}
-use lib.ListN.{length, take, drop}
+use lib.Dec.{eqb, ltb}
+use lib.ListN.{length}
 use Rattle.byte.specs.Range.{within}
-use Rattle.number.specs.declared.Value.{Value}
-use Rattle.number.specs.declared.Value.the-variants as Value
-use Rattle.number.specs.declared.Digits.{Digits}
 use Rattle.number.specs.declared.Number.{Number}
 use Rattle.number.specs.declared.Number.the-variants as Number
-use Rattle.number.specs.declared.Written.{Written}
-use Rattle.number.specs.declared.Written.the-variants.{To, NoRoom}
+
+-- A choice between two results binds the one that recurs by `let`, so that it is computed only where it is taken.
 
 -- 0 to 9
 abbrev pub digit : ℕ → Bool
@@ -35,14 +31,6 @@ valueFrom acc (a ∷ s) = valueFrom (acc * 10 + (a - 48)) s
 abbrev pub value : List ℕ → ℕ
 value s = valueFrom 0 s
 
--- a number of 64 bits, or that it is none
-abbrev pub capped : ℕ → Value
-capped n = cond (ltb n (2 ^ 64)) (Value.Is n) Value.TooLarge
-
--- the digits from a place on; where none stands, they write 0
-abbrev pub digitsAt : List ℕ → ℕ → Digits
-digitsAt s at = record { len = length (digits (drop at s)); value = capped (value (digits (drop at s))) }
-
 -- a text without the plus that it may start with
 abbrev pub withoutPlus : List ℕ → List ℕ
 withoutPlus [] = []
@@ -64,17 +52,3 @@ decimalWith (suc fuel) n = let more = decimalWith fuel (n / 10) ++ (48 + n % 10)
 -- a number in plain decimal, with no leading zeros
 unfoldable pub decimal : ℕ → List ℕ
 decimal n = decimalWith (suc n) n
-
--- a buffer with bytes written over it from a place on
-abbrev pub put : ℕ → List ℕ → List ℕ → List ℕ
-put at bytes out = take at out ++ bytes ++ drop (at + length bytes) out
-
--- whether a number written at a place ends within a buffer's length
-abbrev pub fitsAt : ℕ → ℕ → ℕ → Bool
-fitsAt n at room = leb (at + length (decimal n)) room
-
-abbrev pub writtenAt : ℕ → ℕ → ℕ → Written
-writtenAt n at room = cond (fitsAt n at room) (To (at + length (decimal n))) NoRoom
-
-abbrev pub bufferAfter : ℕ → ℕ → List ℕ → List ℕ
-bufferAfter n at out = cond (fitsAt n at (length out)) (put at (decimal n) out) out

@@ -11,8 +11,10 @@ use Rattle.byte.proofs.Tests.{never, by-eqb, between, above}
 use Rattle.byte.proofs.Parts.{next}
 use Rattle.search.specs.First.{prefixOf}
 use Rattle.search.proofs.Prefix.{split}
-use Rattle.lines.specs.Lines.{feedFree, lessReturn}
-use Rattle.lines.specs.Cursor.{feedFrom, span, headOf, firstLine}
+use Rattle.lines.specs.Lines.{feedFree}
+use Rattle.lines.specs.Code.Returns.{lessReturn}
+use Rattle.lines.specs.Cursor.{span, firstLine}
+use Rattle.lines.specs.Code.Visits.{feedFrom, headOf}
 use Rattle.lines.proofs.Written.{free-cons, free-append, line-then}
 use Rattle.lines.proofs.Cursor.{fed}
 use Rattle.trim.specs.Trim.{white1, startTrimmed, endTrimmed, trimmed}

@@ -11,7 +11,8 @@ use Rattle.byte.proofs.Tests.{never, and-left, and-right, and-both, between, in
 use Rattle.utf8.specs.Utf8.{utf8}
 use Rattle.utf8.proofs.Lead.{one-is}
 use Rattle.utf8.proofs.Encoding.{append}
-use Rattle.lines.specs.Lines.{lines, feedFree, lessReturn}
+use Rattle.lines.specs.Lines.{lines, feedFree}
+use Rattle.lines.specs.Code.Returns.{lessReturn}
 use Rattle.lines.proofs.Written.{free-cons, free-append, line-then}
 use Rattle.trim.specs.Trim.{white1, startTrimmed, trimmed}
 use Rattle.trim.proofs.Laws.{trimmed-kept}

@@ -9,7 +9,8 @@ use lib.Seq.{drop-drop}
 use Rattle.byte.proofs.Tests.{by-bool, and-left, between}
 use Rattle.search.specs.First.{prefixOf}
 use Rattle.search.proofs.Prefix.{split}
-use Rattle.number.specs.Decimal.{digit, digits, allDigits, value, capped, numberOf}
+use Rattle.number.specs.Decimal.{digit, digits, allDigits, value, numberOf}
+use Rattle.number.specs.Code.Digits.{capped}
 use Rattle.number.specs.declared.Value.the-variants as Value
 use Rattle.number.specs.declared.Number.the-variants as Number
 use Rattle.number.proofs.Runs.{digits-own, digits-short}

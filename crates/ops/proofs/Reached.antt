@@ -9,7 +9,8 @@ use lib.Seq.{drop-drop}
 use Rattle.byte.proofs.Tests.{by-leb}
 use Rattle.utf8.specs.Utf8.{utf8}
 use Rattle.lines.specs.Lines.{lines}
-use Rattle.lines.specs.Cursor.{span, headOf, firstLine, lineFrom, lineAt, IsLine}
+use Rattle.lines.specs.Cursor.{span, firstLine, lineFrom, lineAt}
+use Rattle.lines.specs.Code.Visits.{headOf, IsLine}
 use Rattle.lines.specs.declared.Line.{Line}
 use Rattle.lines.specs.declared.Step.the-variants.{Next, Done}
 use Rattle.lines.proofs.Cursor.{line-here, line-done, step-line}

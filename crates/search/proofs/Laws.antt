@@ -10,7 +10,8 @@ use Rattle.byte.proofs.Tests.{by-bool, by-leb, by-eqb, never}
 use Rattle.byte.proofs.Parts.{next}
 use Rattle.search.specs.declared.Found.{Found}
 use Rattle.search.specs.declared.Found.the-variants.{At, Nothing}
-use Rattle.search.specs.First.{prefixOf, firstFrom, firstAt, First}
+use Rattle.search.specs.First.{prefixOf, firstFrom, firstAt}
+use Rattle.search.specs.Code.Place.{First}
 use Rattle.search.specs.Code.Scan.{orElse, Clear}
 use Rattle.search.proofs.Prefix.{fits, too-long}
 

@@ -1,6 +1,5 @@
 -- The first occurrence of a list in a list.
-use Prim.Native.Nat.{ℕ, _+_, _<_, _≤_}
-use mathlib.Core.Path.{_≡_}
+use Prim.Native.Nat.{ℕ, _+_}
 use mathlib.Core.List.{List, [], _∷_}
 use mathlib.Core.Bool.{Bool, true, false}
 use lib.Dec.{eqb, leb}
@@ -22,10 +21,3 @@ firstFrom n p (a ∷ s) = elim (prefixOf p (a ∷ s)) [ true ↦ At n | false �
 -- the first place at or after `at` at which p stands in s; a place past the end has none
 abbrev pub firstAt : List ℕ → List ℕ → ℕ → Found
 firstAt p s at = elim (leb at (length s)) [ true ↦ firstFrom at p (drop at s) | false ↦ Nothing ]
-
--- what makes i the first place at or after `at`
-pub record First (p s : List ℕ) (at i : ℕ) : Type 0 where
-  pub after : at ≤ i
-  pub fits : i + length p ≤ length s
-  pub stands : prefixOf p (drop i s) ≡ true
-  pub before : (j : ℕ) → at ≤ j → j < i → prefixOf p (drop j s) ≡ false

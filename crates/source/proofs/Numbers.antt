@@ -7,7 +7,8 @@ use native.Mathlib.Omega.{arith}
 use lib.Dec.{ltb}
 use lib.ListN.{length}
 use Rattle.numbered.specs.declared.Numbered.{Numbered}
-use Rattle.number.specs.Decimal.{value, capped}
+use Rattle.number.specs.Decimal.{value}
+use Rattle.number.specs.Code.Digits.{capped}
 use Rattle.number.specs.declared.Value.{Value}
 use Rattle.number.specs.declared.Value.the-variants as Value
 use Rattle.source.specs.Vector.{ofDigits}

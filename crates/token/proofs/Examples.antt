@@ -2,7 +2,8 @@
 use mathlib.Core.Path.{_≡_, refl}
 use mathlib.Core.List.{[], _∷_}
 use mathlib.Core.Bool.{true, false}
-use Rattle.token.specs.Token.{allowed, scan, tokens, tokenAt}
+use Rattle.token.specs.Token.{allowed, scan, tokens}
+use Rattle.token.specs.Code.Places.{tokenAt}
 
 -- ` 12ab_3(*` and a line feed
 mixed : tokens (32 ∷ 49 ∷ 50 ∷ 97 ∷ 98 ∷ 95 ∷ 51 ∷ 40 ∷ 42 ∷ 10 ∷ []) ≡ (49 ∷ 50 ∷ []) ∷ (97 ∷ 98 ∷ 95 ∷ 51 ∷ []) ∷ (40 ∷ []) ∷ (42 ∷ []) ∷ []

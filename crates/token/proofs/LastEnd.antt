@@ -7,7 +7,8 @@ use native.Mathlib.Omega.{arith}
 use borrow.Author.Tests.{ne-eqb}
 use lib.ListN.{length, getD, drop}
 use Rattle.byte.proofs.Tests.{by-bool}
-use Rattle.token.specs.Token.{space, tokens, lastEnd}
+use Rattle.token.specs.Token.{space, tokens}
+use Rattle.token.specs.Code.Places.{lastEnd}
 use Rattle.token.proofs.Tokens.{tokens-space, tokens-start, scan-token}
 
 none-last : (s : List ℕ) → tokens s ≡ [] → lastEnd s ≡ 0

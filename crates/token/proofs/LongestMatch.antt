@@ -9,7 +9,8 @@ use lib.ListN.{length, drop}
 use lib.Seq.{drop-at}
 use Rattle.byte.proofs.Tests.{never, by-bool, by-or, and-left, and-right, and-both, between}
 use Rattle.number.specs.Decimal.{digit}
-use Rattle.token.specs.Token.{space, nameStart, namePart, sign, allowed, goesOn, scan, tokens, run}
+use Rattle.token.specs.Token.{space, nameStart, namePart, sign, allowed, goesOn, scan, tokens}
+use Rattle.token.specs.Code.Places.{run}
 use Rattle.token.specs.Tokens.{every, IsToken, digits, name, single, Longest, Tokens, none, parted, token}
 use Rattle.token.proofs.Classes.{space-bound, sign-bounds, start-bound, not-so}
 use Rattle.token.proofs.Tokens.{tokens-space, tokens-start, scan-more, scan-ended, scan-token, goes-on-digits}

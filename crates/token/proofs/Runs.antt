@@ -8,7 +8,8 @@ use lib.ListN.{length, getD, take, drop, drop-of-length-le, List·getD-eq-defaul
 use Rattle.byte.proofs.Tests.{never, by-bool, by-leb}
 use Rattle.byte.proofs.Parts.{next}
 use Rattle.number.specs.Decimal.{digit}
-use Rattle.token.specs.Token.{space, nameStart, namePart, sign, allowed, goesOn, run}
+use Rattle.token.specs.Token.{space, nameStart, namePart, sign, allowed, goesOn}
+use Rattle.token.specs.Code.Places.{run}
 
 -- no token goes on past the text's end, where a place reads 0
 pub goesOn-end : (a : ℕ) → goesOn a 0 ≡ false

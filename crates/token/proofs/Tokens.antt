@@ -11,7 +11,8 @@ use Rattle.byte.proofs.Tests.{by-bool, by-leb, below, between}
 use Rattle.byte.proofs.Parts.{next}
 use Rattle.number.specs.Decimal.{digit, digits, allDigits}
 use Rattle.token.specs.declared.Token.{Token}
-use Rattle.token.specs.Token.{space, nameStart, goesOn, scan, tokens, first, run, startAt, tokenAt}
+use Rattle.token.specs.Token.{space, nameStart, goesOn, scan, tokens}
+use Rattle.token.specs.Code.Places.{first, run, startAt, tokenAt}
 use Rattle.token.proofs.Runs.{run-short, take-run, run-stops, run-last}
 use Rattle.token.proofs.Classes.{goes-no-space}
 

@@ -1,2 +1,3 @@
 pub mod Token
 pub mod Tokens
+pub mod Code

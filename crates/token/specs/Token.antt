@@ -1,13 +1,11 @@
 -- The tokens of an expression: digit runs; names, an ASCII letter or `_` and then those or digits; signs. A token is its bytes.
-use Prim.Native.Nat.{ℕ, suc, _+_}
+use Prim.Native.Nat.{ℕ}
 use mathlib.Core.List.{List, [], _∷_, _++_}
-use mathlib.Core.Bool.{Bool, true, false, cond, _&&_, _||_}
+use mathlib.Core.Bool.{Bool, true, false, _&&_, _||_}
 use lib.Dec.{eqb}
-use lib.ListN.{length, drop}
 use Rattle.byte.specs.Range.{within}
 use Rattle.byte.specs.Texts.{unlessEmpty}
 use Rattle.number.specs.Decimal.{digit}
-use Rattle.token.specs.declared.Token.{Token}
 
 -- tab, line feed, form feed, carriage return, space
 abbrev pub space : ℕ → Bool
@@ -46,26 +44,3 @@ scan w (a ∷ s) = elim (extends w a) [
 
 abbrev pub tokens : List ℕ → List (List ℕ)
 tokens s = scan [] s
-
--- the first token; empty where there is none
-abbrev pub first : List (List ℕ) → List ℕ
-first [] = []
-first (w ∷ ts) = w
-
--- the bytes that a text starts with and that pass a test
-abbrev pub run : (ℕ → Bool) → List ℕ → List ℕ
-run test [] = []
-run test (a ∷ s) = let more = a ∷ run test s in cond (test a) more []
-
--- where the first token from a place on starts
-abbrev pub startAt : List ℕ → ℕ → ℕ
-startAt s at = at + length (run space (drop at s))
-
--- the first token from a place on; start and end are the text's end where there is none
-abbrev pub tokenAt : List ℕ → ℕ → Token
-tokenAt s at = record { start = startAt s at; end = startAt s at + length (first (tokens (drop at s))) }
-
--- where the last token of a text ends
-abbrev pub lastEnd : List ℕ → ℕ
-lastEnd [] = 0
-lastEnd (a ∷ s) = let n = lastEnd s in cond (eqb n 0 && space a) 0 (suc n)

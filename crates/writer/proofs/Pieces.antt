@@ -7,7 +7,8 @@ use native.Mathlib.Numerals.{add-one}
 use native.Mathlib.Omega.{arith}
 use lib.ListN.{length, getD, take, drop, set, length-append, length-drop, take-append-drop}
 use lib.Seq.{slice, set-split, take-at, drop-append-add, drop-drop, length-take-le, getD-take, getD-drop, take-take, take-all, take-suc, length-slice}
-use Rattle.number.specs.Decimal.{decimal, put, writtenAt, bufferAfter}
+use Rattle.number.specs.Decimal.{decimal}
+use Rattle.number.specs.Code.Digits.{put, writtenAt, bufferAfter}
 use Rattle.number.specs.declared.Written.{Written}
 use Rattle.number.specs.declared.Written.the-variants.{To, NoRoom}
 use Rattle.number.proofs.Buffer.{room}

@@ -8,7 +8,7 @@ use Rattle.lines.specs.Lines.{lines}
 use Rattle.lines.specs.Cursor.{lineFrom}
 use Rattle.source.specs.declared.function.Places.{Places}
 use Rattle.source.specs.Parameters.{parameters}
-use Rattle.token.specs.Token.{lastEnd}
+use Rattle.token.specs.Code.Places.{lastEnd}
 use Rattle.assembler.specs.declared.body.Checked.{Checked}
 use Rattle.assembler.specs.declared.body.Checked.the-variants as Checked
 use Rattle.assembler.specs.declared.statement.Statement.{Statement}

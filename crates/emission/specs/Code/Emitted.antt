@@ -8,7 +8,7 @@ use Rattle.numbered.specs.Outcome.{is}
 use Rattle.expression.specs.Tree.{Tree}
 use Rattle.expression.specs.Parse.{meaning}
 use Rattle.expression.specs.Code.Source.{Sources, treeIn, envOf, treeOf, AllStand}
-use Rattle.expression.specs.Written.{textOf}
+use Rattle.expression.specs.Code.Texts.{textOf}
 
 -- from start to end of the text s, among the first count bindings
 module _ (s : List ℕ) (c : Sources) (count start end : ℕ) where

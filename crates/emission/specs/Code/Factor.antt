@@ -5,7 +5,8 @@ use mathlib.Core.Bool.{cond}
 use lib.Dec.{eqb, ltb}
 use lib.ListN.{take, drop}
 use Rattle.number.specs.Decimal.{allDigits, value}
-use Rattle.token.specs.Token.{tokens, tokenAt}
+use Rattle.token.specs.Token.{tokens}
+use Rattle.token.specs.Code.Places.{tokenAt}
 use Rattle.expression.specs.declared.names.Found.{Found}
 use Rattle.expression.specs.declared.names.Found.the-variants as Found
 use Rattle.expression.specs.Parse.{lone}

@@ -5,7 +5,8 @@ use mathlib.Core.List.{List, _∷_}
 use mathlib.Core.Bool.{cond}
 use lib.Dec.{eqb, leb}
 use lib.ListN.{length, take, drop}
-use Rattle.token.specs.Token.{tokens, tokenAt, first}
+use Rattle.token.specs.Token.{tokens}
+use Rattle.token.specs.Code.Places.{tokenAt, first}
 use Rattle.expression.specs.Grammar.{levels}
 use Rattle.expression.specs.Parse.{lone}
 use Rattle.writer.specs.Code.Pieces.{Put, operatorsText}

@@ -4,7 +4,7 @@ use native.Mathlib.Omega.{arith}
 use borrow.Author.Tests.{not-true, not-false}
 use Rattle.expression.specs.declared.Parsed.{Parsed}
 use Rattle.expression.specs.Code.Table.{columns}
-use Rattle.expression.specs.Answer.{Answers}
+use Rattle.expression.specs.Code.Answers.{Answers}
 use Rattle.expression.proofs.Reading.{carry}
 use Rattle.expression.proofs.Meaning.{not-allowed, refused-answers, done-answers}
 use borrow.Author.Needs.{needs}

@@ -5,7 +5,8 @@ use mathlib.Core.Option.{Option, some, none}
 use Rattle.expression.specs.declared.figures.Value.{Value}
 use Rattle.expression.specs.declared.figures.Value.the-variants as Value
 use Rattle.expression.specs.declared.figures.Read.{Read}
-use Rattle.expression.specs.Tree.{Tree, applied, valueOf, kOf, pOf, lineOf, lenOf}
+use Rattle.expression.specs.Tree.{Tree, applied, valueOf, kOf, pOf}
+use Rattle.expression.specs.Code.Lengths.{lineOf, lenOf}
 use Rattle.expression.specs.Parse.{operator}
 
 abbrev pub optionOf : Value → Option ℕ

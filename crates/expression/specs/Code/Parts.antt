@@ -5,7 +5,8 @@ use mathlib.Core.Bool.{Bool, true, false, cond}
 use lib.Dec.{eqb, ltb}
 use lib.ListN.{length, drop}
 use Rattle.number.specs.Decimal.{value, decimal}
-use Rattle.token.specs.Token.{tokens, first, tokenAt}
+use Rattle.token.specs.Token.{tokens}
+use Rattle.token.specs.Code.Places.{first, tokenAt}
 use Rattle.expression.specs.declared.figures.Read.{Read}
 use Rattle.expression.specs.declared.figures.Value.{Value}
 use Rattle.expression.specs.declared.figures.Value.the-variants.{Is, None}

@@ -11,7 +11,8 @@ use Rattle.expression.specs.declared.Bindings.{Bindings}
 use Rattle.expression.specs.declared.Values.{Values}
 use Rattle.expression.specs.declared.names.Found.{Found}
 use Rattle.expression.specs.declared.names.Found.the-variants.{At, Nothing}
-use Rattle.expression.specs.Tree.{valueOf, kOf, pOf, lenOf}
+use Rattle.expression.specs.Tree.{valueOf, kOf, pOf}
+use Rattle.expression.specs.Code.Lengths.{lenOf}
 use Rattle.expression.specs.Parse.{Binding, Env}
 
 -- the tag of a name: a byte made of its first byte and its last two, which most names differ in

@@ -5,7 +5,7 @@ use mathlib.Core.Path.{_≡_, ap, sym, _∙_}
 use native.Mathlib.Omega.{arith}
 use lib.ListN.{getD}
 use denote.Ref.{now}
-use Rattle.lines.specs.Cursor.{feedFrom}
+use Rattle.lines.specs.Code.Visits.{feedFrom}
 use Rattle.lines.proofs.Cursor.{bare, returned, plain}
 use borrow.Author.Needs.{needs}
 use Rattle.lines.proofs.before_return.Statement.{statement}

@@ -5,7 +5,8 @@ use mathlib.Core.Path.{_≡_, refl, sym, ap, ap₂, _∙_}
 use native.Mathlib.Omega.{arith}
 use lib.ListN.{length}
 use denote.Ref.{now}
-use Rattle.lines.specs.Cursor.{feedFrom, lineAt}
+use Rattle.lines.specs.Cursor.{lineAt}
+use Rattle.lines.specs.Code.Visits.{feedFrom}
 use Rattle.lines.specs.declared.Line.{Line}
 use Rattle.lines.specs.declared.Step.the-variants.{Next}
 use Rattle.lines.proofs.Cursor.{feed-bounds, line-here, line-done, unended, ended}

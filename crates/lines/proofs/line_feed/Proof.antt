@@ -3,7 +3,7 @@
 use mathlib.Core.Path.{sym, ap, _∙_}
 use lib.ListN.{length}
 use denote.Ref.{now}
-use Rattle.lines.specs.Cursor.{placeOr}
+use Rattle.lines.specs.Code.Visits.{placeOr}
 use borrow.Author.Needs.{needs}
 use Rattle.lines.proofs.line_feed.Statement.{statement}
 use Rattle.lines.proofs.line_feed.Tie as tie

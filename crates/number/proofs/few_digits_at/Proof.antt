@@ -6,7 +6,8 @@ use native.Mathlib.Omega.{arith}
 use borrow.Author.Tests.{ltb-true, ltb-false, not-true, not-false}
 use lib.ListN.{length, getD, drop}
 use denote.Ref.{now}
-use Rattle.number.specs.Decimal.{digit, digits, value, valueFrom, capped}
+use Rattle.number.specs.Decimal.{digit, digits, value, valueFrom}
+use Rattle.number.specs.Code.Digits.{capped}
 use Rattle.number.proofs.Runs.{digitsEnd, DigitAt, digit-at, end-more, end-none, value-more, value-none, fitting, over, answer}
 use borrow.Author.Needs.{needs}
 use Rattle.number.proofs.few_digits_at.Statement.{statement}

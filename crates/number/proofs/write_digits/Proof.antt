@@ -2,7 +2,8 @@
 use mathlib.Core.Path.{_≡_, refl, sym, _∙_}
 use native.Mathlib.Omega.{arith}
 use lib.ListN.{length, length-set}
-use Rattle.number.specs.Decimal.{decimal, put}
+use Rattle.number.specs.Decimal.{decimal}
+use Rattle.number.specs.Code.Digits.{put}
 use Rattle.number.proofs.Decimal.{length-positive}
 use Rattle.number.proofs.Buffer.{Ends, left-one, left-two, put-one, put-more, ends-more, put-two, ends-two}
 use borrow.Author.Needs.{needs}

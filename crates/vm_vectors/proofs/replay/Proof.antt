@@ -5,7 +5,7 @@ use mathlib.Core.Path.{_≡_, sym, _∙_}
 use native.Mathlib.Omega.{arith}
 use lib.ListN.{length}
 use denote.Ref.{now}
-use Rattle.lines.specs.Cursor.{IsLine}
+use Rattle.lines.specs.Code.Visits.{IsLine}
 use Rattle.lines.proofs.Cursor.{step-line}
 use borrow.Author.Needs.{needs}
 use Rattle.vm_vectors.proofs.replay.Statement.{statement}

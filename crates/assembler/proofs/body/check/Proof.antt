@@ -5,7 +5,7 @@ use native.Mathlib.Omega.{arith}
 use lib.ListN.{take}
 use lib.Seq.{length-take-le}
 use denote.Ref.{now}
-use Rattle.expression.specs.Answer.{EndsLast}
+use Rattle.expression.specs.Code.Answers.{EndsLast}
 use Rattle.assembler.proofs.Checking.{check-refused, check-long, check-done}
 use borrow.Author.Needs.{needs}
 use Rattle.assembler.proofs.body.check.Statement.{statement}

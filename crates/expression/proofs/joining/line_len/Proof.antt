@@ -4,7 +4,7 @@ use mathlib.Core.Path.{_≡_}
 use native.Mathlib.Omega.{arith}
 use lib.Dec.{eqb}
 use Rattle.byte.proofs.Tests.{by-bool}
-use Rattle.expression.specs.Tree.{lineOf}
+use Rattle.expression.specs.Code.Lengths.{lineOf}
 use Rattle.expression.specs.Parse.{operator}
 use borrow.Author.Needs.{needs}
 use Rattle.expression.proofs.joining.line_len.Statement.{statement}

@@ -1,0 +1,38 @@
+-- The lines that a cursor visits.
+use Prim.Native.Nat.{ℕ, zero, suc, _-_, _<_, _≤_}
+use mathlib.Core.Path.{_≡_}
+use mathlib.Core.List.{List, [], _∷_}
+use lib.ListN.{length, getD, take, drop}
+use Rattle.search.specs.declared.Found.{Found}
+use Rattle.search.specs.declared.Found.the-variants.{At, Nothing}
+use Rattle.search.specs.First.{firstAt}
+use Rattle.lines.specs.Lines.{lines}
+use Rattle.lines.specs.declared.Line.{Line}
+use Rattle.lines.specs.declared.Step.the-variants.{Next, Done}
+use Rattle.lines.specs.Cursor.{lineAt}
+
+abbrev pub placeOr : ℕ → Found → ℕ
+placeOr n (At i) = i
+placeOr n Nothing = n
+
+-- the place of the first line feed at or after a place, or the text's end where there is none
+abbrev pub feedFrom : List ℕ → ℕ → ℕ
+feedFrom s at = placeOr (length s) (firstAt (10 ∷ []) s at)
+
+-- the first of lines
+abbrev pub headOf : List (List ℕ) → List ℕ
+headOf ls = getD ls 0 []
+
+-- the lines that a cursor visits in at most n steps from a place on
+unfoldable pub visited : ℕ → List ℕ → ℕ → List (List ℕ)
+visited zero s at = []
+visited (suc n) s at = elim (lineAt s at) [ Next l ↦ take (l .end - l .start) (drop (l .start) s) ∷ visited n s (l .next) | Done ↦ [] ]
+
+-- the line at a place lies within the text, and the lines from that place on are it and the lines from the next place on
+pub record IsLine (s : List ℕ) (at : ℕ) (l : Line) : Type 0 where
+  pub starts : l .start ≡ at
+  pub ends : at ≤ l .end
+  pub on : at < l .next
+  pub before : l .end ≤ l .next
+  pub fits : l .next ≤ length s
+  pub is : lines (drop at s) ≡ take (l .end - at) (drop at s) ∷ lines (drop (l .next) s)

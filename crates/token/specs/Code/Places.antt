@@ -1,0 +1,31 @@
+-- Tokens by their places in a text.
+use Prim.Native.Nat.{ℕ, suc, _+_}
+use mathlib.Core.List.{List, [], _∷_}
+use mathlib.Core.Bool.{Bool, cond, _&&_}
+use lib.Dec.{eqb}
+use lib.ListN.{length, drop}
+use Rattle.token.specs.declared.Token.{Token}
+use Rattle.token.specs.Token.{space, tokens}
+
+-- the first token; empty where there is none
+abbrev pub first : List (List ℕ) → List ℕ
+first [] = []
+first (w ∷ ts) = w
+
+-- the bytes that a text starts with and that pass a test
+abbrev pub run : (ℕ → Bool) → List ℕ → List ℕ
+run test [] = []
+run test (a ∷ s) = let more = a ∷ run test s in cond (test a) more []
+
+-- where the first token from a place on starts
+abbrev pub startAt : List ℕ → ℕ → ℕ
+startAt s at = at + length (run space (drop at s))
+
+-- the first token from a place on; start and end are the text's end where there is none
+abbrev pub tokenAt : List ℕ → ℕ → Token
+tokenAt s at = record { start = startAt s at; end = startAt s at + length (first (tokens (drop at s))) }
+
+-- where the last token of a text ends
+abbrev pub lastEnd : List ℕ → ℕ
+lastEnd [] = 0
+lastEnd (a ∷ s) = let n = lastEnd s in cond (eqb n 0 && space a) 0 (suc n)
