@@ -1,19 +1,19 @@
 -- What a call gives, told by its number and the eight words.
 use Prim.Native.Nat.{ℕ, _+_, _-_, _≤_}
-use mathlib.Core.Path.{_≡_, sym, ap, _∙_}
+use mathlib.Core.Path.{_≡_, sym, ap, ap₂, _∙_}
 use mathlib.Core.List.{List, [], _∷_}
 use native.Mathlib.Omega.{arith}
 use lib.ListN.{length, take, drop}
 use Rattle.numbered.specs.declared.Numbered.{Numbered}
 use Rattle.numbered.specs.Numbered.{plain, carrying}
 use Rattle.lines.specs.declared.Line.{Line}
-use Rattle.lines.specs.declared.Step.{Step}
 use Rattle.lines.specs.declared.Step.the-variants.{Next, Done}
 use Rattle.trim.specs.Trim.{trimmed, passed}
 use Rattle.source.specs.declared.parameters.Span.{Span}
 use Rattle.source.specs.Code.Cursor.{trimmedSpan}
-use Rattle.ops.specs.Ops.{lineNumbered}
-use Rattle.atc_vm.specs.Calls.{placeIn, placeNumbered}
+use Rattle.ops.specs.Code.Numbered.{lineNumbered}
+use Rattle.ops.proofs.Reached.{numbered-text, numbered-place, numbered-none, none-place}
+use Rattle.atc_vm.specs.Calls.{placeNumbered}
 use Rattle.atc_vm.specs.Words.{Tells}
 
 -- m is the number of x, which is y
@@ -25,7 +25,7 @@ told of e p t = record {
 
 -- the line of a number
 pub none-told : (text : List ℕ) (n : ℕ) {m : Numbered} {words : List ℕ} {r : ℕ} → lineNumbered text n ≡ Done → m ≡ plain 0 → Tells m words r → Tells (placeNumbered text n) words r
-none-told text n e p t = told (λ (x : Step). carrying 0 (placeIn text x)) (sym e) p t
+none-told text n e p t = told (carrying 0) (ap₂ (λ (a b : ℕ). a ∷ b ∷ []) (sym (none-place text n e)) (sym (ap length (numbered-none text n e)))) p t
 
 pub line-told : (text : List ℕ) (n : ℕ) {m : Numbered} {words : List ℕ} {r : ℕ} {l : Line} {p : Span} {a b : ℕ} → lineNumbered text n ≡ Next l → p ≡ trimmedSpan (take (l .end - l .start) (drop (l .start) text)) → a ≡ l .start + p .start → b ≡ p .end - p .start → m ≡ carrying 0 (a ∷ b ∷ []) → Tells m words r → Tells (placeNumbered text n) words r
 line-told text n {m} {words} {r} {l} {p} {a} {b} e q f g h t =
@@ -34,7 +34,7 @@ line-told text n {m} {words} {r} {l} {p} {a} {b} e q f g h t =
     let v : p .end ≡ passed line + length (trimmed line) = ap (λ (x : Span). x .end) q in
     let w : b ≡ length (trimmed line) = omega (arith, g, u, v) in
     let y : a ≡ l .start + passed line = omega (arith, f, u) in
-    told (λ (x : Step). carrying 0 (placeIn text x)) (sym e) (h ∙ cc (w, y)) t
+    told (carrying 0) (ap₂ (λ (a b : ℕ). a ∷ b ∷ []) (y ∙ sym (numbered-place text n l e)) (w ∙ ap length (numbered-text text n l e))) h t
 
 pub span-inside : (s : List ℕ) {p : Span} → p ≡ trimmedSpan s → (p .start ≤ length s) × (p .start ≤ p .end)
 span-inside s {p} q =

@@ -1,14 +1,11 @@
 -- What each exported call gives: document 01's number, the eight words, and every lent buffer.
-use Prim.Native.Nat.{ℕ, _+_, _-_, min}
+use Prim.Native.Nat.{ℕ, min}
 use mathlib.Core.Path.{_≡_}
 use mathlib.Core.List.{List, [], _∷_}
-use lib.ListN.{length, take, drop}
+use lib.ListN.{length}
 use Rattle.numbered.specs.declared.Numbered.{Numbered}
 use Rattle.numbered.specs.Numbered.{carrying}
-use Rattle.lines.specs.declared.Step.{Step}
-use Rattle.lines.specs.declared.Step.the-variants.{Next, Done}
-use Rattle.trim.specs.Trim.{trimmed, passed}
-use Rattle.ops.specs.Ops.{readText, answerOf, opsOf, kindsOf, operandsOf, onto, lineNumbered}
+use Rattle.ops.specs.Ops.{readText, answerOf, opsOf, kindsOf, operandsOf, onto, trimmedLine, trimmedPlace}
 use Rattle.ops.specs.Numbers.{parsedOpsNumbered}
 use Rattle.assembler.specs.Output.{Assembly, assemblyNumbered}
 use Rattle.perform.specs.Numbers.{answerNumbered}
@@ -24,15 +21,9 @@ pub record Read (text kinds operands kindsAfter operandsAfter words : List ℕ) 
   pub kindsWritten : kindsAfter ≡ onto (kindsOf (opsOf (readText text (min (length kinds) (length operands))))) kinds
   pub operandsWritten : operandsAfter ≡ onto (operandsOf (opsOf (readText text (min (length kinds) (length operands))))) operands
 
--- the place and the length of a line's trimmed text; none where there is no such line
-abbrev pub placeIn : List ℕ → Step → List ℕ
-placeIn text Done = []
-placeIn text (Next l) =
-    let line = take (l .end - l .start) (drop (l .start) text) in
-    (l .start + passed line) ∷ length (trimmed line) ∷ []
-
+-- the place and the length of a line's trimmed text; 0 and 0 where there is no such line
 abbrev pub placeNumbered : List ℕ → ℕ → Numbered
-placeNumbered text line = carrying 0 (placeIn text (lineNumbered text line))
+placeNumbered text line = carrying 0 (trimmedPlace text line ∷ length (trimmedLine text line) ∷ [])
 
 pub record Ran (t : Result) (stack work storage words : List ℕ) (r : ℕ) : Type 0 where
   pub tells : Tells (answerNumbered (t .answer)) words r

@@ -2,14 +2,13 @@
 use Prim.Native.Nat.{ℕ, zero, suc, _+_, _-_, min}
 use mathlib.Core.Path.{_≡_}
 use mathlib.Core.List.{List, [], _∷_, _++_, map}
-use mathlib.Core.Bool.{cond}
-use lib.ListN.{length, getD, take, drop}
+use mathlib.Core.Bool.{cond, _&&_}
+use lib.Dec.{leb}
+use lib.ListN.{length, getD, drop}
 pub use Rattle.kinds.specs.Kinds.{Operation}
 use Rattle.utf8.specs.Utf8.{utf8}
 use Rattle.lines.specs.Lines.{lines}
-use Rattle.lines.specs.Cursor.{span, lineAt}
-use Rattle.lines.specs.declared.Step.{Step}
-use Rattle.lines.specs.declared.Step.the-variants.{Next, Done}
+use Rattle.lines.specs.Cursor.{span}
 use Rattle.trim.specs.Trim.{trimmed, passed}
 use Rattle.kinds.specs.Kinds.{Operation, operation}
 use Rattle.ops.specs.Line.{Rule, fromStr, lineOf}
@@ -100,18 +99,6 @@ nthLine (suc n) ls = getD ls n []
 abbrev pub trimmedLine : List ℕ → ℕ → List ℕ
 trimmedLine text n = cond (utf8 text) (trimmed (nthLine n (lines text))) []
 
--- where it stands
-abbrev pub nthStep : ℕ → List ℕ → Step
-nthStep zero text = Done
-nthStep (suc n) text = lineAt text (startOf n text)
-
-abbrev pub lineNumbered : List ℕ → ℕ → Step
-lineNumbered text n = cond (utf8 text) (nthStep n text) Done
-
--- where its trimmed text starts; 0 where there is no such line
-abbrev pub trimmedFrom : List ℕ → Step → ℕ
-trimmedFrom text (Next l) = l .start + passed (take (l .end - l .start) (drop (l .start) text))
-trimmedFrom text Done = 0
-
+-- where that text starts; 0 where the text is not UTF-8 or has no such line
 abbrev pub trimmedPlace : List ℕ → ℕ → ℕ
-trimmedPlace text n = trimmedFrom text (lineNumbered text n)
+trimmedPlace text n = cond (utf8 text && leb n (length (lines text))) (startOf (n - 1) text + passed (nthLine n (lines text))) 0

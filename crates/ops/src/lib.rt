@@ -17,7 +17,8 @@ ghost use Prim.Native.Nat.{min};
 ghost use Rattle.byte.specs.Part.{Part};
 ghost use Rattle.ops.specs.Line.{fromStr};
 ghost use Rattle.ops.specs.Numbers.{opsErrorNumbered, parsedOpsNumbered};
-ghost use Rattle.ops.specs.Ops.{Parsed, trimmedLine, trimmedPlace, lineNumbered};
+ghost use Rattle.ops.specs.Ops.{Parsed, trimmedLine, trimmedPlace};
+ghost use Rattle.ops.specs.Code.Numbered.{lineNumbered};
 ghost use Rattle.ops.specs.Code.Passes.{Good, Passed};
 
 // Lines are counted from 1. Places count bytes from 0 in the whole text.

@@ -9,7 +9,8 @@ use denote.Ref.{now}
 use Rattle.lines.specs.Cursor.{lineAt}
 use Rattle.lines.specs.declared.Line.{Line}
 use Rattle.lines.proofs.Cursor.{line-done}
-use Rattle.ops.specs.Ops.{startOf, lineNumbered}
+use Rattle.ops.specs.Ops.{startOf}
+use Rattle.ops.specs.Code.Numbered.{lineNumbered}
 use Rattle.ops.proofs.Reached.{is-from, is-past, one-further, no-number, numbered}
 use borrow.Author.Needs.{needs}
 use Rattle.ops.proofs.nth_line.Statement.{statement}

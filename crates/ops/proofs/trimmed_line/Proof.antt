@@ -1,10 +1,9 @@
 -- `ops::trimmed_line` meets its contract: the line of the number, trimmed.
 -- Assumes nothing.
-use mathlib.Core.Path.{refl, sym, ap, _∙_}
+use mathlib.Core.Path.{refl, sym, _∙_}
 use native.Mathlib.Omega.{arith}
 use denote.Ref.{now}
-use Rattle.ops.specs.Ops.{trimmedFrom}
-use Rattle.ops.proofs.Reached.{numbered-line, numbered-text, numbered-none}
+use Rattle.ops.proofs.Reached.{numbered-line, numbered-text, numbered-place, numbered-none, none-place}
 use borrow.Author.Needs.{needs}
 use Rattle.ops.proofs.trimmed_line.Statement.{statement}
 use Rattle.ops.proofs.trimmed_line.Tie as tie
@@ -60,14 +59,14 @@ returns c =
     let n = c .before .before .before .before .before .before .before .args .line in
     let e = sym (c .before .before .before .before .before .nth-line .ensures) ∙ c .before .before .before .step .given .1 in
     let t = c .trim .ensures in
-    record { text = t .text ∙ numbered-text text n _ e; block = t .block; offset = omega (arith, t .offset, ap (trimmedFrom text) e) }
+    record { text = t .text ∙ numbered-text text n _ e; block = t .block; offset = omega (arith, t .offset, numbered-place text n _ e) }
 
 returns-2 : tie.Need-returns-2
 returns-2 c =
     let text = now (c .before .before .before .before .before .args .text) in
     let n = c .before .before .before .before .before .args .line in
     let e = sym (c .before .before .before .nth-line .ensures) ∙ c .before .enum-told .given .1 in
-    record { text = sym (numbered-none text n e); block = refl; offset = omega (arith, ap (trimmedFrom text) e) }
+    record { text = sym (numbered-none text n e); block = refl; offset = omega (arith, none-place text n e) }
 
 pub trimmed-line-spec : {M : Type 1} → statement M
 trimmed-line-spec =
