@@ -2,20 +2,17 @@
 use Prim.Native.Nat.{ℕ, suc, _+_, _<_}
 use mathlib.Core.Path.{_≡_}
 use mathlib.Core.List.{List, [], _∷_, _++_}
-use mathlib.Core.Bool.{Bool, true, false, cond, _&&_}
+use mathlib.Core.Bool.{Bool, cond, not, _&&_}
 use lib.Dec.{eqb}
 use lib.ListN.{length, getD}
 use Rattle.search.specs.First.{prefixOf}
-use Rattle.kinds.specs.Kinds.{Operand, none, value, slot, target, Kind, kinds, kindOf}
+use Rattle.kinds.specs.Kinds.{Operand, none, Kind, kinds, kindOf, code}
 use Rattle.ops.specs.declared.kind.Parted.{Parted}
 use Rattle.ops.specs.declared.kind.Parted.the-variants.{Alone, Before, Unknown}
 
--- whether an operand follows the word, by what it is
+-- whether an operand follows the word: one does unless it is of the sort none
 abbrev pub follows : Operand → Bool
-follows none = false
-follows value = true
-follows slot = true
-follows target = true
+follows operand = not (eqb (code operand) (code none))
 
 -- a kind's word, and behind it a space and digits where an operand follows
 abbrev pub lineWith : ℕ → List ℕ → List ℕ
