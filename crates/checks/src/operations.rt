@@ -121,7 +121,8 @@ fn is_bad(kind: u8, operand: u64, size: usize) -> bool
 // The check from a place on, by one operation after the other.
 fn verify_from(kinds: &[u8], operands: &[u64], from: usize) -> Check
     requires { ⌜ (length (now kinds) ≡ length (now operands)) × (from ≤ length (now kinds)) ⌝ }
-    ensures { λ r. ⌜ r ≡ operationsCheck (length (now (kinds .entry))) (drop from (now (kinds .entry))) (drop from (now (operands .entry))) ⌝ }
+    ensures { λ r. ⌜ r ≡ operationsCheck (length (now (kinds .entry)))
+        (drop from (now (kinds .entry))) (drop from (now (operands .entry))) ⌝ }
 {
     let size = kinds.len();
     let mut i = from;

@@ -52,7 +52,7 @@ impl Answer {
 
 // The calls of crate `vm` come here behind their test of lengths (34) and the verifier. Where the program has more operations
 // than an eighth of the used slots, to look at it is no gain over copying them all. The loop is called at two places, so that LLVM
-// leaves it a function of its own: inlined into this one it was slower by a sixth.
+// leaves it a function of its own, which is faster than inlined into this one.
 pub fn run(
     kinds: &[u8],
     operands: &[u64],

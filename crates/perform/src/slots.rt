@@ -12,7 +12,8 @@ use super::buffers;
 // All the used slots, or those that a short program names.
 fn copy_needed(d: &mut [u64], s: &[u64], kinds: &[u8], operands: &[u64], used: usize)
     requires { ⌜ (length (now kinds) ≡ length (now operands)) × (used ≤ length (now d)) × (used ≤ length (now s)) ⌝ }
-    ensures { λ _. ⌜ Copied (λ j. needed (now (kinds .entry)) (now (operands .entry)) used j && ltb j used) (now (s .entry)) (now (d .entry)) (now (d .exit)) ⌝ }
+    ensures { λ _. ⌜ Copied (λ j. needed (now (kinds .entry)) (now (operands .entry)) used j && ltb j used)
+        (now (s .entry)) (now (d .entry)) (now (d .exit)) ⌝ }
 {
     if kinds.len() > used / 8 {
         buffers::copy_part(d, s, 0, used);
@@ -24,7 +25,8 @@ fn copy_needed(d: &mut [u64], s: &[u64], kinds: &[u8], operands: &[u64], used: u
 // Those that a run may have changed: none where the program has no Store.
 pub fn copy_changed(d: &mut [u64], s: &[u64], kinds: &[u8], operands: &[u64], used: usize)
     requires { ⌜ (length (now kinds) ≡ length (now operands)) × (used ≤ length (now d)) × (used ≤ length (now s)) ⌝ }
-    ensures { λ _. ⌜ Copied (λ j. changed (now (kinds .entry)) (now (operands .entry)) used j && ltb j used) (now (s .entry)) (now (d .entry)) (now (d .exit)) ⌝ }
+    ensures { λ _. ⌜ Copied (λ j. changed (now (kinds .entry)) (now (operands .entry)) used j && ltb j used)
+        (now (s .entry)) (now (d .entry)) (now (d .exit)) ⌝ }
 {
     if has_store(kinds) {
         copy_needed(d, s, kinds, operands, used);
@@ -46,7 +48,8 @@ fn has_store(kinds: &[u8]) -> bool
 // Only the slots that the program names.
 pub fn copy_named(d: &mut [u64], s: &[u64], kinds: &[u8], operands: &[u64], used: usize)
     requires { ⌜ (length (now kinds) ≡ length (now operands)) × (used ≤ length (now d)) × (used ≤ length (now s)) ⌝ }
-    ensures { λ _. ⌜ Copied (λ j. named (now (kinds .entry)) (now (operands .entry)) (length (now (kinds .entry))) j && ltb j used) (now (s .entry)) (now (d .entry)) (now (d .exit)) ⌝ }
+    ensures { λ _. ⌜ Copied (λ j. named (now (kinds .entry)) (now (operands .entry)) (length (now (kinds .entry))) j && ltb j used)
+        (now (s .entry)) (now (d .entry)) (now (d .exit)) ⌝ }
 {
     let mut i: usize = 0;
     while i < kinds.len() {
@@ -58,7 +61,8 @@ pub fn copy_named(d: &mut [u64], s: &[u64], kinds: &[u8], operands: &[u64], used
 // The slot that one operation names, if it names one and that is used.
 fn copy_slot(d: &mut [u64], s: &[u64], kind: u8, operand: u64, used: usize)
     requires { ⌜ (used ≤ length (now d)) × (used ≤ length (now s)) ⌝ }
-    ensures { λ _. ⌜ Copied (λ j. names (operation kind operand) j && ltb j used) (now (s .entry)) (now (d .entry)) (now (d .exit)) ⌝ }
+    ensures { λ _. ⌜ Copied (λ j. names (operation kind operand) j && ltb j used)
+        (now (s .entry)) (now (d .entry)) (now (d .exit)) ⌝ }
 {
     let slot = operand as usize;
     if byte::either(kind == 11, kind == 12) {

@@ -24,7 +24,8 @@ lengthsCheck x =
 
 -- what is tested before the run: the lengths, what the call asks before the verifier, the verifier, what it asks behind it
 abbrev pub checksOf : (before behind : Check) → Call → Check
-checksOf before behind x = andThen (lengthsCheck x) (andThen before (andThen (verifyOf (x .kinds) (x .operands) (x .state .used)) behind))
+checksOf before behind x =
+    andThen (lengthsCheck x) (andThen before (andThen (verifyOf (x .kinds) (x .operands) (x .state .used)) behind))
 
 abbrev pub afterCheck : Check → Call → Result → Result
 afterCheck check.Passed x r = r
