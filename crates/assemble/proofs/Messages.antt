@@ -5,14 +5,14 @@ use mathlib.Core.List.{List, [], _∷_, _++_}
 use mathlib.Core.Bool.{Bool, true, cond}
 use native.Mathlib.Omega.{arith}
 use lib.ListN.{length, getD, length-append}
-use Rattle.byte.specs.Range.{within}
-use Rattle.byte.proofs.Tests.{by-bool, inside, below, above}
+use Rattle.base.specs.Range.{within}
+use Rattle.base.proofs.Tests.{by-bool, inside, below, above}
 use Rattle.utf8.specs.Utf8.{utf8}
 use Rattle.lines.specs.Lines.{lines}
 use Rattle.trim.specs.Trim.{trimmed}
-use Rattle.number.specs.Decimal.{decimal}
-use Rattle.number.proofs.Decimal.{length-word}
-use Rattle.byte.specs.Ascii.{ascii}
+use Rattle.decimal.specs.Decimal.{decimal}
+use Rattle.decimal.proofs.Laws.{length-word}
+use Rattle.base.specs.Ascii.{ascii}
 use Rattle.ops.specs.Ops.{nthLine, trimmedLine}
 use Rattle.assemble.specs.Message.{words, wordsOf, keyText, carriedText, messageOf}
 

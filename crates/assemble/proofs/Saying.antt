@@ -6,16 +6,16 @@ use native.Mathlib.Omega.{arith}
 use lib.Dec.{leb}
 use lib.ListN.{length, getD, take, drop, length-append}
 use lib.Seq.{take-at}
-use Rattle.byte.proofs.Tests.{by-bool}
-use Rattle.assembler.specs.declared.refusal.Refusal.{Refusal}
-use Rattle.assembler.specs.Numbers.{refusalNumbered}
+use Rattle.base.proofs.Tests.{by-bool}
+use Rattle.contract.specs.declared.refusal.Refusal.{Refusal}
+use Rattle.contract.specs.Numbers.{refusalNumbered}
 use Rattle.numbered.specs.Outcome.{Outcome, is, refused}
 use Rattle.expression.specs.Tree.{Tree}
-use Rattle.assembler.specs.Assembled.{assembledTree}
-use Rattle.assembler.specs.Output.{Answer, success, refusal, Assembly, stemFits, output, named, assembled}
-use Rattle.assembly.specs.declared.Answer as assembly
-use Rattle.assembly.specs.declared.Answer.the-variants.{Success, Refused}
-use Rattle.assembly.specs.Answers.{answerOf, Assembles}
+use Rattle.contract.specs.Assembled.{assembledTree}
+use Rattle.contract.specs.Output.{Answer, success, refusal, Assembly, stemFits, output, named, assembled}
+use Rattle.assembler.specs.declared.Answer as assembly
+use Rattle.assembler.specs.declared.Answer.the-variants.{Success, Refused}
+use Rattle.assembler.specs.Answers.{answerOf, Assembles}
 use Rattle.pieces.specs.Code.Added.{Added}
 use Rattle.pieces.proofs.Adding.{added-fits, whole}
 use Rattle.assemble.specs.declared.say.Said.{Said}

@@ -3,9 +3,9 @@ use Prim.Native.Nat.{ℕ, zero, suc}
 use mathlib.Core.List.{List, [], _∷_, _++_}
 use mathlib.Core.Bool.{cond}
 use lib.ListN.{getD}
-use Rattle.byte.specs.Range.{within}
-use Rattle.number.specs.Decimal.{decimal}
-use Rattle.byte.specs.Ascii.{ascii}
+use Rattle.base.specs.Range.{within}
+use Rattle.decimal.specs.Decimal.{decimal}
+use Rattle.base.specs.Ascii.{ascii}
 use Rattle.ops.specs.Ops.{nthLine}
 use Rattle.numbered.specs.declared.Numbered.{Numbered}
 

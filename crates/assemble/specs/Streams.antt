@@ -3,7 +3,7 @@ use Prim.Native.Nat.{ℕ, _≤_}
 use mathlib.Core.Path.{_≡_}
 use mathlib.Core.List.{List, []}
 use lib.ListN.{length, take}
-use Rattle.assembler.specs.Output.{Answer, success, refusal, Assembly}
+use Rattle.contract.specs.Output.{Answer, success, refusal, Assembly}
 use Rattle.assemble.specs.declared.say.Said.{Said}
 use Rattle.assemble.specs.declared.say.Said.the-variants.{Text, Message}
 use Rattle.assemble.specs.Message.{refusalMessage}

@@ -1,10 +1,10 @@
 // What the program makes of a contract and its vector.
 ghost use Prim.Native.Nat.{_≤_};
 ghost use lib.ListN.{length};
-ghost use Rattle.assembler.specs.Output.{assembled};
+ghost use Rattle.contract.specs.Output.{assembled};
 ghost use Rattle.assemble.specs.Streams.{Says};
 use crate::message::message;
-use assembly::Answer;
+use assembler::Answer;
 
 // How many bytes of a buffer are ops text for standard output, or a message for standard error.
 pub enum Said {
@@ -18,7 +18,7 @@ pub fn say(contract: &[u8], vector: &[u8], stem: &[u8], out: &mut [u8]) -> Said
     ensures { λ r. ⌜ Says (assembled (now (contract .entry)) (now (vector .entry)) (now (stem .entry)) (length (now (out .entry))))
         r (now (out .exit)) ⌝ }
 {
-    let answer = assembly::assemble(contract, vector, stem, out);
+    let answer = assembler::assemble(contract, vector, stem, out);
     match answer {
         Answer::Refused(why) => {
             let refusal = why.numbered();

@@ -1,9 +1,2 @@
-pub mod Part
-pub mod Statement
-pub mod State
-pub mod Parameters
-pub mod Body
-pub mod Assembled
-pub mod Numbers
-pub mod Output
+pub mod Answers
 pub mod Code

@@ -1,8 +1,62 @@
-// The assembler: a contract and its vector, up to the tree that is written out.
-pub mod assembly;
-mod body;
-mod parameters;
-pub mod refusal;
-pub mod state;
-mod statement;
-mod table;
+// Assembly: a contract and its vector to ops text in a lent buffer.
+ghost use mathlib.Core.Path.{_≡_};
+ghost use lib.ListN.{length};
+ghost use Rattle.contract.specs.Output.{assembled, assemblyNumbered};
+ghost use Rattle.assembler.specs.Answers.{answerOf, Assembles};
+
+mod header;
+mod output;
+mod stem;
+
+use contract::assembly::checked;
+use contract::refusal::Refusal;
+use contract::state::Status;
+use numbered::Numbered;
+use numbered::carrying_four;
+use output::write_output;
+use stem::stem_fits;
+
+// A success has the bytes written, k, p and the value.
+pub enum Answer {
+    Success {
+        written: usize,
+        k: u64,
+        p: u64,
+        value: u64,
+    },
+    Refused(Refusal),
+}
+
+impl Answer {
+    pub fn numbered(self) -> Numbered
+        ensures { λ r. ⌜ r ≡ assemblyNumbered (answerOf self) ⌝ }
+    {
+        match self {
+            Answer::Success {
+                written,
+                k,
+                p,
+                value,
+            } => carrying_four(0, written as u64, k, p, value),
+            Answer::Refused(why) => why.numbered(),
+        }
+    }
+}
+
+// Nothing is written unless all of it fits.
+pub fn assemble(contract: &[u8], vector: &[u8], stem: &[u8], out: &mut [u8]) -> Answer
+    ensures { λ r. ⌜ Assembles (assembled (now (contract .entry)) (now (vector .entry)) (now (stem .entry)) (length (now (out .entry)))) (now (out .entry)) (now (out .exit)) r ⌝ }
+{
+    let assembly = checked(contract, vector);
+    let state = assembly.state;
+    let status = state.status;
+    match status {
+        Status::Refused(why) => Answer::Refused(why),
+        Status::Going => {
+            if !stem_fits(stem) {
+                return Answer::Refused(Refusal::BadStem);
+            }
+            write_output(contract, stem, assembly, out)
+        }
+    }
+}

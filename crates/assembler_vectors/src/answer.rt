@@ -1,5 +1,5 @@
 // What a call gives and leaves in the lent buffer, as text.
-use assembly::Answer;
+use assembler::Answer;
 use numbered::Numbered;
 
 pub fn print(r: Answer, out: &[u8]) {

@@ -4,7 +4,7 @@
 // became of the lent buffer past the output (`kept` or `changed`), then on success the output.
 mod answer;
 
-use number::Number;
+use decimal::Number;
 ghost use Prim.Native.Nat.{_≤_};
 ghost use lib.ListN.{length};
 
@@ -39,7 +39,7 @@ fn replay(input: &[u8]) {
 fn field(input: &[u8], from: usize, to: usize) -> usize
     requires { ⌜ (from ≤ to) × (to ≤ length (now input)) ⌝ }
 {
-    let number = number::from_str(&input[from..to]);
+    let number = decimal::from_str(&input[from..to]);
     match number {
         Number::Is(n) => n as usize,
         Number::Invalid => 0,
@@ -59,6 +59,6 @@ fn end_of(input: &[u8], from: usize, len: usize) -> usize
 
 fn case(contract: &[u8], vector: &[u8], stem: &[u8]) {
     let mut out = [170u8; 16384];
-    let r = assembly::assemble(contract, vector, stem, &mut out);
+    let r = assembler::assemble(contract, vector, stem, &mut out);
     answer::print(r, &out);
 }

@@ -7,7 +7,7 @@ use Rattle.numbered.specs.declared.Numbered.{Numbered}
 use Rattle.numbered.specs.Numbered.{carrying}
 use Rattle.ops.specs.Ops.{readText, answerOf, opsOf, kindsOf, operandsOf, onto, trimmedLine, trimmedPlace}
 use Rattle.ops.specs.Numbers.{parsedOpsNumbered}
-use Rattle.assembler.specs.Output.{Assembly, assemblyNumbered}
+use Rattle.contract.specs.Output.{Assembly, assemblyNumbered}
 use Rattle.perform.specs.Numbers.{answerNumbered}
 use Rattle.perform.specs.Run.{Result}
 use Rattle.atc_vm.specs.Words.{Tells}

@@ -2,7 +2,7 @@
 ghost use mathlib.Core.Path.{_≡_};
 ghost use lib.ListN.{length};
 ghost use Rattle.context.specs.Gate.{gateOf, gateNumbered};
-ghost use Rattle.assembler.specs.Output.{assembled};
+ghost use Rattle.contract.specs.Output.{assembled};
 ghost use Rattle.checks.specs.Verify.{verifyOf};
 ghost use Rattle.checks.specs.Numbers.{checkNumbered};
 ghost use Rattle.vm.specs.Transition.{meteredOf, transitionOf};
@@ -34,7 +34,7 @@ pub extern "C" fn atc_assemble(
     ensures { λ r. ⌜ Assembled (assembled (now (contract .entry)) (now (vector .entry)) (now (stem .entry)) (length (now (out .entry))))
         (now (out .entry)) (now (out .exit)) (now (answer .exit)) r ⌝ }
 {
-    let assembled = assembly::assemble(contract, vector, stem, out);
+    let assembled = assembler::assemble(contract, vector, stem, out);
     tell(answer, assembled.numbered())
 }
 

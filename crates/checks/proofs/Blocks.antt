@@ -9,7 +9,7 @@ use mathlib.Core.Bool.{Bool, true, false, cond, _&&_, _||_}
 use lib.Dec.{eqb, leb, ltb}
 use lib.ListN.{length, getD, drop}
 use borrow.Author.Tests.{lt-ltb, le-leb, eqb-false, ltb-false}
-use Rattle.byte.proofs.Tests.{never, by-leb}
+use Rattle.base.proofs.Tests.{never, by-leb}
 use Rattle.kinds.specs.Kinds.{target, takes, operation}
 use Rattle.checks.specs.declared.Check.the-variants.{Passed}
 use Rattle.checks.specs.Verify.{targetFits, operationCheck, operationsCheck}

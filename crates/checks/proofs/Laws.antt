@@ -5,7 +5,7 @@ use mathlib.Core.List.{List}
 use mathlib.Core.Bool.{true}
 use borrow.Author.Tests.{ne-eqb}
 use lib.ListN.{length, getD, drop, drop-of-length-le}
-use Rattle.byte.proofs.Parts.{next}
+use Rattle.base.proofs.Parts.{next}
 use Rattle.kinds.specs.Kinds.{operation}
 use Rattle.kinds.proofs.ByKind.{takes-target}
 use Rattle.checks.specs.declared.Check.{Check}

@@ -6,7 +6,7 @@ use lib.ListN.{length}
 use lib.Dec.{eqb, leb, ltb}
 use Rattle.context.specs.declared.Gate.{Gate}
 use Rattle.context.specs.declared.Gate.the-variants as gate
-use Rattle.byte.specs.Need.{need}
+use Rattle.base.specs.Need.{need}
 use Rattle.kinds.specs.Kinds.{target, takes, Operation, operation}
 use Rattle.checks.specs.declared.Refusal.the-variants.{BufferLengths, Context, EmptyProgram, ProgramTooLarge, StorageTooLarge, UnknownKind, JumpOutOfRange}
 use Rattle.checks.specs.declared.Check.{Check}

@@ -76,9 +76,9 @@ pub fn buffers_fit(
 ) -> bool
     ensures { λ r. ⌜ r ≡ buffersFit kinds operands stack work storage used ⌝ }
 {
-    let program = byte::both(kinds == operands, stack >= 4096);
-    let slots = byte::both(work == storage, used <= storage);
-    byte::both(program, slots)
+    let program = base::both(kinds == operands, stack >= 4096);
+    let slots = base::both(work == storage, used <= storage);
+    base::both(program, slots)
 }
 
 pub fn verify(kinds: &[u8], operands: &[u64], used: usize) -> Check

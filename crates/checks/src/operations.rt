@@ -4,7 +4,7 @@ ghost use mathlib.Core.Bool.{false};
 ghost use Prim.Native.Nat.{ℕ, _+_, _<_, _≤_};
 ghost use lib.Dec.{ltb};
 ghost use lib.ListN.{length, getD, drop};
-ghost use Rattle.byte.specs.Need.{need};
+ghost use Rattle.base.specs.Need.{need};
 ghost use Rattle.kinds.specs.Kinds.{operation};
 ghost use Rattle.checks.specs.declared.Refusal.the-variants.{JumpOutOfRange};
 ghost use Rattle.checks.specs.declared.Check.the-variants as check;
@@ -64,7 +64,7 @@ fn has_far(kinds: &[u8], operands: &[u64], at: usize, n: usize) -> bool
 {
     let kind = has_above(kinds, at, n);
     let operand = has_from(operands, at, n, kinds.len());
-    byte::either(kind, operand)
+    base::either(kind, operand)
 }
 
 // Whether a kind above 15 is among the n from a place on.
@@ -75,7 +75,7 @@ fn has_above(kinds: &[u8], at: usize, n: usize) -> bool
     let mut hit = false;
     let mut k: usize = 0;
     while k < n {
-        hit = byte::either(hit, kinds[at + k] > 15);
+        hit = base::either(hit, kinds[at + k] > 15);
         k += 1;
     }
     hit
@@ -89,7 +89,7 @@ fn has_from(operands: &[u64], at: usize, n: usize, size: usize) -> bool
     let mut hit = false;
     let mut k: usize = 0;
     while k < n {
-        hit = byte::either(hit, operands[at + k] as usize >= size);
+        hit = base::either(hit, operands[at + k] as usize >= size);
         k += 1;
     }
     hit
@@ -104,7 +104,7 @@ fn has_bad(kinds: &[u8], operands: &[u64], at: usize, n: usize) -> bool
     let mut hit = false;
     let mut k: usize = 0;
     while k < n {
-        hit = byte::either(hit, is_bad(kinds[at + k], operands[at + k], size));
+        hit = base::either(hit, is_bad(kinds[at + k], operands[at + k], size));
         k += 1;
     }
     hit
@@ -114,8 +114,8 @@ fn has_bad(kinds: &[u8], operands: &[u64], at: usize, n: usize) -> bool
 fn is_bad(kind: u8, operand: u64, size: usize) -> bool
     ensures { λ r. ⌜ (r ≡ false → operationCheck size (operation kind operand) ≡ check.Passed) ⌝ }
 {
-    let jump = byte::either(byte::either(kind == 7, kind == 8), kind == 14);
-    byte::either(kind > 15, byte::both(jump, operand as usize >= size))
+    let jump = base::either(base::either(kind == 7, kind == 8), kind == 14);
+    base::either(kind > 15, base::both(jump, operand as usize >= size))
 }
 
 // The check from a place on, by one operation after the other.

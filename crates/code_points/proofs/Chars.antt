@@ -8,7 +8,7 @@ use native.Mathlib.Omega.{arith}
 use lib.Dec.{leb}
 use lib.ListN.{length, take, drop}
 use lib.Seq.{take-at, drop-append-seam}
-use Rattle.byte.proofs.Tests.{by-leb, inside, below, above}
+use Rattle.base.proofs.Tests.{by-leb, inside, below, above}
 use Rattle.utf8.specs.Utf8.{tail}
 use Rattle.utf8.specs.Encode.{encode, encodes, Valid}
 

@@ -4,7 +4,7 @@ use mathlib.Core.Path.{_≡_, refl, sym, ap, _∙_}
 use mathlib.Core.List.{List, [], _∷_, _++_, reverse, append-nil, append-assoc, reverse-cons, reverse-append}
 use borrow.Author.Tests.{le-leb, lt-leb}
 use native.Mathlib.Omega.{arith}
-use Rattle.byte.proofs.Tests.{by-leb}
+use Rattle.base.proofs.Tests.{by-leb}
 use Rattle.utf8.specs.Encode.{encode, encode2, encode3, encode4, encodes}
 
 -- what holds of the encodings of one byte, two, three and four holds of each encoding

@@ -7,7 +7,7 @@ use borrow.Author.Tests.{ne-eqb, le-leb}
 use native.Mathlib.Omega.{arith}
 use lib.Dec.{eqb}
 use lib.ListN.{length}
-use Rattle.byte.proofs.Tests.{between, by-leb, and-left, and-right, never}
+use Rattle.base.proofs.Tests.{between, by-leb, and-left, and-right, never}
 use Rattle.lines.specs.Lines.{front, feedNext, lines}
 use Rattle.lines.proofs.Laws.{lines-other, no-return, by-start}
 use Rattle.utf8.specs.Utf8.{tail}

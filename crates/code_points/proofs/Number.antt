@@ -7,10 +7,10 @@ use borrow.Author.Tests.{ne-eqb}
 use native.Mathlib.Omega.{arith}
 use lib.Dec.{ltb}
 use lib.ListN.{length}
-use Rattle.byte.proofs.Tests.{by-bool, by-leb, by-eqb, above, between, and-left, and-right}
+use Rattle.base.proofs.Tests.{by-bool, by-leb, by-eqb, above, between, and-left, and-right}
 use Rattle.utf8.specs.Encode.{encode, encodes}
-use Rattle.number.specs.Decimal.{digit, allDigits, value, withoutPlus, fromDigits, numberOf}
-use Rattle.number.specs.declared.Number.the-variants.{Is, Invalid}
+use Rattle.decimal.specs.Decimal.{digit, allDigits, value, withoutPlus, fromDigits, numberOf}
+use Rattle.decimal.specs.declared.Number.the-variants.{Is, Invalid}
 use Rattle.code_points.proofs.Chars.{char}
 use Rattle.code_points.proofs.Lines.{ascii, lead-high}
 

@@ -6,7 +6,7 @@ use mathlib.Core.Bool.{true, false}
 use native.Mathlib.Omega.{arith}
 use lib.ListN.{length, take, drop, length-append, take-append-drop}
 use lib.Seq.{append-snoc, take-append-seam, drop-append-seam, length-take-le}
-use Rattle.byte.proofs.Tests.{by-bool, by-eqb, never, and-left, and-right}
+use Rattle.base.proofs.Tests.{by-bool, by-eqb, never, and-left, and-right}
 use Rattle.search.specs.declared.Found.the-variants.{At}
 use Rattle.search.specs.First.{prefixOf, firstFrom, firstAt}
 use Rattle.search.proofs.Prefix.{same, other, common, split}

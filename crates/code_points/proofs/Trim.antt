@@ -4,7 +4,7 @@ use mathlib.Core.Path.{_≡_, refl, sym, ap, _∙_}
 use mathlib.Core.List.{List, [], _∷_, _++_, reverse, reverse-reverse}
 use mathlib.Core.Bool.{Bool, true, false, cond}
 use native.Mathlib.Omega.{arith}
-use Rattle.byte.proofs.Tests.{by-bool}
+use Rattle.base.proofs.Tests.{by-bool}
 use Rattle.trim.specs.Trim.{white1, white2, white3, trimmedBy, startTrimmed, back, endTrimmed, trimmed}
 use Rattle.trim.specs.Code.Step.{back2, back3}
 use Rattle.trim.proofs.White.{not1, not2, not3}

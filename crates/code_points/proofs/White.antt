@@ -6,8 +6,8 @@ use mathlib.Core.Bool.{Bool, true, false, _||_, or-true}
 use borrow.Author.Tests.{eqb-true, le-leb, lt-leb}
 use native.Mathlib.Omega.{arith}
 use lib.Dec.{eqb}
-use Rattle.byte.specs.Range.{within}
-use Rattle.byte.proofs.Tests.{by-leb, by-or, between, inside, never, same}
+use Rattle.base.specs.Range.{within}
+use Rattle.base.proofs.Tests.{by-leb, by-or, between, inside, never, same}
 use Rattle.trim.specs.Trim.{white1, white2, white3}
 use Rattle.trim.proofs.White.{by-white1, by-white2, by-white3}
 use Rattle.utf8.specs.Encode.{encode, encode3}

@@ -3,7 +3,7 @@ use Prim.Native.Nat.{ℕ}
 use mathlib.Core.List.{List, [], _∷_, reverse}
 use mathlib.Core.Bool.{Bool, true, false, _||_}
 use lib.Dec.{eqb}
-use Rattle.byte.specs.Range.{within}
+use Rattle.base.specs.Range.{within}
 
 abbrev pub white : ℕ → Bool
 white c =

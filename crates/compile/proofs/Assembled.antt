@@ -4,11 +4,11 @@ use native.Mathlib.Omega.{arith}
 use mathlib.Core.Path.{_≡_, sym, ap, _∙_}
 use mathlib.Core.List.{List}
 use lib.ListN.{length, drop, length-append}
-use Rattle.assembler.specs.Output.{assembled}
-use Rattle.assembly.specs.declared.Answer as assembly
-use Rattle.assembly.specs.declared.Answer.the-variants.{Success}
-use Rattle.assembly.specs.Answers.{answerOf, Assembles}
-use Rattle.compiled.proofs.Sized.{sized-as}
+use Rattle.contract.specs.Output.{assembled}
+use Rattle.assembler.specs.declared.Answer as assembly
+use Rattle.assembler.specs.declared.Answer.the-variants.{Success}
+use Rattle.assembler.specs.Answers.{answerOf, Assembles}
+use Rattle.correctness.proofs.Sized.{sized-as}
 
 module _ (contract vector stem out : List ℕ) where
   pub within : {o : List ℕ} {r : assembly.Answer} {n k p v : ℕ} → Assembles (assembled contract vector stem (length out)) out o r → r ≡ Success n k p v → n ≤ length o

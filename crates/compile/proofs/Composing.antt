@@ -11,16 +11,16 @@ use Rattle.ops.specs.declared.ParsedOps.{ParsedOps}
 use Rattle.ops.specs.declared.ParsedOps.the-variants as parsed
 use Rattle.perform.specs.declared.Answer.{Answer}
 use Rattle.perform.specs.Run.{Meets}
-use Rattle.assembler.specs.declared.refusal.Refusal.{Refusal}
-use Rattle.assembler.specs.Output as Output
-use Rattle.assembler.specs.Output.{success}
-use Rattle.assembly.specs.declared.Answer as assembly
-use Rattle.assembly.specs.declared.Answer.the-variants.{Success, Refused}
-use Rattle.assembly.specs.Answers.{Assembles}
+use Rattle.contract.specs.declared.refusal.Refusal.{Refusal}
+use Rattle.contract.specs.Output as Output
+use Rattle.contract.specs.Output.{success}
+use Rattle.assembler.specs.declared.Answer as assembly
+use Rattle.assembler.specs.declared.Answer.the-variants.{Success, Refused}
+use Rattle.assembler.specs.Answers.{Assembles}
 use Rattle.compile.specs.declared.Compiled.{Compiled}
 use Rattle.compile.specs.declared.Compiled.the-variants.{NotAssembled, NotRead, Ran}
-use Rattle.compiled.proofs.Sized.{sized-as}
-use Rattle.compiled.specs.Call.{Compilation, Left, assemblyOf, readingOf, transitionOn}
+use Rattle.correctness.proofs.Sized.{sized-as}
+use Rattle.correctness.specs.Call.{Compilation, Left, assemblyOf, readingOf, transitionOn}
 use Rattle.compile.specs.Answer.{ran}
 use Rattle.compile.specs.Compile.{thenRun, thenRead, compileOf, Composes}
 

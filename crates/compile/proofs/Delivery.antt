@@ -9,10 +9,10 @@ use Rattle.ops.specs.Numbers.{parsedOpsNumbered}
 use Rattle.perform.specs.declared.Answer.{Answer}
 use Rattle.perform.specs.Numbers.{answerNumbered}
 use Rattle.perform.specs.Run as Run
-use Rattle.compiled.specs.Call.{Compilation, Left, readingOf, withProgram}
-use Rattle.compiled.specs.Statement.{Found, Hypotheses, Statement, foundBy, foundIn}
-use Rattle.compiled.proofs.CompileStatement.{compile-statement}
-use Rattle.compiled.proofs.Told.{read-told, used-told}
+use Rattle.correctness.specs.Call.{Compilation, Left, readingOf, withProgram}
+use Rattle.correctness.specs.Statement.{Found, Hypotheses, Statement, foundBy, foundIn}
+use Rattle.correctness.proofs.CompileStatement.{compile-statement}
+use Rattle.correctness.proofs.Told.{read-told, used-told}
 use Rattle.compile.specs.declared.Compiled.{Compiled}
 use Rattle.compile.specs.declared.Compiled.the-variants.{NotAssembled, NotRead, Ran}
 use Rattle.compile.specs.Answer as Answer

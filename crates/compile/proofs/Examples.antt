@@ -4,8 +4,8 @@ use native.Mathlib.Omega.{arith}
 use mathlib.Core.Path.{_≡_, refl}
 use mathlib.Core.List.{List, [], _∷_, _++_}
 use lib.ListN.{replicate}
-use Rattle.byte.specs.Ascii.{ascii}
-use Rattle.number.specs.Decimal.{decimal}
+use Rattle.base.specs.Ascii.{ascii}
+use Rattle.decimal.specs.Decimal.{decimal}
 use Rattle.token.specs.Token.{scan}
 use Rattle.numbered.specs.Numbered.{carrying, plain}
 use Rattle.context.specs.Gate.{gateOf}
@@ -14,11 +14,11 @@ use Rattle.checks.specs.declared.Refusal.the-variants.{OutOfGas}
 use Rattle.checks.specs.Verify.{operationsCheck}
 use Rattle.perform.specs.declared.Answer.the-variants.{Success, Refused}
 use Rattle.expression.specs.Parse.{parseF, meaning}
-use Rattle.assembler.specs.State.{each}
-use Rattle.assembler.specs.Assembled.{assembledTree}
-use Rattle.assembler.specs.Output.{output, assembled}
-use Rattle.compiled.specs.Call.{Compilation}
-use Rattle.compiled.specs.Statement.{Hypotheses}
+use Rattle.contract.specs.State.{each}
+use Rattle.contract.specs.Assembled.{assembledTree}
+use Rattle.contract.specs.Output.{output, assembled}
+use Rattle.correctness.specs.Call.{Compilation}
+use Rattle.correctness.specs.Statement.{Hypotheses}
 use Rattle.compile.specs.Answer.{ran}
 use Rattle.compile.specs.Compile.{lent, compileOf}
 use Rattle.compile.specs.Numbers.{numbered}

@@ -3,7 +3,7 @@ use Prim.Native.Nat.{ℕ}
 use Rattle.numbered.specs.declared.Numbered.{Numbered}
 use Rattle.ops.specs.declared.OpsError.{OpsError}
 use Rattle.perform.specs.declared.Answer as perform
-use Rattle.assembler.specs.Numbers.{refusalNumbered}
+use Rattle.contract.specs.Numbers.{refusalNumbered}
 use Rattle.compile.specs.declared.Compiled.{Compiled}
 use Rattle.compile.specs.declared.Compiled.the-variants.{NotAssembled, NotRead, Ran}
 

@@ -6,9 +6,9 @@ use lib.ListN.{length}
 use Rattle.kinds.specs.Kinds.{Operation}
 use Rattle.ops.specs.Ops.{Reading, ops, refused, kindsOf, operandsOf, onto}
 use Rattle.perform.specs.Run as Run
-use Rattle.assembler.specs.Output as Output
-use Rattle.assembler.specs.Output.{success, refusal}
-use Rattle.compiled.specs.Call.{Compilation, Left, assemblyOf, readingOf, transitionOn}
+use Rattle.contract.specs.Output as Output
+use Rattle.contract.specs.Output.{success, refusal}
+use Rattle.correctness.specs.Call.{Compilation, Left, assemblyOf, readingOf, transitionOn}
 use Rattle.compile.specs.declared.Compiled.{Compiled}
 use Rattle.compile.specs.Answer.{Answer, notAssembled, notRead, ran, answerOf}
 use Rattle.compile.specs.Numbers.{numbered, compiledNumbered}

@@ -5,8 +5,8 @@ use Rattle.ops.specs.declared.ParsedOps.the-variants.{Read}
 use Rattle.ops.specs.Numbers.{parsedOpsNumbered}
 use Rattle.perform.specs.declared.Answer.{Answer}
 use Rattle.perform.specs.Numbers.{answerNumbered}
-use Rattle.compiled.specs.Call.{Compilation, Left}
-use Rattle.compiled.specs.Statement.{Hypotheses, Statement, foundIn}
+use Rattle.correctness.specs.Call.{Compilation, Left}
+use Rattle.correctness.specs.Statement.{Hypotheses, Statement, foundIn}
 use Rattle.compile.specs.declared.Compiled.{Compiled}
 use Rattle.compile.specs.declared.Compiled.the-variants.{Ran}
 use Rattle.compile.specs.Compile.{compileOf, Composes}

@@ -3,7 +3,7 @@ ghost use mathlib.Core.Path.{_≡_};
 ghost use Rattle.context.specs.Gate.{gateOf};
 ghost use Rattle.compile.specs.Numbers.{compiledNumbered};
 ghost use Rattle.compile.specs.Delivery.{Delivers};
-use assembler::refusal::Refusal;
+use contract::refusal::Refusal;
 use numbered::Numbered;
 use ops::OpsError;
 use ops::ParsedOps;
@@ -97,10 +97,10 @@ pub fn compile(
           storage = now (storage .exit);
         }) ⌝ }
 {
-    let assembled = assembly::assemble(contract, vector, stem, out);
+    let assembled = assembler::assemble(contract, vector, stem, out);
     match assembled {
-        assembly::Answer::Refused(why) => Compiled::NotAssembled(why),
-        assembly::Answer::Success {
+        assembler::Answer::Refused(why) => Compiled::NotAssembled(why),
+        assembler::Answer::Success {
             written,
             k,
             p,

@@ -3,7 +3,7 @@ use Prim.Native.Nat.{ℕ}
 use mathlib.Core.Path.{_≡_, refl}
 use mathlib.Core.List.{List, []}
 use lib.ListN.{replicate}
-use Rattle.byte.specs.Ascii.{ascii}
+use Rattle.base.specs.Ascii.{ascii}
 use Rattle.context.specs.Gate.{gateOf, gateNumbered}
 
 -- a context whose versions are `1` and `2` and whose genesis id is 64 times a, with the computed genesis id

@@ -6,9 +6,9 @@ use mathlib.Core.Bool.{Bool, true, false, not, _&&_}
 use lib.Dec.{eqb}
 use lib.ListN.{length, getD, drop}
 use borrow.Author.Tests.{eq-eqb, eqb-true, not-true, not-false}
-use Rattle.byte.proofs.Tests.{never, and-left, and-right}
-use Rattle.byte.proofs.Parts.{next}
-use Rattle.byte.specs.Equal.{equal}
+use Rattle.base.proofs.Tests.{never, and-left, and-right}
+use Rattle.base.proofs.Parts.{next}
+use Rattle.base.specs.Equal.{equal}
 use Rattle.context.specs.Gate.{isHexDigit, allHexDigits}
 
 -- lists of different lengths differ

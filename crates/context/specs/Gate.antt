@@ -7,10 +7,10 @@ use lib.Dec.{eqb}
 use lib.ListN.{length}
 use Rattle.numbered.specs.declared.Numbered.{Numbered}
 use Rattle.numbered.specs.Numbered.{plain}
-use Rattle.byte.specs.Ascii.{ascii}
-use Rattle.byte.specs.Equal.{equal}
-use Rattle.byte.specs.Need.{need}
-use Rattle.byte.specs.Range.{within}
+use Rattle.base.specs.Ascii.{ascii}
+use Rattle.base.specs.Equal.{equal}
+use Rattle.base.specs.Need.{need}
+use Rattle.base.specs.Range.{within}
 use Rattle.context.specs.declared.ContextError.{ContextError}
 use Rattle.context.specs.declared.ContextError.the-variants.{InvalidChainId, InvalidNetworkId, InvalidGenesisId, ProtocolMismatch, VmMismatch, GenesisMismatch}
 use Rattle.context.specs.declared.Gate.{Gate}

@@ -3,7 +3,7 @@ ghost use mathlib.Core.Path.{_≡_};
 ghost use mathlib.Core.Bool.{_&&_};
 ghost use Prim.Native.Nat.{_+_, _≤_};
 ghost use lib.ListN.{length, drop};
-ghost use Rattle.byte.specs.Equal.{equal};
+ghost use Rattle.base.specs.Equal.{equal};
 ghost use Rattle.context.specs.Gate.{isHexDigit, allHexDigits, isNetwork, isGenesisId};
 ghost use Rattle.context.specs.Gate.{gateOf, contextErrorNumbered, gateNumbered, Gated};
 use numbered::Numbered;
@@ -114,7 +114,7 @@ fn agree(a: &[u8], b: &[u8], at: usize, n: usize) -> bool
     let mut all = true;
     let mut k: usize = 0;
     while k < n {
-        all = byte::both(all, a[at + k] == b[at + k]);
+        all = base::both(all, a[at + k] == b[at + k]);
         k += 1;
     }
     all
@@ -123,8 +123,8 @@ fn agree(a: &[u8], b: &[u8], at: usize, n: usize) -> bool
 fn is_network(s: &[u8]) -> bool
     ensures { λ r. ⌜ r ≡ isNetwork (now (s .entry)) ⌝ }
 {
-    let named = byte::either(same(s, b"devnet"), same(s, b"testnet"));
-    byte::either(named, same(s, b"mainnet"))
+    let named = base::either(same(s, b"devnet"), same(s, b"testnet"));
+    base::either(named, same(s, b"mainnet"))
 }
 
 fn is_genesis_id(s: &[u8]) -> bool
@@ -142,7 +142,7 @@ fn all_hex_digits(s: &[u8]) -> bool
     let mut all = true;
     let mut i: usize = 0;
     while i < s.len() {
-        all = byte::both(all, is_hex_digit(s[i]));
+        all = base::both(all, is_hex_digit(s[i]));
         i += 1;
     }
     all
@@ -151,6 +151,6 @@ fn all_hex_digits(s: &[u8]) -> bool
 fn is_hex_digit(a: u8) -> bool
     ensures { λ r. ⌜ r ≡ isHexDigit a ⌝ }
 {
-    let letter = byte::either(byte::in_range(b'A', b'F', a), byte::in_range(b'a', b'f', a));
-    byte::either(byte::in_range(b'0', b'9', a), letter)
+    let letter = base::either(base::in_range(b'A', b'F', a), base::in_range(b'a', b'f', a));
+    base::either(base::in_range(b'0', b'9', a), letter)
 }

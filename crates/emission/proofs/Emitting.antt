@@ -8,7 +8,7 @@ use lib.ListN.{length, getD, take, drop, set, length-append, length-set, drop-of
 use lib.Seq.{length-take-le}
 use borrow.Author.Tests.{eq-eqb, ne-eqb}
 use Rattle.numbered.specs.Outcome.{is}
-use Rattle.byte.proofs.Parts.{middle}
+use Rattle.base.proofs.Parts.{middle}
 use Rattle.token.specs.Token.{tokens, scan}
 use Rattle.token.specs.Code.Places.{tokenAt}
 use Rattle.expression.specs.Tree.{num}

@@ -8,11 +8,11 @@ use borrow.Author.Tests.{eq-eqb, ne-eqb}
 use lib.Dec.{ltb}
 use lib.ListN.{length, getD, take, drop}
 use lib.Seq.{length-take-le, getD-take}
-use Rattle.byte.proofs.Tests.{by-bool}
-use Rattle.byte.proofs.Parts.{next, inner}
-use Rattle.number.specs.Decimal.{digit, digits, allDigits, value}
-use Rattle.number.specs.Code.Digits.{capped}
-use Rattle.number.specs.declared.Value.the-variants as Digits
+use Rattle.base.proofs.Tests.{by-bool}
+use Rattle.base.proofs.Parts.{next, inner}
+use Rattle.decimal.specs.Decimal.{digit, digits, allDigits, value}
+use Rattle.decimal.specs.Code.Digits.{capped}
+use Rattle.decimal.specs.declared.Value.the-variants as Digits
 use Rattle.token.specs.Token.{tokens}
 use Rattle.token.specs.Code.Places.{tokenAt}
 use Rattle.token.specs.declared.Token.{Token}

@@ -5,7 +5,7 @@ use mathlib.Core.List.{List}
 use native.Mathlib.Omega.{arith}
 use lib.ListN.{length, getD, set, replicate, length-set}
 use lib.Seq.{slice, length-slice, getD-set-same, getD-set-other}
-use Rattle.byte.proofs.Tests.{by-eqb}
+use Rattle.base.proofs.Tests.{by-eqb}
 use Rattle.expression.specs.Code.Source.{Sources, treeOf}
 use Rattle.expression.specs.Code.Texts.{textOf}
 use Rattle.writer.specs.Code.Pieces.{Put}

@@ -8,8 +8,8 @@ use native.Mathlib.Omega.{arith}
 use borrow.Author.Tests.{le-leb}
 use lib.Dec.{eqb}
 use lib.ListN.{getD}
-use Rattle.byte.specs.Equal.{equal}
-use Rattle.byte.proofs.Tests.{by-bool}
+use Rattle.base.specs.Equal.{equal}
+use Rattle.base.proofs.Tests.{by-bool}
 use Rattle.expression.specs.declared.names.Found.{Found}
 use Rattle.expression.specs.declared.names.Found.the-variants.{At, Nothing}
 use Rattle.expression.specs.Parse.{lookup}

@@ -8,7 +8,7 @@ use native.Mathlib.Omega.{arith}
 use borrow.Author.Tests.{le-leb, lt-leb}
 use lib.ListN.{length, getD, set}
 use lib.Seq.{getD-set-same, getD-set-other}
-use Rattle.byte.proofs.Tests.{never, by-leb}
+use Rattle.base.proofs.Tests.{never, by-leb}
 use Rattle.expression.specs.Parse.{joins}
 use Rattle.expression.specs.Tree.{num}
 use Rattle.expression.specs.Code.Texts.{textOf}

@@ -8,8 +8,8 @@ use native.Mathlib.Omega.{arith}
 use borrow.Author.Tests.{lt-ltb, le-leb, eq-eqb, ne-eqb}
 use lib.Dec.{leb}
 use lib.ListN.{length, drop, drop-of-length-le}
-use Rattle.byte.proofs.Tests.{by-leb}
-use Rattle.number.specs.Decimal.{value}
+use Rattle.base.proofs.Tests.{by-leb}
+use Rattle.decimal.specs.Decimal.{value}
 use Rattle.token.specs.Token.{tokens, scan}
 use Rattle.token.specs.Code.Places.{tokenAt, startAt, first}
 use Rattle.token.proofs.Tokens.{token-none, token-next, tokenFrom, next-at}

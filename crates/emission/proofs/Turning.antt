@@ -7,7 +7,7 @@ use native.Mathlib.Omega.{arith}
 use borrow.Author.Tests.{le-leb, lt-leb, eq-eqb, ne-eqb}
 use lib.Dec.{eqb, leb}
 use lib.ListN.{length, set, take, drop, length-set}
-use Rattle.byte.proofs.Tests.{by-eqb}
+use Rattle.base.proofs.Tests.{by-eqb}
 use Rattle.token.specs.Code.Places.{tokenAt}
 use Rattle.expression.specs.Grammar.{levels}
 use Rattle.writer.specs.Code.Pieces.{operatorsText}

@@ -5,7 +5,7 @@ use mathlib.Core.List.{List, [], _∷_, _++_}
 use mathlib.Core.Bool.{Bool, true, false}
 use mathlib.Core.Option.{some}
 use lib.ListN.{length}
-use Rattle.number.specs.Decimal.{allDigits, value}
+use Rattle.decimal.specs.Decimal.{allDigits, value}
 use Rattle.expression.specs.Tree.{Tree, num}
 use Rattle.expression.specs.Grammar.{levels}
 use Rattle.expression.specs.Parse.{Env, lookup, lone}

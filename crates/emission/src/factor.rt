@@ -2,13 +2,13 @@
 ghost use mathlib.Core.Path.{_≡_};
 ghost use Prim.Native.Nat.{_≤_};
 ghost use lib.ListN.{length, drop};
-ghost use Rattle.number.specs.Decimal.{digits};
+ghost use Rattle.decimal.specs.Decimal.{digits};
 ghost use Rattle.emission.specs.Code.Factor.{literalOf, namedBy, factorAt};
+use decimal::Value;
+use decimal::digits_at;
 use expression::names::Found;
 use expression::names::lookup;
 use expression::parts::lone_byte;
-use number::Value;
-use number::digits_at;
 use token::is_digit;
 use token::token_at;
 

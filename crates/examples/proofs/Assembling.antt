@@ -4,9 +4,9 @@ use mathlib.Core.List.{List}
 use Prim.Native.Nat.{ℕ}
 use lib.ListN.{length}
 use Rattle.ops.specs.Ops.{onto}
-use Rattle.assembler.specs.Output.{assembled}
-use Rattle.assembly.specs.declared.Answer.{Answer}
-use Rattle.assembly.specs.Answers.{Assembles}
+use Rattle.contract.specs.Output.{assembled}
+use Rattle.assembler.specs.declared.Answer.{Answer}
+use Rattle.assembler.specs.Answers.{Assembles}
 use Rattle.examples.specs.Runs.{zeros}
 use Rattle.examples.specs.Bench.{tallyOps}
 

@@ -1,13 +1,13 @@
 -- Document 01's bench examples hold, by computing the definitions.
 use mathlib.Core.Path.{refl}
-use Rattle.number.specs.Decimal.{decimal}
+use Rattle.decimal.specs.Decimal.{decimal}
 use Rattle.token.specs.Token.{scan}
 use Rattle.expression.specs.Parse.{parseF, meaning}
 use Rattle.machine.specs.Machine.{decode, runOf, whole}
 use Rattle.checks.specs.Verify.{operationsCheck}
-use Rattle.assembler.specs.State.{each}
-use Rattle.assembler.specs.Assembled.{assembledTree}
-use Rattle.assembler.specs.Output.{output, assembled}
+use Rattle.contract.specs.State.{each}
+use Rattle.contract.specs.Assembled.{assembledTree}
+use Rattle.contract.specs.Output.{output, assembled}
 use Rattle.compile.specs.Compile.{compileOf}
 use Rattle.examples.specs.Runs.{ran}
 use Rattle.examples.specs.Bench.{Bench}

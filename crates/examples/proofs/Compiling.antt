@@ -4,7 +4,7 @@ use mathlib.Core.Path.{_≡_, subst, _∙_}
 use mathlib.Core.List.{List, [], _∷_}
 use lib.ListN.{replicate}
 use Rattle.numbered.specs.Numbered.{carrying}
-use Rattle.compiled.specs.Call.{Left}
+use Rattle.correctness.specs.Call.{Left}
 use Rattle.compile.specs.declared.Compiled.{Compiled}
 use Rattle.compile.specs.Numbers.{compiledNumbered}
 use Rattle.compile.specs.Compile.{compileOf, Composes}

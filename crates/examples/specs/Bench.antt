@@ -3,14 +3,14 @@ use Prim.Native.Nat.{ℕ}
 use mathlib.Core.Path.{_≡_}
 use mathlib.Core.List.{List, [], _∷_}
 use lib.ListN.{replicate}
-use Rattle.byte.specs.Ascii.{ascii}
+use Rattle.base.specs.Ascii.{ascii}
 use Rattle.numbered.specs.Numbered.{plain, carrying}
 use Rattle.ops.specs.Ops.{readText, answerOf}
 use Rattle.ops.specs.Numbers.{parsedOpsNumbered}
 use Rattle.context.specs.Gate.{gateOf, gateNumbered}
 use Rattle.perform.specs.Numbers.{answerNumbered}
-use Rattle.assembler.specs.Output.{Assembly, assembled, assemblyNumbered}
-use Rattle.compiled.specs.Call.{Compilation}
+use Rattle.contract.specs.Output.{Assembly, assembled, assemblyNumbered}
+use Rattle.correctness.specs.Call.{Compilation}
 use Rattle.compile.specs.Numbers.{numbered}
 use Rattle.compile.specs.Compile.{compileOf}
 use Rattle.examples.specs.Runs.{operations, call, zeros, plainly, four, onFour}

@@ -2,14 +2,14 @@
 ghost use mathlib.Core.Path.{_≡_};
 ghost use mathlib.Core.List.{[], _∷_};
 ghost use Rattle.ops.specs.Ops.{onto};
-ghost use Rattle.assembly.specs.Answers.{answerOf};
+ghost use Rattle.assembler.specs.Answers.{answerOf};
 ghost use Rattle.numbered.specs.Numbered.{carrying};
-ghost use Rattle.assembler.specs.Output.{assemblyNumbered};
+ghost use Rattle.contract.specs.Output.{assemblyNumbered};
 ghost use Rattle.examples.specs.Numbers.{Gives};
 ghost use Rattle.examples.specs.Runs.{zeros};
 ghost use Rattle.examples.specs.Bench.{tallyOps};
-use assembly::Answer;
-use assembly::assemble;
+use assembler::Answer;
+use assembler::assemble;
 
 pub fn tally(out: &mut [u8; 4096]) -> Answer
     requires { ⌜ now out ≡ zeros ⌝ }

@@ -96,7 +96,7 @@ fn reading_line(name: &[u8], r: ops::ParsedOps) {
     io::write_all(1, b"\n");
 }
 
-fn assembly_line(name: &[u8], a: assembly::Answer) {
+fn assembly_line(name: &[u8], a: assembler::Answer) {
     io::write_all(1, name);
     show::assembly(a);
     io::write_all(1, b"\n");

@@ -7,9 +7,9 @@ use ops::ParsedOps;
 use perform::Answer;
 
 // 0 and the four values of a success. A refusal is not told apart here.
-pub fn assembly(a: assembly::Answer) {
+pub fn assembly(a: assembler::Answer) {
     match a {
-        assembly::Answer::Success {
+        assembler::Answer::Success {
             written,
             k,
             p,
@@ -21,7 +21,7 @@ pub fn assembly(a: assembly::Answer) {
             number(p);
             number(value);
         }
-        assembly::Answer::Refused(_) => {
+        assembler::Answer::Refused(_) => {
             io::write_all(1, b" refused");
         }
     }

@@ -4,19 +4,19 @@ use native.Mathlib.Omega.{arith}
 use mathlib.Core.Path.{refl}
 use mathlib.Core.List.{List, [], _∷_, _++_}
 use lib.ListN.{replicate}
-use Rattle.byte.specs.Ascii.{ascii}
+use Rattle.base.specs.Ascii.{ascii}
 use Rattle.numbered.specs.Numbered.{carrying}
-use Rattle.number.specs.Decimal.{decimal}
+use Rattle.decimal.specs.Decimal.{decimal}
 use Rattle.token.specs.Token.{scan}
 use Rattle.context.specs.Gate.{gateOf}
 use Rattle.machine.specs.Machine.{decode, runOf, whole}
 use Rattle.checks.specs.Verify.{operationsCheck}
 use Rattle.expression.specs.Parse.{parseF, meaning}
-use Rattle.assembler.specs.State.{each}
-use Rattle.assembler.specs.Assembled.{assembledTree}
-use Rattle.assembler.specs.Output.{output, assembled}
-use Rattle.compiled.specs.Call.{Compilation}
-use Rattle.compiled.specs.Statement.{Statement, foundIn}
+use Rattle.contract.specs.State.{each}
+use Rattle.contract.specs.Assembled.{assembledTree}
+use Rattle.contract.specs.Output.{output, assembled}
+use Rattle.correctness.specs.Call.{Compilation}
+use Rattle.correctness.specs.Statement.{Statement, foundIn}
 use Rattle.exported.specs.Exports.{Given, InRow, Lends}
 use Rattle.exported.proofs.ExportedStatement.{exported-statement}
 

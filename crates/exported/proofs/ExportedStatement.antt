@@ -16,13 +16,13 @@ use Rattle.context.specs.Gate.{gateNumbered}
 use Rattle.ops.specs.Ops.{opsOf, kindsOf, operandsOf, onto}
 use Rattle.checks.specs.Verify.{buffersFit}
 use Rattle.perform.specs.Numbers.{answerNumbered}
-use Rattle.assembler.specs.Output.{Answer, success, refusal, assemblyNumbered}
-use Rattle.assembly.proofs.Bounds.{Refuses, refuses}
-use Rattle.compiled.specs.Call.{Compilation, assemblyOf, readingOf, withProgram, transitionOn}
-use Rattle.compiled.specs.Statement.{Found, Hypotheses, Statement, foundBy, foundIn, usedAfter}
-use Rattle.compiled.proofs.CompileStatement.{compile-statement}
-use Rattle.compiled.proofs.Sized.{sized-as}
-use Rattle.compiled.proofs.Told.{used-told}
+use Rattle.contract.specs.Output.{Answer, success, refusal, assemblyNumbered}
+use Rattle.assembler.proofs.Bounds.{Refuses, refuses}
+use Rattle.correctness.specs.Call.{Compilation, assemblyOf, readingOf, withProgram, transitionOn}
+use Rattle.correctness.specs.Statement.{Found, Hypotheses, Statement, foundBy, foundIn, usedAfter}
+use Rattle.correctness.proofs.CompileStatement.{compile-statement}
+use Rattle.correctness.proofs.Sized.{sized-as}
+use Rattle.correctness.proofs.Told.{used-told}
 use Rattle.atc_vm.specs.Words.{Tells}
 use Rattle.atc_vm.specs.Calls.{Read, Ran}
 use Rattle.exported.specs.Exports.{Given, InRow, Lends}

@@ -6,7 +6,7 @@ use lib.ListN.{length, take}
 use Rattle.numbered.specs.declared.Numbered.{Numbered}
 use Rattle.numbered.specs.Numbered.{carrying}
 use Rattle.context.specs.Gate.{gateNumbered}
-use Rattle.compiled.specs.Call.{Compilation, Left, assemblyOf, transitionOn}
+use Rattle.correctness.specs.Call.{Compilation, Left, assemblyOf, transitionOn}
 use Rattle.atc_vm.specs.Calls.{Assembled, Read, Ran}
 
 -- what the caller is given: of each export its result as the number and the eight words of its answer, and at the end its buffers

@@ -6,11 +6,11 @@ use native.Mathlib.Omega.{arith}
 use borrow.Author.Tests.{eq-eqb, ne-eqb}
 use lib.Dec.{ltb}
 use lib.ListN.{length, take, drop, length-drop}
-use Rattle.byte.proofs.Tests.{by-bool}
-use Rattle.number.specs.Decimal.{digits, value, decimal}
-use Rattle.number.specs.Code.Digits.{capped}
-use Rattle.number.specs.declared.Value.the-variants as Digits
-use Rattle.number.proofs.Runs.{digits-short}
+use Rattle.base.proofs.Tests.{by-bool}
+use Rattle.decimal.specs.Decimal.{digits, value, decimal}
+use Rattle.decimal.specs.Code.Digits.{capped}
+use Rattle.decimal.specs.declared.Value.the-variants as Digits
+use Rattle.decimal.proofs.Runs.{digits-short}
 use Rattle.token.specs.Token.{tokens}
 use Rattle.token.specs.Code.Places.{tokenAt}
 use Rattle.token.specs.declared.Token.{Token}

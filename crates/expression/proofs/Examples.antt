@@ -6,9 +6,9 @@ use Prim.Native.String.{String}
 use lib.ListN.{replicate}
 use Rattle.numbered.specs.Numbered.{plain}
 use Rattle.numbered.specs.Outcome.{is, refused}
-use Rattle.number.specs.Decimal.{decimal}
+use Rattle.decimal.specs.Decimal.{decimal}
 use Rattle.word.specs.Apply.{add, mul}
-use Rattle.byte.specs.Ascii.{ascii}
+use Rattle.base.specs.Ascii.{ascii}
 use Rattle.token.specs.Token.{scan}
 use Rattle.expression.specs.Tree.{Tree, num, bin}
 use Rattle.expression.specs.Parse.{Binding, Env, parseF, meaning}

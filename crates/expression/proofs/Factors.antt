@@ -8,10 +8,10 @@ use borrow.Author.Tests.{ltb-true, ltb-false}
 use lib.Dec.{ltb}
 use lib.ListN.{length, getD, take, drop, length-drop}
 use lib.Seq.{length-take-le}
-use Rattle.byte.proofs.Tests.{by-bool, by-leb, by-eqb}
-use Rattle.byte.proofs.Parts.{next}
-use Rattle.number.specs.Decimal.{digit, digits, allDigits, value, decimal}
-use Rattle.number.proofs.Decimal.{length-word}
+use Rattle.base.proofs.Tests.{by-bool, by-leb, by-eqb}
+use Rattle.base.proofs.Parts.{next}
+use Rattle.decimal.specs.Decimal.{digit, digits, allDigits, value, decimal}
+use Rattle.decimal.proofs.Laws.{length-word}
 use Rattle.token.specs.Token.{tokens}
 use Rattle.token.specs.Code.Places.{tokenAt}
 use Rattle.token.proofs.Tokens.{Next, tokenFrom, token-none, token-next, digit-token, digits-all}

@@ -12,9 +12,9 @@ use lib.ListN.{length}
 use Rattle.numbered.specs.Numbered.{plain}
 use Rattle.numbered.specs.Outcome as Outcome
 use Rattle.numbered.specs.Outcome.{is}
-use Rattle.byte.proofs.Tests.{never, by-bool, by-or, between, and-left}
+use Rattle.base.proofs.Tests.{never, by-bool, by-or, between, and-left}
 use Rattle.word.specs.Apply.{Binary, add, sub, mul, div}
-use Rattle.number.specs.Decimal.{digit, allDigits, value}
+use Rattle.decimal.specs.Decimal.{digit, allDigits, value}
 use Rattle.token.specs.Token.{allowed, tokens}
 use Rattle.token.specs.Code.Places.{first}
 use Rattle.token.specs.Tokens.{IsToken, Tokens}

@@ -9,9 +9,9 @@ use borrow.Author.Tests.{eq-eqb, ne-eqb, le-leb, lt-leb}
 use lib.Dec.{eqb, leb}
 use lib.ListN.{length, getD, take, drop, length-drop}
 use lib.Seq.{length-take-le}
-use Rattle.byte.specs.Equal.{equal}
-use Rattle.byte.proofs.Tests.{by-bool}
-use Rattle.byte.proofs.Parts.{next}
+use Rattle.base.specs.Equal.{equal}
+use Rattle.base.proofs.Tests.{by-bool}
+use Rattle.base.proofs.Parts.{next}
 use Rattle.expression.specs.declared.names.Found.{Found}
 use Rattle.expression.specs.declared.names.Found.the-variants.{At, Nothing}
 use Rattle.expression.specs.Parse.{Binding, Env, lookup}

@@ -5,8 +5,8 @@ use mathlib.Core.List.{List, _∷_}
 use mathlib.Core.Bool.{true, false}
 use native.Mathlib.Omega.{arith}
 use lib.ListN.{length, drop}
-use Rattle.byte.proofs.Tests.{never, by-leb}
-use Rattle.byte.proofs.Parts.{next}
+use Rattle.base.proofs.Tests.{never, by-leb}
+use Rattle.base.proofs.Parts.{next}
 use Rattle.word.specs.Apply.{Binary, add, sub, mul, div, eq, lt}
 use Rattle.token.specs.Token.{tokens}
 use Rattle.token.specs.Code.Places.{first, tokenAt}

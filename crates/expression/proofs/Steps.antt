@@ -8,8 +8,8 @@ use native.Mathlib.Omega.{arith}
 use borrow.Author.Tests.{lt-ltb, le-ltb, eqb-true, eq-eqb, ne-eqb}
 use lib.Dec.{eqb}
 use lib.ListN.{length}
-use Rattle.byte.proofs.Tests.{never, by-or}
-use Rattle.number.specs.Decimal.{allDigits, value}
+use Rattle.base.proofs.Tests.{never, by-or}
+use Rattle.decimal.specs.Decimal.{allDigits, value}
 use Rattle.token.specs.Code.Places.{first}
 use Rattle.expression.specs.Tree.{Tree, num, bin}
 use Rattle.expression.specs.Parse.{Env, lookup, Parse, done, refused, lone, joins, operator, joined, closed, nested, atom, parseF, moreF, enough, factor, expression}

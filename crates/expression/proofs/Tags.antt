@@ -9,8 +9,8 @@ use borrow.Author.Tests.{eqb-true, eq-eqb, lt-ltb, le-ltb, ltb-false, not-true}
 use lib.Dec.{eqb, ltb}
 use lib.ListN.{length, getD, take, drop, length-drop}
 use lib.Seq.{length-take-le, getD-take, getD-drop}
-use Rattle.byte.specs.Equal.{equal}
-use Rattle.byte.proofs.Tests.{never, and-left, and-right, by-bool, by-cond}
+use Rattle.base.specs.Equal.{equal}
+use Rattle.base.proofs.Tests.{never, and-left, and-right, by-bool, by-cond}
 use Rattle.expression.specs.Code.Table.{mix, tagOf, called, found, hasTag, isFree}
 
 same-is : (v w : List ℕ) → equal v w ≡ true → v ≡ w

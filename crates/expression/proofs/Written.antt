@@ -5,7 +5,7 @@ use mathlib.Core.List.{List, [], _∷_, _++_, append-nil, append-assoc}
 use native.Mathlib.Omega.{arith}
 use lib.ListN.{length, length-append}
 use Rattle.word.specs.Apply.{Binary, add, sub, mul, div, eq, lt}
-use Rattle.number.specs.Decimal.{decimal}
+use Rattle.decimal.specs.Decimal.{decimal}
 use Rattle.kinds.specs.Kinds.{Operation}
 use Rattle.ops.specs.Written.{written, writtenAll}
 use Rattle.expression.specs.Tree.{Tree, num, bin, kOf}

@@ -3,7 +3,7 @@ use Prim.Native.Nat.{ℕ}
 use mathlib.Core.List.{List, [], _∷_}
 use mathlib.Core.Bool.{cond}
 use mathlib.Core.Option.{Option, some, none}
-use Rattle.byte.specs.Equal.{equal}
+use Rattle.base.specs.Equal.{equal}
 use Rattle.expression.specs.Tree.{Tree}
 
 pub record Binding : Type 0 where

@@ -6,8 +6,8 @@ use mathlib.Core.Bool.{true, false}
 use mathlib.Core.Option.{some}
 use lib.ListN.{length}
 use Rattle.word.specs.Apply.{Binary, add, sub, mul, div}
-use Rattle.number.specs.Decimal.{allDigits, value}
-use Rattle.byte.specs.Ascii.{ascii}
+use Rattle.decimal.specs.Decimal.{allDigits, value}
+use Rattle.base.specs.Ascii.{ascii}
 use Rattle.expression.specs.Tree.{Tree, num, bin}
 use Rattle.expression.specs.Environment.{Env, lookup}
 

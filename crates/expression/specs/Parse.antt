@@ -9,7 +9,7 @@ use Rattle.numbered.specs.Numbered.{plain}
 use Rattle.numbered.specs.Outcome as Outcome
 use Rattle.numbered.specs.Outcome.{Outcome, is}
 use Rattle.word.specs.Apply.{Binary, add, sub, mul, div}
-use Rattle.number.specs.Decimal.{allDigits, value}
+use Rattle.decimal.specs.Decimal.{allDigits, value}
 use Rattle.token.specs.Token.{allowed, tokens}
 use Rattle.expression.specs.Tree.{Tree, num, bin}
 pub use Rattle.expression.specs.Environment.{Binding, Env, lookup}

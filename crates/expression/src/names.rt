@@ -4,9 +4,9 @@ ghost use mathlib.Core.Bool.{_&&_};
 ghost use Prim.Native.Nat.{_+_, _≤_, _<_};
 ghost use lib.Dec.{leb};
 ghost use lib.ListN.{length, take, drop};
-ghost use Rattle.byte.specs.Equal.{equal};
+ghost use Rattle.base.specs.Equal.{equal};
 ghost use Rattle.expression.specs.Code.Table.{tagOf, mix, called, found, hasTag, isFree};
-use byte::either;
+use base::either;
 
 pub enum Found {
     At(usize),

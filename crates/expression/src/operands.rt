@@ -3,7 +3,7 @@ ghost use mathlib.Core.Path.{_≡_};
 ghost use mathlib.Core.List.{[]};
 ghost use Prim.Native.Nat.{_-_, _^_, _≤_, _<_};
 ghost use lib.ListN.{length, take, drop};
-ghost use Rattle.number.specs.Decimal.{digits};
+ghost use Rattle.decimal.specs.Decimal.{digits};
 ghost use Rattle.token.specs.Token.{tokens};
 ghost use Rattle.token.specs.Code.Places.{tokenAt};
 ghost use Rattle.expression.specs.Code.Table.{columnsOf, entryAt, found};
@@ -15,8 +15,8 @@ use crate::figures::Value;
 use crate::names::Found;
 use crate::names::lookup;
 use crate::parts::lone_byte;
-use number::decimal_len;
-use number::digits_at;
+use decimal::decimal_len;
+use decimal::digits_at;
 use token::token_at;
 
 // The literal whose first digit stands at a place that its caller has read.
@@ -27,8 +27,8 @@ pub fn literal(text: &[u8], start: usize) -> Parsed
     let run = digits_at(text, start);
     let value = run.value;
     match value {
-        number::Value::TooLarge => Parsed::Refused(ExprError::InvalidLiteral),
-        number::Value::Is(n) => Parsed::Done(Read {
+        decimal::Value::TooLarge => Parsed::Refused(ExprError::InvalidLiteral),
+        decimal::Value::Is(n) => Parsed::Done(Read {
             next: start + run.len,
             k: 1,
             p: 1,

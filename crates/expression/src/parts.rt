@@ -4,7 +4,7 @@ ghost use Prim.Native.Nat.{_-_, _≤_, _<_};
 ghost use lib.ListN.{length, take, drop};
 ghost use Rattle.expression.specs.Parse.{lone, term, expression, joins};
 ghost use Rattle.expression.specs.Code.Parts.{signAt};
-use byte::either;
+use base::either;
 use token::token_at;
 
 // A token of one byte, or 0, and where the token ends.

@@ -7,7 +7,7 @@ use mathlib.Core.Bool.{Bool, true, _&&_, _||_}
 use lib.Dec.{leb, eqb}
 use lib.ListN.{List·getD-eq-default}
 use borrow.Author.Tests.{leb-true, ne-eqb}
-use Rattle.byte.proofs.Tests.{and-left, and-right}
+use Rattle.base.proofs.Tests.{and-left, and-right}
 use Rattle.kinds.specs.Kinds.{none, slot, target, kind, kinds, kindOf, takes}
 
 -- a rule at each of n numbers from b on

@@ -5,7 +5,7 @@ use mathlib.Core.List.{List, [], _∷_}
 use mathlib.Core.Bool.{Bool}
 use lib.Dec.{eqb}
 use lib.ListN.{getD}
-use Rattle.byte.specs.Ascii.{ascii}
+use Rattle.base.specs.Ascii.{ascii}
 
 -- what follows a kind's word: nothing, a value, a storage slot, a jump's target
 pub data Operand : Type 0 where

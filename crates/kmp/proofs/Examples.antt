@@ -3,7 +3,7 @@ use Prim.Native.Nat.{ℕ}
 use mathlib.Core.Path.{_≡_, refl}
 use mathlib.Core.List.{List, [], _∷_}
 use native.Mathlib.Omega.{arith}
-use Rattle.byte.proofs.Tests.{by-eqb}
+use Rattle.base.proofs.Tests.{by-eqb}
 use Rattle.kmp.specs.Code.Shift.{Shift}
 
 abbrev a : ℕ

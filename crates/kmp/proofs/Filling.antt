@@ -5,7 +5,7 @@ use mathlib.Core.List.{List}
 use native.Mathlib.Omega.{arith}
 use lib.ListN.{length, getD, set, length-set}
 use lib.Seq.{getD-set-same, getD-set-other}
-use Rattle.byte.proofs.Tests.{by-eqb, by-leb}
+use Rattle.base.proofs.Tests.{by-eqb, by-leb}
 use Rattle.kmp.specs.Code.Shift.{Agrees, Shift, Table}
 use Rattle.kmp.proofs.Shifts.{shorter, empty, longer, differs, shifted, between}
 

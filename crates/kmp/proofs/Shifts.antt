@@ -4,7 +4,7 @@ use mathlib.Core.Path.{_≡_, sym, ap, _∙_}
 use mathlib.Core.List.{List}
 use native.Mathlib.Omega.{arith}
 use lib.ListN.{getD}
-use Rattle.byte.proofs.Tests.{by-eqb}
+use Rattle.base.proofs.Tests.{by-eqb}
 use Rattle.kmp.specs.Code.Shift.{Agrees, Shift}
 
 module _ (p s : List ℕ) (c : ℕ) where

@@ -8,8 +8,8 @@ use native.Mathlib.Omega.{arith}
 use lib.Dec.{eqb, ltb}
 use lib.ListN.{length, getD, take, drop, length-drop, drop-of-length-le}
 use lib.Seq.{drop-drop, getD-drop}
-use Rattle.byte.proofs.Parts.{next}
-use Rattle.byte.proofs.Tests.{choice, by-eqb, by-leb}
+use Rattle.base.proofs.Parts.{next}
+use Rattle.base.proofs.Tests.{choice, by-eqb, by-leb}
 use Rattle.search.specs.declared.Found.the-variants.{At, Nothing}
 use Rattle.search.specs.First.{firstFrom}
 use Rattle.search.proofs.Prefix.{other}

@@ -5,7 +5,7 @@ use mathlib.Core.List.{List, [], _∷_}
 use mathlib.Core.Bool.{Bool, true, false, cond, _&&_}
 use borrow.Author.Tests.{ne-eqb, eqb-true}
 use lib.Dec.{eqb}
-use Rattle.byte.proofs.Tests.{by-eqb, by-bool, never}
+use Rattle.base.proofs.Tests.{by-eqb, by-bool, never}
 use Rattle.lines.specs.Lines.{front, feedNext, lines}
 
 -- a text by its first element

@@ -4,7 +4,7 @@ use mathlib.Core.Path.{_≡_, refl, sym, ap, _∙_}
 use mathlib.Core.List.{List, [], _∷_, _++_}
 use mathlib.Core.Bool.{true}
 use borrow.Author.Tests.{ne-eqb}
-use Rattle.byte.proofs.Tests.{by-eqb, never}
+use Rattle.base.proofs.Tests.{by-eqb, never}
 use Rattle.lines.specs.Lines.{front, lines, feedFree}
 use Rattle.lines.specs.Code.Returns.{lessReturn}
 use Rattle.lines.proofs.Laws.{lines-other, no-return, no-feed}

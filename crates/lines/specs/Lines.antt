@@ -3,7 +3,7 @@ use Prim.Native.Nat.{ℕ}
 use mathlib.Core.List.{List, [], _∷_}
 use mathlib.Core.Bool.{Bool, true, false, _&&_}
 use lib.Dec.{eqb}
-pub use Rattle.byte.specs.Texts.{front}
+pub use Rattle.base.specs.Texts.{front}
 
 -- no line has its ending, the last ending is optional, and a carriage return anywhere else is part of its line.
 -- Both endings are ASCII, so the definition serves bytes and code points alike.

@@ -6,9 +6,9 @@ use mathlib.Core.Bool.{true, false}
 use borrow.Author.Tests.{eq-eqb, ne-eqb}
 use native.Mathlib.Omega.{arith}
 use lib.ListN.{length, getD, drop, length-append}
-use Rattle.byte.specs.Range.{within}
-use Rattle.byte.proofs.Tests.{never, by-eqb, between, above}
-use Rattle.byte.proofs.Parts.{next}
+use Rattle.base.specs.Range.{within}
+use Rattle.base.proofs.Tests.{never, by-eqb, between, above}
+use Rattle.base.proofs.Parts.{next}
 use Rattle.search.specs.First.{prefixOf}
 use Rattle.search.proofs.Prefix.{split}
 use Rattle.lines.specs.Lines.{feedFree}

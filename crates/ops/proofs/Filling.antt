@@ -7,7 +7,7 @@ use native.Mathlib.Nat.{min-le-left, min-le-right}
 use native.Mathlib.Numerals.{add-one}
 use lib.ListN.{length, take, drop, set, length-set, take-append-drop}
 use lib.Seq.{drop-drop, drop-set-lt, take-suc-set}
-use Rattle.byte.proofs.Tests.{by-leb}
+use Rattle.base.proofs.Tests.{by-leb}
 use Rattle.lines.specs.Lines.{lines}
 use Rattle.kinds.specs.Kinds.{Operation, operation}
 use Rattle.ops.specs.Line.{Rule}

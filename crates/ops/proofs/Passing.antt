@@ -5,7 +5,7 @@ use mathlib.Core.List.{List}
 use mathlib.Core.Bool.{Bool, true, false}
 use native.Mathlib.Omega.{arith}
 use lib.ListN.{length, set, length-set}
-use Rattle.byte.proofs.Tests.{never}
+use Rattle.base.proofs.Tests.{never}
 use Rattle.lines.specs.Lines.{lines}
 use Rattle.ops.specs.Line.{Rule}
 use Rattle.ops.specs.Ops.{readLines, someRead, answerOf}

@@ -6,8 +6,8 @@ use mathlib.Core.Bool.{Bool, true, false, cond, _&&_}
 use borrow.Author.Tests.{ne-eqb}
 use native.Mathlib.Omega.{arith}
 use lib.ListN.{length, getD, drop}
-use Rattle.byte.specs.Range.{within}
-use Rattle.byte.proofs.Tests.{never, and-left, and-right, and-both, between, inside, above}
+use Rattle.base.specs.Range.{within}
+use Rattle.base.proofs.Tests.{never, and-left, and-right, and-both, between, inside, above}
 use Rattle.utf8.specs.Utf8.{utf8}
 use Rattle.utf8.proofs.Lead.{one-is}
 use Rattle.utf8.proofs.Encoding.{append}
@@ -16,8 +16,8 @@ use Rattle.lines.specs.Code.Returns.{lessReturn}
 use Rattle.lines.proofs.Written.{free-cons, free-append, line-then}
 use Rattle.trim.specs.Trim.{white1, startTrimmed, trimmed}
 use Rattle.trim.proofs.Laws.{trimmed-kept}
-use Rattle.number.specs.Decimal.{digit, allDigits}
-use Rattle.number.specs.declared.Number.the-variants.{Is}
+use Rattle.decimal.specs.Decimal.{digit, allDigits}
+use Rattle.decimal.specs.declared.Number.the-variants.{Is}
 use Rattle.kinds.specs.Kinds.{kindOf}
 use Rattle.kinds.proofs.ByKind.{span, _&_, end}
 use Rattle.ops.specs.Kinds.{follows, lineWith, partOf, parted}

@@ -6,15 +6,15 @@ use mathlib.Core.Bool.{Bool, true, false, cond, _&&_}
 use native.Mathlib.Omega.{arith}
 use lib.ListN.{length, drop, length-append, length-drop}
 use lib.Seq.{drop-drop}
-use Rattle.byte.proofs.Tests.{by-bool, and-left, between}
+use Rattle.base.proofs.Tests.{by-bool, and-left, between}
 use Rattle.search.specs.First.{prefixOf}
 use Rattle.search.proofs.Prefix.{split}
-use Rattle.number.specs.Decimal.{digit, digits, allDigits, value, numberOf}
-use Rattle.number.specs.Code.Digits.{capped}
-use Rattle.number.specs.declared.Value.the-variants as Value
-use Rattle.number.specs.declared.Number.the-variants as Number
-use Rattle.number.proofs.Runs.{digits-own, digits-short}
-use Rattle.number.proofs.FromStr.{asNumber, not-signed, read-all}
+use Rattle.decimal.specs.Decimal.{digit, digits, allDigits, value, numberOf}
+use Rattle.decimal.specs.Code.Digits.{capped}
+use Rattle.decimal.specs.declared.Value.the-variants as Value
+use Rattle.decimal.specs.declared.Number.the-variants as Number
+use Rattle.decimal.proofs.Runs.{digits-own, digits-short}
+use Rattle.decimal.proofs.FromStr.{asNumber, not-signed, read-all}
 use Rattle.kinds.specs.Kinds.{kindOf}
 use Rattle.ops.specs.Kinds.{follows, lineWith}
 use Rattle.ops.specs.Code.Passes.{OperationAt, PlainRead, WordAt}

@@ -8,7 +8,7 @@ use native.Mathlib.Omega.{arith}
 use lib.Dec.{leb}
 use lib.ListN.{length, getD, take, drop, length-drop, drop-of-length-le}
 use lib.Seq.{drop-drop}
-use Rattle.byte.proofs.Tests.{by-leb}
+use Rattle.base.proofs.Tests.{by-leb}
 use Rattle.utf8.specs.Utf8.{utf8}
 use Rattle.lines.specs.Lines.{lines}
 use Rattle.lines.specs.Cursor.{span, firstLine, lineFrom, lineAt}

@@ -10,8 +10,8 @@ use lib.Dec.{eqb}
 use lib.ListN.{length, getD, take, drop, length-take, length-drop}
 use Rattle.trim.specs.Trim.{startTrimmed, endTrimmed, trimmed}
 use Rattle.trim.proofs.Laws.{startTrimmed-length, endTrimmed-length}
-use Rattle.number.specs.Decimal.{numberOf}
-use Rattle.number.specs.declared.Number.{Number}
+use Rattle.decimal.specs.Decimal.{numberOf}
+use Rattle.decimal.specs.declared.Number.{Number}
 use Rattle.kinds.specs.Kinds.{Operand, kindOf}
 use Rattle.kinds.proofs.ByKind as ByKind
 use Rattle.kinds.proofs.ByKind.{span, _&_, no-kind}

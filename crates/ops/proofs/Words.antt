@@ -9,9 +9,9 @@ use native.Mathlib.Omega.{arith}
 use lib.Dec.{eqb, ltb}
 use lib.ListN.{length, getD, drop, length-drop, length-append}
 use lib.Seq.{drop-drop}
-use Rattle.byte.specs.Ascii.{ascii}
-use Rattle.byte.proofs.Tests.{by-eqb, by-bool, never, and-left, and-right}
-use Rattle.byte.proofs.Parts.{next}
+use Rattle.base.specs.Ascii.{ascii}
+use Rattle.base.proofs.Tests.{by-eqb, by-bool, never, and-left, and-right}
+use Rattle.base.proofs.Parts.{next}
 use Rattle.search.specs.First.{prefixOf}
 use Rattle.search.proofs.Prefix.{same, other, too-long, fits, byte-yes, byte-no}
 use Rattle.kinds.specs.Kinds.{none, Kind, kind, kinds, kindOf}

@@ -11,8 +11,8 @@ use Rattle.utf8.proofs.Encoding.{append}
 use Rattle.lines.specs.Lines.{lines, feedFree}
 use Rattle.lines.proofs.Written.{free-cons, line-then}
 use Rattle.trim.proofs.Blanks as Blank
-use Rattle.number.specs.Decimal.{decimal}
-use Rattle.number.proofs.Decimal.{allDigits-decimal, length-positive, round-trip}
+use Rattle.decimal.specs.Decimal.{decimal}
+use Rattle.decimal.proofs.Laws.{allDigits-decimal, length-positive, round-trip}
 use Rattle.kinds.specs.Kinds.{kindOf, Operation, operation}
 use Rattle.ops.specs.Kinds.{follows}
 use Rattle.ops.specs.Line.{Rule, fromStr, ReadsDigits, lineOf}

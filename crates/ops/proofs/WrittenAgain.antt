@@ -7,13 +7,13 @@ use borrow.Author.Tests.{ltb-true}
 use native.Mathlib.Omega.{arith}
 use lib.Dec.{ltb}
 use lib.ListN.{length}
-use Rattle.byte.proofs.Tests.{by-bool, never}
+use Rattle.base.proofs.Tests.{by-bool, never}
 use Rattle.utf8.specs.Utf8.{utf8}
 use Rattle.lines.specs.Lines.{lines}
 use Rattle.trim.specs.Trim.{startTrimmed, trimmed}
-use Rattle.number.specs.Decimal.{allDigits, value, withoutPlus}
-use Rattle.number.specs.declared.Number.{Number}
-use Rattle.number.specs.declared.Number.the-variants.{Is, Invalid}
+use Rattle.decimal.specs.Decimal.{allDigits, value, withoutPlus}
+use Rattle.decimal.specs.declared.Number.{Number}
+use Rattle.decimal.specs.declared.Number.the-variants.{Is, Invalid}
 use Rattle.kinds.specs.Kinds.{kindOf, Operation, operation}
 use Rattle.ops.specs.Kinds.{follows, parted}
 use Rattle.ops.specs.Line.{Rule, fromStr, ReadsDigits, ReadsWords, ofNumber, partRead, skipped, lineOf}

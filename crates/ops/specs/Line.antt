@@ -6,9 +6,9 @@ use mathlib.Core.Bool.{Bool, true, cond}
 use lib.Dec.{eqb}
 use lib.ListN.{length, drop}
 use Rattle.trim.specs.Trim.{trimmed, passed}
-use Rattle.number.specs.Decimal.{allDigits, numberOf}
-use Rattle.number.specs.declared.Number.{Number}
-use Rattle.number.specs.declared.Number.the-variants.{Is, Invalid}
+use Rattle.decimal.specs.Decimal.{allDigits, numberOf}
+use Rattle.decimal.specs.declared.Number.{Number}
+use Rattle.decimal.specs.declared.Number.the-variants.{Is, Invalid}
 use Rattle.kinds.specs.Kinds.{Operand, none, value, slot, target, kindOf}
 use Rattle.ops.specs.Kinds.{parted}
 use Rattle.ops.specs.declared.kind.Parted.{Parted}

@@ -5,7 +5,7 @@ use mathlib.Core.List.{List, [], _∷_, _++_}
 use mathlib.Core.Bool.{true, cond}
 use Rattle.utf8.specs.Utf8.{utf8}
 use Rattle.lines.specs.Lines.{feedFree}
-use Rattle.number.specs.Decimal.{decimal}
+use Rattle.decimal.specs.Decimal.{decimal}
 use Rattle.kinds.specs.Kinds.{kindOf, Operation, operation}
 use Rattle.ops.specs.Kinds.{follows, lineWith}
 

@@ -2,7 +2,7 @@
 use super::word::four;
 use super::word::one;
 use super::word::two;
-use byte::both;
+use base::both;
 ghost use mathlib.Core.Path.{_≡_};
 ghost use mathlib.Core.Bool.{cond};
 ghost use Rattle.ops.specs.Kinds.{parted, FirstIs};

@@ -14,7 +14,7 @@ use numbered::plain;
 ghost use mathlib.Core.Path.{_≡_};
 ghost use mathlib.Core.Bool.{true};
 ghost use Prim.Native.Nat.{min};
-ghost use Rattle.byte.specs.Part.{Part};
+ghost use Rattle.base.specs.Part.{Part};
 ghost use Rattle.ops.specs.Line.{fromStr};
 ghost use Rattle.ops.specs.Numbers.{opsErrorNumbered, parsedOpsNumbered};
 ghost use Rattle.ops.specs.Ops.{Parsed, trimmedLine, trimmedPlace};

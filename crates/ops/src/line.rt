@@ -5,10 +5,10 @@ use super::kind::part;
 use super::plain::Plain;
 use super::plain::plain_at;
 use super::word::one;
-use byte::either;
-use byte::in_range;
+use base::either;
+use base::in_range;
+use decimal::Number;
 use lines::Step;
-use number::Number;
 ghost use mathlib.Core.Path.{_≡_};
 ghost use Prim.Native.Nat.{_+_, _-_, _^_, _<_, _≤_};
 ghost use lib.ListN.{length, take, drop};
@@ -193,7 +193,7 @@ fn number_by(rule: Rule, kind: u8, text: &[u8]) -> Number
     ensures { λ r. ⌜ r ≡ ruleOf rule (kindOf kind .operand) (now (text .entry)) ⌝ }
 {
     match rule {
-        Rule::FromStr => number::from_str(text),
+        Rule::FromStr => decimal::from_str(text),
     }
 }
 

@@ -2,9 +2,9 @@
 use super::word::four;
 use super::word::one;
 use super::word::two;
-use byte::both;
-use byte::widen;
-use number::Value;
+use base::both;
+use base::widen;
+use decimal::Value;
 ghost use mathlib.Core.Path.{_≡_};
 ghost use mathlib.Core.Bool.{true, cond};
 ghost use Prim.Native.Nat.{_<_, _≤_};
@@ -138,7 +138,7 @@ fn operand(text: &[u8], at: usize, fits: bool, kind: u8, digits: usize) -> Plain
     if !fits {
         return Plain::Other;
     }
-    let run = number::few_digits_at(text, digits);
+    let run = decimal::few_digits_at(text, digits);
     let len = run.len;
     if len == 0 {
         return Plain::Other;

@@ -1,5 +1,5 @@
 // Whether one, two or four bytes stand at a place of a text. The callers' places lie few bytes behind one in the text, so sums fit a word.
-use byte::both;
+use base::both;
 ghost use mathlib.Core.Path.{_≡_};
 ghost use mathlib.Core.List.{[], _∷_};
 ghost use Prim.Native.Nat.{_+_, _^_, _<_};

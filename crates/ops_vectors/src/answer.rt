@@ -36,7 +36,7 @@ fn spaced(n: u64) {
 
 pub fn kinds(k: &[u8]) {
     for i in 0..k.len() {
-        entry(byte::widen(k[i]));
+        entry(base::widen(k[i]));
     }
     end_line();
 }

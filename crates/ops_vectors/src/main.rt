@@ -4,7 +4,7 @@
 // each whole buffer after the call, and the trimmed lines 0 to 3 in brackets.
 mod answer;
 
-use number::Number;
+use decimal::Number;
 ghost use Prim.Native.Nat.{_≤_};
 ghost use lib.ListN.{length};
 
@@ -36,7 +36,7 @@ fn replay(input: &[u8]) {
 fn field(input: &[u8], from: usize, to: usize) -> usize
     requires { ⌜ (from ≤ to) × (to ≤ length (now input)) ⌝ }
 {
-    let number = number::from_str(&input[from..to]);
+    let number = decimal::from_str(&input[from..to]);
     match number {
         Number::Is(n) => n as usize,
         Number::Invalid => 0,

@@ -8,8 +8,8 @@ use native.Mathlib.Omega.{arith}
 use lib.Dec.{eqb}
 use lib.ListN.{length, getD, take, drop, length-drop}
 use lib.Seq.{split-at, take-take, length-take-le}
-use Rattle.byte.proofs.Parts.{next, rest, middle}
-use Rattle.byte.proofs.Tests.{never, by-eqb}
+use Rattle.base.proofs.Parts.{next, rest, middle}
+use Rattle.base.proofs.Tests.{never, by-eqb}
 use Rattle.path.specs.Stem.{partsFrom, ignored, lastOf, component, parent, has, beforeLast, stemOf}
 use Rattle.path.specs.Code.Scan.{Last, StartsPart}
 

@@ -4,7 +4,7 @@ ghost use Prim.Native.Nat.{_≤_};
 ghost use lib.ListN.{length};
 ghost use Rattle.path.specs.Stem.{ignored, parent, component, fileName, stemOf, fileStem};
 ghost use Rattle.path.specs.Code.Scan.{LastAt, StartsPart};
-use byte::both;
+use base::both;
 use search::Found;
 
 pub fn file_stem<'a>(path: &'a [u8]) -> &'a [u8]

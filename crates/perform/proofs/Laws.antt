@@ -6,7 +6,7 @@ use mathlib.Core.Bool.{true, _&&_}
 use lib.Dec.{eqb, leb}
 use lib.ListN.{length}
 use borrow.Author.Tests.{eqb-true, leb-true}
-use Rattle.byte.proofs.Tests.{and-left, and-right}
+use Rattle.base.proofs.Tests.{and-left, and-right}
 use Rattle.checks.specs.Verify.{buffersFit}
 use Rattle.perform.specs.Lent.{Lent}
 

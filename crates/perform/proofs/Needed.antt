@@ -10,8 +10,8 @@ use lib.ListN.{length, getD, set, take, drop, length-set, length-append, length-
 use lib.Seq.{getD-set-same, getD-set-other, getD-take, getD-drop, getD-append-add, length-take-le, ext-getD}
 use lib.Dec.{eqb, leb, ltb}
 use borrow.Author.Tests.{eq-eqb, ne-eqb, le-leb, lt-leb, lt-ltb, le-ltb}
-use Rattle.byte.proofs.Tests.{never, and-right, and-both, by-bool, by-eqb}
-use Rattle.byte.proofs.Parts.{next}
+use Rattle.base.proofs.Tests.{never, and-right, and-both, by-bool, by-eqb}
+use Rattle.base.proofs.Parts.{next}
 use Rattle.kinds.specs.Kinds.{Operation, operation}
 use Rattle.kinds.proofs.ByKind.{takes-slot}
 use Rattle.machine.specs.Machine.{storeAt, priceOf, halt, decode, whole}

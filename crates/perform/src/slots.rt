@@ -39,7 +39,7 @@ fn has_store(kinds: &[u8]) -> bool
     let mut hit = false;
     let mut i: usize = 0;
     while i < kinds.len() {
-        hit = byte::either(hit, kinds[i] == 12);
+        hit = base::either(hit, kinds[i] == 12);
         i += 1;
     }
     hit
@@ -65,7 +65,7 @@ fn copy_slot(d: &mut [u64], s: &[u64], kind: u8, operand: u64, used: usize)
         (now (s .entry)) (now (d .entry)) (now (d .exit)) ⌝ }
 {
     let slot = operand as usize;
-    if byte::either(kind == 11, kind == 12) {
+    if base::either(kind == 11, kind == 12) {
         if slot < used {
             d[slot] = s[slot];
         }

@@ -6,7 +6,7 @@ use native.Mathlib.Omega.{arith}
 use lib.ListN.{length, take, drop, length-append, length-take, length-drop}
 use lib.Seq.{take-at, take-all, take-append-add, drop-append-add, drop-drop, length-take-le}
 use native.Mathlib.Nat.{zero-add}
-use Rattle.number.specs.Decimal.{decimal}
+use Rattle.decimal.specs.Decimal.{decimal}
 use Rattle.ops.specs.Ops.{onto}
 use Rattle.writer.specs.Code.Pieces.{Put}
 use Rattle.writer.proofs.Pieces.{put-length}

@@ -1,5 +1,5 @@
 // Text put together piece by piece at the start of a lent buffer. What has no room is cut off.
-ghost use Rattle.number.specs.Decimal.{decimal};
+ghost use Rattle.decimal.specs.Decimal.{decimal};
 ghost use Rattle.pieces.specs.Code.Added.{Added};
 use writer::put_bytes;
 use writer::put_decimal;

@@ -5,7 +5,7 @@ use mathlib.Core.List.{List, [], _∷_}
 use mathlib.Core.Bool.{Bool, true, _&&_}
 use borrow.Author.Tests.{eqb-true}
 use lib.Dec.{eqb}
-use Rattle.byte.proofs.Tests.{and-left, and-right, by-or, never}
+use Rattle.base.proofs.Tests.{and-left, and-right, by-or, never}
 use Rattle.relied.specs.Numbers.{isOneOf, Among}
 
 abbrev pub allIn : List ℕ → List ℕ → Bool

@@ -3,10 +3,10 @@ use Prim.Native.Nat.{ℕ}
 use mathlib.Core.Path.{_≡_, refl}
 use mathlib.Core.Bool.{Bool, true, false}
 use mathlib.Core.List.{List, [], _∷_}
-use Rattle.byte.specs.Ascii.{ascii}
-use Rattle.byte.specs.Equal.{equal}
-use Rattle.byte.specs.Need.{need}
-use Rattle.byte.proofs.Tests.{never}
+use Rattle.base.specs.Ascii.{ascii}
+use Rattle.base.specs.Equal.{equal}
+use Rattle.base.specs.Need.{need}
+use Rattle.base.proofs.Tests.{never}
 use Rattle.context.specs.declared.ContextError.{ContextError}
 use Rattle.context.specs.declared.ContextError.the-variants.{InvalidChainId, InvalidNetworkId, InvalidGenesisId, ProtocolMismatch, VmMismatch, GenesisMismatch}
 use Rattle.context.specs.declared.Gate.{Gate}

@@ -7,15 +7,15 @@ use borrow.Author.Tests.{leb-true}
 use native.Mathlib.Omega.{arith}
 use lib.Dec.{eqb, leb}
 use lib.ListN.{length, drop, length-append}
-use Rattle.byte.proofs.Tests.{and-left, and-right}
+use Rattle.base.proofs.Tests.{and-left, and-right}
 use Rattle.utf8.specs.Utf8.{utf8}
 use Rattle.search.specs.First.{prefixOf}
 use Rattle.search.proofs.Prefix.{fits}
 use Rattle.lines.specs.Lines.{lines}
 use Rattle.trim.specs.Trim.{startTrimmed, trimmed, passed}
 use Rattle.trim.proofs.Laws.{startTrimmed-length, endTrimmed-length}
-use Rattle.number.specs.declared.Number.{Number}
-use Rattle.number.specs.declared.Number.the-variants.{Is, Invalid}
+use Rattle.decimal.specs.declared.Number.{Number}
+use Rattle.decimal.specs.declared.Number.the-variants.{Is, Invalid}
 use Rattle.kinds.specs.Kinds as Operands
 use Rattle.kinds.specs.Kinds.{Operand, Kind, kinds, kindOf, Operation, operation}
 use Rattle.ops.specs.Kinds.{follows, partOf, partedFrom, parted}

@@ -9,8 +9,8 @@ use mathlib.Core.List.{List, [], _∷_}
 use lib.ListN.{length, getD, take}
 use lib.Dec.{ltb, leb, eqb}
 use borrow.Author.Tests.{lt-ltb, le-leb, eq-eqb, ltb-true, ltb-false, leb-true, leb-false, eqb-true, eqb-false}
-use Rattle.byte.specs.Need.{need}
-use Rattle.byte.proofs.Tests.{never, and-both}
+use Rattle.base.specs.Need.{need}
+use Rattle.base.proofs.Tests.{never, and-both}
 use Rattle.word.specs.Apply.{Binary, add, sub, mul, div, eq, lt, apply}
 use Rattle.kinds.specs.Kinds.{Operation, operation}
 use Rattle.kinds.proofs.ByKind.{Span, end, _&_, span, priced, unpriced}

@@ -37,7 +37,7 @@ pub fn digits_end(s: &[u8], at: usize) -> usize {
 pub fn print(s: &[u8]) {
     let mut i: usize = 0;
     while i < s.len() {
-        io::print_hex(1, byte::widen(s[i]), 2);
+        io::print_hex(1, base::widen(s[i]), 2);
         i += 1;
     }
 }
@@ -47,7 +47,7 @@ pub fn number(s: &[u8]) -> u64 {
     let mut n: u64 = 0;
     let mut i: usize = 0;
     while i < s.len() {
-        n = n % 0x100_0000_0000_0000 * 256 + byte::widen(s[i]);
+        n = n % 0x100_0000_0000_0000 * 256 + base::widen(s[i]);
         i += 1;
     }
     n
@@ -62,11 +62,11 @@ fn is_pair(s: &[u8], i: usize) -> bool
     if s.len() - i < 2 {
         return false;
     }
-    byte::both(is_digit(s[i]), is_digit(s[i + 1]))
+    base::both(is_digit(s[i]), is_digit(s[i + 1]))
 }
 
 fn is_digit(b: u8) -> bool {
-    byte::either(byte::in_range(b'0', b'9', b), byte::in_range(b'a', b'f', b))
+    base::either(base::in_range(b'0', b'9', b), base::in_range(b'a', b'f', b))
 }
 
 fn value(b: u8) -> u8

@@ -1,9 +1,9 @@
 // What the calls of the text floor give, as text.
 use super::hex;
+use decimal::Number;
+use decimal::Value;
+use decimal::Written;
 use lines::Step;
-use number::Number;
-use number::Value;
-use number::Written;
 use search::Found;
 
 pub fn print(call: u8, a: &[u8], b: &[u8]) {
@@ -51,7 +51,7 @@ fn spaced(n: usize) {
 }
 
 fn parsed(s: &[u8]) {
-    let number = number::from_str(s);
+    let number = decimal::from_str(s);
     match number {
         Number::Is(n) => {
             io::print_decimal(1, n);
@@ -64,12 +64,12 @@ fn parsed(s: &[u8]) {
 
 // The number that a text writes, written again.
 fn rewritten(s: &[u8]) {
-    let number = number::from_str(s);
+    let number = decimal::from_str(s);
     let Number::Is(n) = number else {
         return;
     };
     let mut out = [0u8; 20];
-    let written = number::write_decimal(n, &mut out, 0);
+    let written = decimal::write_decimal(n, &mut out, 0);
     let Written::To(end) = written else {
         return;
     };
@@ -80,7 +80,7 @@ fn rewritten(s: &[u8]) {
 }
 
 fn digits(s: &[u8]) {
-    let run = number::digits_at(s, 0);
+    let run = decimal::digits_at(s, 0);
     spaced(run.len);
     let value = run.value;
     match value {

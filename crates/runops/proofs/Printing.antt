@@ -5,9 +5,9 @@ use mathlib.Core.List.{List, [], _∷_, _++_}
 use native.Mathlib.Omega.{arith}
 use lib.ListN.{length, drop, length-append}
 use lib.Seq.{take-all}
-use Rattle.byte.specs.Ascii.{ascii}
-use Rattle.number.specs.Decimal.{decimal}
-use Rattle.number.proofs.Decimal.{length-word}
+use Rattle.base.specs.Ascii.{ascii}
+use Rattle.decimal.specs.Decimal.{decimal}
+use Rattle.decimal.proofs.Laws.{length-word}
 use Rattle.ops.specs.Ops.{onto}
 use Rattle.pieces.specs.Code.Added.{Added}
 use Rattle.runops.specs.declared.report.Report.{Report}

@@ -5,8 +5,8 @@ use mathlib.Core.List.{List, [], _∷_, _++_}
 use mathlib.Core.Bool.{cond}
 use lib.Dec.{ltb}
 use lib.ListN.{length, getD, replicate}
-use Rattle.byte.specs.Ascii.{ascii}
-use Rattle.number.specs.Decimal.{decimal}
+use Rattle.base.specs.Ascii.{ascii}
+use Rattle.decimal.specs.Decimal.{decimal}
 use Rattle.ops.specs.Ops.{Reading, ops, refused, readText, onto, kindsOf, operandsOf}
 use Rattle.ops.specs.Numbers.{opsErrorNumbered}
 use Rattle.perform.specs.declared.Answer.{Answer}

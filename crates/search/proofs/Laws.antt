@@ -6,8 +6,8 @@ use mathlib.Core.Bool.{Bool, true, false, _||_}
 use borrow.Author.Tests.{le-leb, lt-leb}
 use native.Mathlib.Omega.{arith}
 use lib.ListN.{length, getD, drop, drop-of-length-le, length-drop}
-use Rattle.byte.proofs.Tests.{by-bool, by-leb, by-eqb, never}
-use Rattle.byte.proofs.Parts.{next}
+use Rattle.base.proofs.Tests.{by-bool, by-leb, by-eqb, never}
+use Rattle.base.proofs.Parts.{next}
 use Rattle.search.specs.declared.Found.{Found}
 use Rattle.search.specs.declared.Found.the-variants.{At, Nothing}
 use Rattle.search.specs.First.{prefixOf, firstFrom, firstAt}

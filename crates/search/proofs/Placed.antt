@@ -7,7 +7,7 @@ use borrow.Author.Tests.{eq-eqb, ne-eqb, lt-ltb, le-ltb}
 use native.Mathlib.Omega.{arith}
 use lib.Dec.{eqb, ltb}
 use lib.ListN.{length, getD}
-use Rattle.byte.proofs.Tests.{by-eqb, by-leb}
+use Rattle.base.proofs.Tests.{by-eqb, by-leb}
 use Rattle.search.specs.First.{firstAt}
 use Rattle.search.specs.Code.Scan.{Least}
 use Rattle.search.proofs.Prefix.{byte-yes, byte-no}

@@ -8,8 +8,8 @@ use native.Mathlib.Omega.{arith}
 use lib.Dec.{eqb}
 use lib.ListN.{length, getD, drop, drop-of-length-le, length-append, length-drop, List·getD-append}
 use lib.Seq.{getD-drop}
-use Rattle.byte.proofs.Tests.{by-bool, by-leb, by-eqb, never}
-use Rattle.byte.proofs.Parts.{next}
+use Rattle.base.proofs.Tests.{by-bool, by-leb, by-eqb, never}
+use Rattle.base.proofs.Parts.{next}
 use Rattle.search.specs.First.{prefixOf}
 
 pub same : (a b : ℕ) (p s : List ℕ) → a ≡ b → prefixOf (a ∷ p) (b ∷ s) ≡ prefixOf p s

@@ -1,8 +1,8 @@
 // The first occurrence of a byte, and of a byte string, in a slice from a place on.
 // Whole blocks of places are passed by tests that have no branch and compile to vector code.
-use byte::both;
-use byte::either;
-use byte::pick;
+use base::both;
+use base::either;
+use base::pick;
 ghost use mathlib.Core.Path.{_≡_};
 ghost use mathlib.Core.List.{[], _∷_};
 ghost use mathlib.Core.Bool.{true, cond};

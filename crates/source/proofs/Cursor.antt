@@ -4,7 +4,7 @@ use mathlib.Core.Path.{_≡_, refl, sym, ap, _∙_}
 use mathlib.Core.List.{List, [], _∷_}
 use native.Mathlib.Omega.{arith}
 use lib.ListN.{length, take, drop}
-use Rattle.byte.proofs.Tests.{by-leb}
+use Rattle.base.proofs.Tests.{by-leb}
 use Rattle.source.specs.Parameters.{pieces, name, unlessEmpty, parameters}
 use Rattle.source.specs.Code.Cursor.{placed, parameterAt, visited, IsParameter}
 use Rattle.source.specs.declared.parameters.Parameter.{Parameter}

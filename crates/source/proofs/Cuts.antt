@@ -5,7 +5,7 @@ use mathlib.Core.List.{List, [], _∷_}
 use borrow.Author.Tests.{ne-eqb, eq-eqb}
 use native.Mathlib.Omega.{arith}
 use lib.ListN.{length, take, drop, length-drop}
-use Rattle.byte.proofs.Tests.{by-eqb, by-leb}
+use Rattle.base.proofs.Tests.{by-eqb, by-leb}
 use Rattle.search.specs.declared.Found.{Found}
 use Rattle.search.specs.declared.Found.the-variants.{At, Nothing}
 use Rattle.search.specs.First.{firstFrom, firstAt}

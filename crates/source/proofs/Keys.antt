@@ -4,11 +4,11 @@ use mathlib.Core.Path.{_≡_}
 use mathlib.Core.List.{List}
 use native.Mathlib.Omega.{arith}
 use lib.ListN.{length, drop, length-append}
-use Rattle.byte.specs.Ascii.{ascii}
+use Rattle.base.specs.Ascii.{ascii}
 use Rattle.search.specs.declared.Found.the-variants.{At, Nothing}
 use Rattle.search.specs.First.{firstAt}
 use Rattle.trim.specs.Trim.{startTrimmed}
-use Rattle.number.specs.Decimal.{digits}
+use Rattle.decimal.specs.Decimal.{digits}
 use Rattle.source.specs.Vector.{quoted, ofDigits, vectorNumber}
 use Rattle.source.specs.declared.vector.KeyValue.the-variants.{NoKey, NoColon}
 

@@ -4,7 +4,7 @@ use mathlib.Core.Path.{_≡_, refl, sym, ap, _∙_}
 use mathlib.Core.List.{List}
 use native.Mathlib.Omega.{arith}
 use lib.ListN.{length, take, drop}
-use Rattle.byte.proofs.Parts.{inner}
+use Rattle.base.proofs.Parts.{inner}
 use Rattle.trim.specs.Trim.{passed, trimmed}
 use Rattle.source.specs.Parameters.{before, name}
 use Rattle.source.specs.Code.Cursor.{trimmedSpan, nameSpan}

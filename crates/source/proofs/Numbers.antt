@@ -7,10 +7,10 @@ use native.Mathlib.Omega.{arith}
 use lib.Dec.{ltb}
 use lib.ListN.{length}
 use Rattle.numbered.specs.declared.Numbered.{Numbered}
-use Rattle.number.specs.Decimal.{value}
-use Rattle.number.specs.Code.Digits.{capped}
-use Rattle.number.specs.declared.Value.{Value}
-use Rattle.number.specs.declared.Value.the-variants as Value
+use Rattle.decimal.specs.Decimal.{value}
+use Rattle.decimal.specs.Code.Digits.{capped}
+use Rattle.decimal.specs.declared.Value.{Value}
+use Rattle.decimal.specs.declared.Value.the-variants as Value
 use Rattle.source.specs.Vector.{ofDigits}
 use Rattle.source.specs.declared.vector.KeyValue.{KeyValue}
 use Rattle.source.specs.declared.vector.KeyValue.the-variants.{Is, NoDigit, TooLarge}

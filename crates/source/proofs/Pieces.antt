@@ -5,8 +5,8 @@ use mathlib.Core.List.{List, [], _∷_}
 use native.Mathlib.Omega.{arith}
 use lib.ListN.{length, take, drop, length-drop, drop-of-length-le}
 use lib.Seq.{drop-drop}
-use Rattle.byte.proofs.Parts.{inner}
-use Rattle.byte.proofs.Tests.{by-leb, by-eqb}
+use Rattle.base.proofs.Parts.{inner}
+use Rattle.base.proofs.Tests.{by-leb, by-eqb}
 use Rattle.source.specs.Parameters.{before, front, pieces, name, names, unlessEmpty, parameters}
 use Rattle.source.specs.Code.Cursor.{nameSpan, comma, placed, firstKept, parameterAt}
 use Rattle.source.specs.declared.parameters.Span.{Span}

@@ -8,7 +8,7 @@ use native.Mathlib.Omega.{arith}
 use lib.Dec.{eqb}
 use lib.ListN.{length, getD, take, drop, set, List·getD-append}
 use lib.Seq.{drop-drop, getD-append-add, take-suc, take-suc-set, take-all}
-use Rattle.byte.proofs.Tests.{by-bool, by-eqb, never, and-left, and-right}
+use Rattle.base.proofs.Tests.{by-bool, by-eqb, never, and-left, and-right}
 use Rattle.search.specs.declared.Found.{Found}
 use Rattle.search.specs.declared.Found.the-variants.{Nothing}
 use Rattle.search.specs.First.{prefixOf, firstAt}

@@ -3,7 +3,7 @@ use Prim.Native.Nat.{ℕ}
 use mathlib.Core.List.{List, [], _∷_}
 use mathlib.Core.Bool.{true, false}
 use lib.Dec.{eqb}
-pub use Rattle.byte.specs.Texts.{front, unlessEmpty}
+pub use Rattle.base.specs.Texts.{front, unlessEmpty}
 use Rattle.trim.specs.Trim.{trimmed}
 
 -- the text before the first b, or all of it where there is none

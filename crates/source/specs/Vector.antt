@@ -4,12 +4,12 @@ use mathlib.Core.List.{List, [], _∷_, _++_}
 use mathlib.Core.Bool.{cond}
 use lib.Dec.{ltb}
 use lib.ListN.{length, drop}
-use Rattle.byte.specs.Ascii.{ascii}
+use Rattle.base.specs.Ascii.{ascii}
 use Rattle.numbered.specs.declared.Numbered.{Numbered}
 use Rattle.numbered.specs.Numbered.{plain, carrying}
 use Rattle.search.specs.First.{firstAt}
 use Rattle.trim.specs.Trim.{startTrimmed}
-use Rattle.number.specs.Decimal.{digits, value}
+use Rattle.decimal.specs.Decimal.{digits, value}
 use Rattle.source.specs.Found.{foundOr}
 use Rattle.source.specs.declared.vector.KeyValue.{KeyValue}
 use Rattle.source.specs.declared.vector.KeyValue.the-variants.{Is, NoKey, NoColon, NoDigit, TooLarge}

@@ -9,8 +9,8 @@ ghost use Rattle.search.specs.First.{prefixOf, firstAt};
 ghost use Rattle.search.specs.Code.Scan.{Clear};
 ghost use Rattle.source.specs.Vector.{quoted};
 ghost use Rattle.source.specs.Code.Marked.{Quotes, Marks, Room, FirstBefore, Other, Holds};
-use byte::both;
-use byte::either;
+use base::both;
+use base::either;
 use search::Found;
 
 // How many places a block has.

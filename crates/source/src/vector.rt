@@ -1,9 +1,9 @@
 // The vector's numbers.
 ghost use mathlib.Core.Path.{_≡_};
-ghost use Rattle.number.specs.Decimal.{digits};
+ghost use Rattle.decimal.specs.Decimal.{digits};
 ghost use Rattle.source.specs.Vector.{ofDigits, vectorNumber, keyValueNumbered};
 use crate::key::find_quoted;
-use number::Value;
+use decimal::Value;
 use numbered::Numbered;
 use numbered::carrying_one;
 use numbered::plain;
@@ -52,7 +52,7 @@ pub fn json_u64_for_key(vector: &[u8], key: &[u8]) -> KeyValue
 fn leading_number(text: &[u8]) -> KeyValue
     ensures { λ r. ⌜ r ≡ ofDigits (digits (now (text .entry))) ⌝ }
 {
-    let run = number::digits_at(text, 0);
+    let run = decimal::digits_at(text, 0);
     if run.len == 0 {
         return KeyValue::NoDigit;
     }

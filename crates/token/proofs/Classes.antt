@@ -5,9 +5,9 @@ use mathlib.Core.Bool.{Bool, true, false, _&&_, _||_}
 use native.Mathlib.Omega.{arith}
 use borrow.Author.Tests.{eqb-true}
 use lib.Dec.{eqb}
-use Rattle.byte.specs.Range.{within}
-use Rattle.byte.proofs.Tests.{by-bool, by-or, and-right, between}
-use Rattle.number.specs.Decimal.{digit}
+use Rattle.base.specs.Range.{within}
+use Rattle.base.proofs.Tests.{by-bool, by-or, and-right, between}
+use Rattle.decimal.specs.Decimal.{digit}
 use Rattle.token.specs.Token.{space, nameStart, namePart, sign, goesOn}
 
 -- bytes that part tokens come first, then signs, digits, letters

@@ -6,7 +6,7 @@ use mathlib.Core.Bool.{false}
 use native.Mathlib.Omega.{arith}
 use borrow.Author.Tests.{ne-eqb}
 use lib.ListN.{length, getD, drop}
-use Rattle.byte.proofs.Tests.{by-bool}
+use Rattle.base.proofs.Tests.{by-bool}
 use Rattle.token.specs.Token.{space, tokens}
 use Rattle.token.specs.Code.Places.{lastEnd}
 use Rattle.token.proofs.Tokens.{tokens-space, tokens-start, scan-token}

@@ -7,8 +7,8 @@ use mathlib.Core.Logic.{_↔_}
 use native.Mathlib.Omega.{arith}
 use lib.ListN.{length, drop}
 use lib.Seq.{drop-at}
-use Rattle.byte.proofs.Tests.{never, by-bool, by-or, and-left, and-right, and-both, between}
-use Rattle.number.specs.Decimal.{digit}
+use Rattle.base.proofs.Tests.{never, by-bool, by-or, and-left, and-right, and-both, between}
+use Rattle.decimal.specs.Decimal.{digit}
 use Rattle.token.specs.Token.{space, nameStart, namePart, sign, allowed, goesOn, scan, tokens}
 use Rattle.token.specs.Code.Places.{run}
 use Rattle.token.specs.Tokens.{every, IsToken, digits, name, single, Longest, Tokens, none, parted, token}

@@ -5,9 +5,9 @@ use mathlib.Core.List.{List, [], _∷_}
 use mathlib.Core.Bool.{Bool, true, false, _&&_, _||_}
 use native.Mathlib.Omega.{arith}
 use lib.ListN.{length, getD, take, drop, drop-of-length-le, List·getD-eq-default}
-use Rattle.byte.proofs.Tests.{never, by-bool, by-leb}
-use Rattle.byte.proofs.Parts.{next}
-use Rattle.number.specs.Decimal.{digit}
+use Rattle.base.proofs.Tests.{never, by-bool, by-leb}
+use Rattle.base.proofs.Parts.{next}
+use Rattle.decimal.specs.Decimal.{digit}
 use Rattle.token.specs.Token.{space, nameStart, namePart, sign, allowed, goesOn}
 use Rattle.token.specs.Code.Places.{run}
 

@@ -7,9 +7,9 @@ use native.Mathlib.Omega.{arith}
 use borrow.Author.Tests.{ne-eqb}
 use lib.ListN.{length, getD, take, drop, length-drop, drop-of-length-le}
 use lib.Seq.{drop-drop, getD-drop, append-snoc, length-take-le}
-use Rattle.byte.proofs.Tests.{by-bool, by-leb, below, between}
-use Rattle.byte.proofs.Parts.{next}
-use Rattle.number.specs.Decimal.{digit, digits, allDigits}
+use Rattle.base.proofs.Tests.{by-bool, by-leb, below, between}
+use Rattle.base.proofs.Parts.{next}
+use Rattle.decimal.specs.Decimal.{digit, digits, allDigits}
 use Rattle.token.specs.declared.Token.{Token}
 use Rattle.token.specs.Token.{space, nameStart, goesOn, scan, tokens}
 use Rattle.token.specs.Code.Places.{first, run, startAt, tokenAt}

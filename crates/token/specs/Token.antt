@@ -3,9 +3,9 @@ use Prim.Native.Nat.{ℕ}
 use mathlib.Core.List.{List, [], _∷_, _++_}
 use mathlib.Core.Bool.{Bool, true, false, _&&_, _||_}
 use lib.Dec.{eqb}
-use Rattle.byte.specs.Range.{within}
-use Rattle.byte.specs.Texts.{unlessEmpty}
-use Rattle.number.specs.Decimal.{digit}
+use Rattle.base.specs.Range.{within}
+use Rattle.base.specs.Texts.{unlessEmpty}
+use Rattle.decimal.specs.Decimal.{digit}
 
 -- tab, line feed, form feed, carriage return, space
 abbrev pub space : ℕ → Bool

@@ -3,12 +3,12 @@ ghost use mathlib.Core.Path.{_≡_};
 ghost use mathlib.Core.Bool.{_||_};
 ghost use Prim.Native.Nat.{_+_, _<_};
 ghost use lib.ListN.{length, getD, drop};
-ghost use Rattle.number.specs.Decimal.{digit};
+ghost use Rattle.decimal.specs.Decimal.{digit};
 ghost use Rattle.token.specs.Token.{space, nameStart, namePart, sign, allowed, goesOn};
 ghost use Rattle.token.specs.Code.Places.{run, startAt, tokenAt};
-use byte::both;
-use byte::either;
-use byte::in_range;
+use base::both;
+use base::either;
+use base::in_range;
 
 // From start up to end; empty where no token is left.
 pub struct Token {

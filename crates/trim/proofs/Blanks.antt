@@ -8,7 +8,7 @@ use native.Mathlib.Omega.{arith}
 use lib.Dec.{eqb}
 use lib.ListN.{length, getD, drop, length-append, length-drop}
 use lib.Seq.{drop-drop}
-use Rattle.byte.proofs.Tests.{never, and-left, and-right, by-bool, by-leb}
+use Rattle.base.proofs.Tests.{never, and-left, and-right, by-bool, by-leb}
 use Rattle.trim.specs.Trim.{white1, white2, white3, startTrimmed, back, endTrimmed}
 use Rattle.trim.specs.Code.Step.{back2, back3, threeLen}
 use Rattle.trim.specs.Code.Blank.{blank1, blanksLen, blanks1, blanks2, blanksEnd, BlankAt}

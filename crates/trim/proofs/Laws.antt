@@ -6,8 +6,8 @@ use mathlib.Core.Bool.{Bool, true, false}
 use native.Mathlib.Omega.{arith}
 use lib.ListN.{length, getD, take, length-reverse}
 use lib.Seq.{take-length}
-use Rattle.byte.proofs.Tests.{by-bool}
-use Rattle.byte.proofs.Parts.{last}
+use Rattle.base.proofs.Tests.{by-bool}
+use Rattle.base.proofs.Parts.{last}
 use Rattle.trim.proofs.White.{not2, not3}
 use Rattle.trim.specs.Trim.{white1, white2, white3, trimmedBy, after1, after2, startTrimmed, back, endTrimmed, trimmed}
 use Rattle.trim.specs.Code.Step.{back2, back3}

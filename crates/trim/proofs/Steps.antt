@@ -5,8 +5,8 @@ use mathlib.Core.List.{List, [], _∷_, reverse}
 use mathlib.Core.Bool.{cond}
 use native.Mathlib.Omega.{arith}
 use lib.ListN.{length, getD, take, drop, length-drop, drop-of-length-le}
-use Rattle.byte.proofs.Tests.{by-bool, by-leb}
-use Rattle.byte.proofs.Parts.{next, last}
+use Rattle.base.proofs.Tests.{by-bool, by-leb}
+use Rattle.base.proofs.Parts.{next, last}
 use Rattle.trim.specs.Trim.{white2, white3}
 use Rattle.trim.specs.Code.Step.{Step, WhiteAt, threeLen}
 use Rattle.trim.proofs.White.{not1, not2}

@@ -5,8 +5,8 @@ use mathlib.Core.Bool.{Bool, true, false, _&&_, _||_}
 use borrow.Author.Tests.{eqb-true}
 use native.Mathlib.Omega.{arith}
 use lib.Dec.{eqb}
-use Rattle.byte.specs.Range.{within}
-use Rattle.byte.proofs.Tests.{and-left, and-right, by-or, by-bool, between}
+use Rattle.base.specs.Range.{within}
+use Rattle.base.proofs.Tests.{and-left, and-right, by-or, by-bool, between}
 use Rattle.trim.specs.Trim.{white1, white2, white3}
 
 pub by-white1 : {P : Type 0} (a : ℕ) → white1 a ≡ true → (0x09 ≤ a → a ≤ 0x0D → P) → (a ≡ 0x20 → P) → P

@@ -4,7 +4,7 @@ use mathlib.Core.List.{List, [], _∷_, reverse}
 use mathlib.Core.Bool.{Bool, true, false, _&&_, _||_}
 use lib.Dec.{eqb}
 use lib.ListN.{length}
-use Rattle.byte.specs.Range.{within}
+use Rattle.base.specs.Range.{within}
 
 -- U+0009..000D, U+0020
 abbrev pub white1 : ℕ → Bool

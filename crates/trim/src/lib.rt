@@ -2,13 +2,13 @@
 ghost use mathlib.Core.Path.{_≡_};
 ghost use Prim.Native.Nat.{_-_, _≤_, _<_};
 ghost use lib.ListN.{length, getD, drop};
-ghost use Rattle.byte.specs.Part.{Part};
+ghost use Rattle.base.specs.Part.{Part};
 ghost use Rattle.trim.specs.Trim.{startTrimmed, endTrimmed, trimmed, passed, white1, white2, white3};
 ghost use Rattle.trim.specs.Code.Step.{WhiteAt, WhiteBefore, threeLen};
 ghost use Rattle.trim.specs.Code.Blank.{BlankAt, blanksEnd};
-use byte::both;
-use byte::either;
-use byte::in_range;
+use base::both;
+use base::either;
+use base::in_range;
 
 pub fn trim<'a>(s: &'a [u8]) -> &'a [u8]
     ensures { λ r. ⌜ Part (s .entry) r (passed (now (s .entry))) (trimmed (now (s .entry))) ⌝ }

@@ -7,8 +7,8 @@ use borrow.Author.Tests.{le-leb, lt-leb, leb-true, eqb-true, ne-eqb}
 use native.Mathlib.Omega.{arith}
 use lib.Dec.{leb, eqb}
 use Rattle.utf8.specs.Utf8.{utf8, after, after2, after3, tail, two, three, four}
-use Rattle.byte.specs.Range.{within}
-use Rattle.byte.proofs.Tests.{inside, between, and-left, and-right, and-both, by-or, by-leb, by-cond, never}
+use Rattle.base.specs.Range.{within}
+use Rattle.base.proofs.Tests.{inside, between, and-left, and-right, and-both, by-or, by-leb, by-cond, never}
 use Rattle.utf8.proofs.Lead.{utf8-cons, after-cons, after2-cons, after3-cons, one-is, two-is, three-is, four-is}
 use Rattle.utf8.specs.Encode.{scalar, scalars, encode, encode2, encode3, encode4, encodes, Valid}
 

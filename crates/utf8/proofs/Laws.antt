@@ -6,8 +6,8 @@ use mathlib.Core.Bool.{Bool, true, false, cond}
 use native.Mathlib.Omega.{arith}
 use lib.ListN.{length, getD, drop, length-drop}
 use native.Mathlib.Nat.{le-trans}
-use Rattle.byte.proofs.Parts.{next}
-use Rattle.byte.proofs.Tests.{by-leb}
+use Rattle.base.proofs.Parts.{next}
+use Rattle.base.proofs.Tests.{by-leb}
 use Rattle.utf8.specs.Utf8.{utf8, two, three, four}
 use Rattle.utf8.specs.Code.Passed.{Step, Bound}
 use Rattle.utf8.proofs.Lead.{one-is, two-is, three-is, four-is, two-short, three-short, four-short}

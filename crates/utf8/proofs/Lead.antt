@@ -6,7 +6,7 @@ use mathlib.Core.Bool.{false, cond}
 use borrow.Author.Tests.{le-leb, lt-leb, ne-eqb}
 use native.Mathlib.Omega.{arith}
 use lib.ListN.{length}
-use Rattle.byte.proofs.Tests.{below, above, choice}
+use Rattle.base.proofs.Tests.{below, above, choice}
 use Rattle.utf8.specs.Utf8.{utf8, after, after2, after3, one, two, three, four}
 
 -- a text by its first byte

@@ -5,8 +5,8 @@ use mathlib.Core.Bool.{Bool, true, false, cond, _&&_, _||_}
 use borrow.Author.Tests.{le-leb, lt-leb, ne-eqb}
 use native.Mathlib.Omega.{arith}
 use lib.Dec.{leb, eqb}
-use Rattle.byte.specs.Range.{within}
-use Rattle.byte.proofs.Tests.{inside, below, above, by-eqb, by-leb}
+use Rattle.base.specs.Range.{within}
+use Rattle.base.proofs.Tests.{inside, below, above, by-eqb, by-leb}
 use Rattle.utf8.specs.Utf8.{tail, three, four}
 
 or-false : (p : Bool) → (p || false) ≡ p

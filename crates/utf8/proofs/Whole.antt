@@ -9,9 +9,9 @@ use lib.Dec.{eqb, leb}
 use native.Mathlib.Nat.{le-trans}
 use lib.ListN.{length, getD, drop}
 use lib.Seq.{drop-drop}
-use Rattle.byte.specs.Range.{within}
-use Rattle.byte.proofs.Parts.{next}
-use Rattle.byte.proofs.Tests.{never, and-left, and-right, and-both, by-or, by-leb, between, inside}
+use Rattle.base.specs.Range.{within}
+use Rattle.base.proofs.Parts.{next}
+use Rattle.base.proofs.Tests.{never, and-left, and-right, and-both, by-or, by-leb, between, inside}
 use Rattle.utf8.specs.Utf8.{utf8, tail}
 use Rattle.utf8.specs.Code.Passed.{Passed}
 use Rattle.utf8.specs.Code.Windows.{opened, lowest, highest, follows, whole, Follow}

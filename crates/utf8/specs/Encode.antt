@@ -4,7 +4,7 @@ use mathlib.Core.Path.{_≡_}
 use mathlib.Core.List.{List, [], _∷_, _++_}
 use mathlib.Core.Bool.{Bool, true, cond, _&&_, _||_}
 use lib.Dec.{leb}
-use Rattle.byte.specs.Range.{within}
+use Rattle.base.specs.Range.{within}
 
 -- U+0000 to U+10FFFF without the surrogates, U+D800 to U+DFFF
 abbrev pub scalar : ℕ → Bool

@@ -3,7 +3,7 @@ use Prim.Native.Nat.{ℕ}
 use mathlib.Core.List.{List, [], _∷_}
 use mathlib.Core.Bool.{Bool, true, false, _&&_, _||_}
 use lib.Dec.{eqb, leb}
-use Rattle.byte.specs.Range.{within}
+use Rattle.base.specs.Range.{within}
 
 -- UTF8-tail = %x80-BF
 abbrev pub tail : ℕ → Bool

@@ -1,8 +1,8 @@
 // Whether a text is UTF-8, by RFC 3629.
-use byte::both;
-use byte::either;
-use byte::in_range;
-use byte::pick;
+use base::both;
+use base::either;
+use base::in_range;
+use base::pick;
 ghost use mathlib.Core.Path.{_≡_};
 ghost use mathlib.Core.Bool.{true, cond};
 ghost use Prim.Native.Nat.{ℕ, _+_, _≤_, _<_};

@@ -2,7 +2,7 @@
 use Prim.Native.Nat.{ℕ}
 use mathlib.Core.List.{List}
 use lib.ListN.{length}
-use Rattle.byte.specs.Need.{need}
+use Rattle.base.specs.Need.{need}
 use Rattle.context.specs.declared.Gate.{Gate}
 use Rattle.checks.specs.declared.Refusal.{Refusal}
 use Rattle.checks.specs.declared.Refusal.the-variants.{BufferLengths}

@@ -13,21 +13,21 @@ pub fn is_as_listed(
 ) -> bool {
     let answered = is_answered(line, answer, numbers);
     let left = is_left(line, stack, work, storage, numbers);
-    byte::both(answered, left)
+    base::both(answered, left)
 }
 
 fn is_answered(line: &[u8], answer: Numbered, numbers: &mut [u64]) -> bool {
     let answered = is_answer(list::part(line, b'/', 6), answer, numbers);
     let words = answer.words;
     let counted = has_first(list::part(line, b'/', 9), &[words[1]], numbers);
-    byte::both(answered, counted)
+    base::both(answered, counted)
 }
 
 fn is_left(line: &[u8], stack: &[u64], work: &[u64], storage: &[u64], numbers: &mut [u64]) -> bool {
     let items = has_first(list::part(line, b'/', 7), stack, numbers);
     let slots = has_first(list::part(line, b'/', 8), storage, numbers);
     let cleared = has_first(list::part(line, b'/', 10), work, numbers);
-    byte::both(items, byte::both(slots, cleared))
+    base::both(items, base::both(slots, cleared))
 }
 
 // The number and the values carried; of a success gas spent, items and used length.

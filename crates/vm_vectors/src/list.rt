@@ -2,7 +2,7 @@
 ghost use Prim.Native.Nat.{_≤_};
 ghost use lib.ListN.{length};
 ghost use Rattle.io.specs.Counts.{Counts};
-use number::Number;
+use decimal::Number;
 use search::Found;
 
 // The part that has n before it, each ended by a mark; empty where there are fewer.
@@ -43,7 +43,7 @@ fn stop(s: &[u8], mark: u8, at: usize) -> usize
 
 // The number that a text is, or 0 where it is none.
 pub fn number(text: &[u8]) -> u64 {
-    let number = number::from_str(text);
+    let number = decimal::from_str(text);
     match number {
         Number::Is(n) => n,
         Number::Invalid => 0,

@@ -24,7 +24,7 @@ pub fn line(counts: &mut [u64], line: &[u8], agrees: bool) {
         }
         return;
     }
-    if !byte::both(agrees, place < LINES) {
+    if !base::both(agrees, place < LINES) {
         add(counts, DIFFERENT);
         io::write_all(1, b"line ");
         io::print_decimal(1, entry(counts, LINES));

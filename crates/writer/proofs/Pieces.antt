@@ -7,11 +7,11 @@ use native.Mathlib.Numerals.{add-one}
 use native.Mathlib.Omega.{arith}
 use lib.ListN.{length, getD, take, drop, set, length-append, length-drop, take-append-drop}
 use lib.Seq.{slice, set-split, take-at, drop-append-add, drop-drop, length-take-le, getD-take, getD-drop, take-take, take-all, take-suc, length-slice}
-use Rattle.number.specs.Decimal.{decimal}
-use Rattle.number.specs.Code.Digits.{put, writtenAt, bufferAfter}
-use Rattle.number.specs.declared.Written.{Written}
-use Rattle.number.specs.declared.Written.the-variants.{To, NoRoom}
-use Rattle.number.proofs.Buffer.{room}
+use Rattle.decimal.specs.Decimal.{decimal}
+use Rattle.decimal.specs.Code.Digits.{put, writtenAt, bufferAfter}
+use Rattle.decimal.specs.declared.Written.{Written}
+use Rattle.decimal.specs.declared.Written.the-variants.{To, NoRoom}
+use Rattle.decimal.proofs.Buffer.{room}
 use borrow.Author.Tests.{ne-eqb}
 use Rattle.writer.specs.Code.Pieces.{Put, pushText, operatorText}
 

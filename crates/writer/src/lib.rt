@@ -2,10 +2,10 @@
 ghost use Prim.Native.Nat.{_+_, _≤_};
 ghost use lib.ListN.{length};
 ghost use lib.Seq.{slice};
-ghost use Rattle.number.specs.Decimal.{decimal};
+ghost use Rattle.decimal.specs.Decimal.{decimal};
 ghost use Rattle.writer.specs.Code.Pieces.{Put, pushText, operatorText};
-use number::Written;
-use number::write_decimal;
+use decimal::Written;
+use decimal::write_decimal;
 
 pub fn put_bytes(out: &mut [u8], at: usize, bytes: &[u8]) -> usize
     requires { ⌜ at + length (now bytes) ≤ length (now out) ⌝ }

@@ -1,5 +1,5 @@
 -- `atc_vm::atc_assemble` meets its contract: what the call gives is told.
-use Rattle.assembler.specs.Output.{assemblyNumbered}
+use Rattle.contract.specs.Output.{assemblyNumbered}
 use Rattle.atc_vm.proofs.Telling.{told}
 use borrow.Author.Needs.{needs}
 use Rattle.atc_vm.proofs.atc_assemble.Statement.{statement}

@@ -4,7 +4,7 @@ use mathlib.Core.Path.{_≡_, refl}
 use mathlib.Core.Bool.{_&&_}
 use native.Mathlib.Omega.{arith}
 use lib.ListN.{drop}
-use Rattle.byte.specs.Equal.{equal}
+use Rattle.base.specs.Equal.{equal}
 use Rattle.context.proofs.Laws.{equal-step}
 use borrow.Author.Needs.{needs}
 use Rattle.context.proofs.agree.Statement.{statement}

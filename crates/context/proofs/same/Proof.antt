@@ -5,7 +5,7 @@ use mathlib.Core.Bool.{true, _&&_}
 use borrow.Author.Tests.{not-true, not-false}
 use native.Mathlib.Omega.{arith}
 use lib.ListN.{length, drop, drop-of-length-le}
-use Rattle.byte.specs.Equal.{equal}
+use Rattle.base.specs.Equal.{equal}
 use Rattle.context.proofs.Laws.{equal-lengths, and-true, joined-on, joined-off}
 use borrow.Author.Needs.{needs}
 use Rattle.context.proofs.same.Statement.{statement}

@@ -4,7 +4,7 @@ use mathlib.Core.List.{List, [], _∷_}
 use mathlib.Core.Bool.{cond}
 use lib.Dec.{eqb, ltb}
 use lib.ListN.{take, drop}
-use Rattle.number.specs.Decimal.{allDigits, value}
+use Rattle.decimal.specs.Decimal.{allDigits, value}
 use Rattle.token.specs.Token.{tokens}
 use Rattle.token.specs.Code.Places.{tokenAt}
 use Rattle.expression.specs.declared.names.Found.{Found}

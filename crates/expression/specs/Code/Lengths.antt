@@ -2,7 +2,7 @@
 use Prim.Native.Nat.{ℕ, _+_}
 use lib.ListN.{length}
 use Rattle.word.specs.Apply.{Binary, add, sub, mul, div, eq, lt}
-use Rattle.number.specs.Decimal.{decimal}
+use Rattle.decimal.specs.Decimal.{decimal}
 use Rattle.expression.specs.Tree.{Tree, bin, num}
 
 -- the length of the line that an operator is written as: its word and a line feed

@@ -4,7 +4,7 @@ use mathlib.Core.List.{List, [], _∷_}
 use mathlib.Core.Bool.{Bool, true, false, cond}
 use lib.Dec.{eqb, ltb}
 use lib.ListN.{length, drop}
-use Rattle.number.specs.Decimal.{value, decimal}
+use Rattle.decimal.specs.Decimal.{value, decimal}
 use Rattle.token.specs.Token.{tokens}
 use Rattle.token.specs.Code.Places.{first, tokenAt}
 use Rattle.expression.specs.declared.figures.Read.{Read}

@@ -6,7 +6,7 @@ use mathlib.Core.List.{List}
 use native.Mathlib.Omega.{arith}
 use lib.ListN.{length, take, drop, length-drop}
 use lib.Seq.{length-take-le}
-use Rattle.byte.proofs.Parts.{rest}
+use Rattle.base.proofs.Parts.{rest}
 use Rattle.files.specs.declared.Contents.{Contents}
 use Rattle.files.specs.declared.Contents.the-variants.{Read}
 use Rattle.files.specs.Code.Held.{Held}

@@ -3,7 +3,7 @@
 use mathlib.Core.Path.{sym, _∙_}
 use borrow.Author.Tests.{not-true, not-false}
 use denote.Ref.{now}
-use Rattle.byte.proofs.Tests.{never}
+use Rattle.base.proofs.Tests.{never}
 use Rattle.ops.proofs.Parsing.{not-utf8, is-refused, is-good, is-read}
 use borrow.Author.Needs.{needs}
 use Rattle.ops.proofs.parse_ops.Statement.{statement}

@@ -5,8 +5,8 @@ use mathlib.Core.List.{List, [], _∷_, _++_}
 use mathlib.Core.Bool.{Bool, true, false, cond}
 use lib.ListN.{length, drop}
 use Rattle.search.specs.First.{prefixOf}
-use Rattle.number.specs.Decimal.{allDigits, numberOf}
-use Rattle.number.specs.declared.Number.the-variants.{Is}
+use Rattle.decimal.specs.Decimal.{allDigits, numberOf}
+use Rattle.decimal.specs.declared.Number.the-variants.{Is}
 use Rattle.lines.specs.Lines.{lines}
 use Rattle.lines.specs.Cursor.{span, firstLine}
 use Rattle.trim.specs.Code.Blank.{blanksEnd}

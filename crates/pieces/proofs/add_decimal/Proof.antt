@@ -3,7 +3,7 @@
 use mathlib.Core.Path.{sym}
 use native.Mathlib.Omega.{arith}
 use lib.Seq.{length-take-le}
-use Rattle.number.proofs.Decimal.{length-word}
+use Rattle.decimal.proofs.Laws.{length-word}
 use Rattle.pieces.proofs.Adding.{added-same, digits-fit, digits-are}
 use borrow.Author.Needs.{needs}
 use Rattle.pieces.proofs.add_decimal.Statement.{statement}

@@ -3,7 +3,7 @@ use Prim.Native.Nat.{_+_, _-_, _/_}
 use mathlib.Core.Path.{refl, _∙_}
 use native.Mathlib.Omega.{arith}
 use lib.ListN.{length}
-use Rattle.byte.proofs.Tests.{and-both}
+use Rattle.base.proofs.Tests.{and-both}
 use Rattle.search.proofs.Prefix.{each}
 use borrow.Author.Needs.{needs}
 use Rattle.search.proofs.agrees.Statement.{statement}

@@ -2,7 +2,7 @@
 use Prim.Native.Nat.{_+_, _-_, _≤_}
 use mathlib.Core.Path.{_≡_, sym, _∙_}
 use native.Mathlib.Omega.{arith}
-use Rattle.byte.proofs.Tests.{by-bool, never}
+use Rattle.base.proofs.Tests.{by-bool, never}
 use Rattle.search.specs.Code.Scan.{Clear}
 use Rattle.search.proofs.Laws.{none-yet, one-more}
 use borrow.Author.Needs.{needs}

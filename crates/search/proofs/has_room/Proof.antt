@@ -4,7 +4,7 @@ use mathlib.Core.Path.{sym, _∙_}
 use borrow.Author.Tests.{le-leb, lt-leb}
 use native.Mathlib.Omega.{arith}
 use lib.ListN.{length}
-use Rattle.byte.proofs.Tests.{by-leb}
+use Rattle.base.proofs.Tests.{by-leb}
 use borrow.Author.Needs.{needs}
 use Rattle.search.proofs.has_room.Statement.{statement}
 use Rattle.search.proofs.has_room.Tie as tie

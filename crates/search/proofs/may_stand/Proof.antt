@@ -2,7 +2,7 @@
 use Prim.Native.Nat.{_+_}
 use mathlib.Core.Path.{_≡_, sym}
 use native.Mathlib.Omega.{arith}
-use Rattle.byte.proofs.Tests.{never}
+use Rattle.base.proofs.Tests.{never}
 use borrow.Author.Needs.{needs}
 use Rattle.search.proofs.may_stand.Statement.{statement}
 use Rattle.search.proofs.may_stand.Tie as tie

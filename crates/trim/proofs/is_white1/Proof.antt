@@ -3,7 +3,7 @@
 use mathlib.Core.Bool.{or-comm}
 use borrow.Author.Needs.{needs}
 use lib.Dec.{eqb}
-use Rattle.byte.specs.Range.{within}
+use Rattle.base.specs.Range.{within}
 use Rattle.trim.proofs.is_white1.Statement.{statement}
 use Rattle.trim.proofs.is_white1.Tie as tie
 

@@ -7,7 +7,7 @@ use mathlib.Core.Logic.{⊎-elim}
 use native.Mathlib.Omega.{arith}
 use lib.ListN.{length, drop, drop-of-length-le, length-drop}
 use denote.Ref.{now}
-use Rattle.byte.proofs.Parts.{rest}
+use Rattle.base.proofs.Parts.{rest}
 use Rattle.trim.specs.Trim.{startTrimmed}
 use borrow.Author.Needs.{needs}
 use Rattle.trim.proofs.trim_start.Statement.{statement}

@@ -5,7 +5,7 @@ use mathlib.Core.Path.{sym, _∙_}
 use native.Mathlib.Omega.{arith}
 use lib.ListN.{getD, drop}
 use denote.Ref.{now}
-use Rattle.byte.proofs.Tests.{between, inside, never}
+use Rattle.base.proofs.Tests.{between, inside, never}
 use Rattle.trim.specs.Trim.{white2, white3}
 use Rattle.trim.proofs.White.{not1}
 use Rattle.trim.proofs.Laws.{yes1, start-stays}

@@ -3,7 +3,7 @@
 use borrow.Author.Tests.{leb-true}
 use native.Mathlib.Omega.{arith}
 use denote.Ref.{now}
-use Rattle.byte.proofs.Tests.{never}
+use Rattle.base.proofs.Tests.{never}
 use Rattle.utf8.proofs.Laws.{ascii}
 use borrow.Author.Needs.{needs}
 use Rattle.utf8.proofs.is_ascii.Statement.{statement}

@@ -5,7 +5,7 @@ use mathlib.Core.List.{List, [], _∷_}
 use mathlib.Core.Bool.{Bool, true, false, cond, _&&_, _||_}
 use lib.Dec.{eqb, leb}
 use lib.ListN.{getD}
-use Rattle.byte.specs.Range.{within}
+use Rattle.base.specs.Range.{within}
 
 -- behind these bytes a character is not complete
 abbrev pub opened : ℕ → ℕ → ℕ → Bool

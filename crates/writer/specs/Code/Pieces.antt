@@ -3,7 +3,7 @@ use Prim.Native.Nat.{ℕ, _+_}
 use mathlib.Core.Path.{_≡_}
 use mathlib.Core.List.{List, [], _∷_, _++_}
 use lib.ListN.{length}
-use Rattle.number.specs.Code.Digits.{put}
+use Rattle.decimal.specs.Code.Digits.{put}
 use Rattle.ops.specs.Written.{written}
 use Rattle.expression.specs.Parse.{operator}
 use Rattle.expression.specs.Written.{operatorOf}

@@ -1,8 +1,8 @@
 -- `emission::factor::literal` meets its contract: by the digits' value.
 use mathlib.Core.Path.{sym, ap, _∙_}
 use lib.ListN.{drop}
-use Rattle.number.specs.Decimal.{digits}
-use Rattle.number.specs.declared.Digits.{Digits}
+use Rattle.decimal.specs.Decimal.{digits}
+use Rattle.decimal.specs.declared.Digits.{Digits}
 use Rattle.emission.proofs.Factors.{literal-is, literal-large}
 use borrow.Author.Needs.{needs}
 use Rattle.emission.proofs.factor.literal.Statement.{statement}

@@ -1,6 +1,6 @@
 -- `precedence` is the first of E9: what the call ensures, and the group's figures.
 use mathlib.Core.Path.{ap, _∙_}
-use Rattle.assembler.specs.Output.{assemblyNumbered}
+use Rattle.contract.specs.Output.{assemblyNumbered}
 use Rattle.examples.proofs.Bench.{bench}
 use borrow.Author.Needs.{needs}
 use Rattle.examples.proofs.assemblies.precedence.Statement.{statement}

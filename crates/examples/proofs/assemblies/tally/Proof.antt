@@ -3,7 +3,7 @@ use mathlib.Core.Path.{ap, _∙_}
 use mathlib.Core.List.{List}
 use Prim.Native.Nat.{ℕ}
 use Rattle.ops.specs.Ops.{onto}
-use Rattle.assembler.specs.Output.{assemblyNumbered}
+use Rattle.contract.specs.Output.{assemblyNumbered}
 use Rattle.examples.specs.Runs.{zeros}
 use Rattle.examples.proofs.Bench.{bench}
 use Rattle.examples.proofs.Assembling.{assembles}

@@ -3,7 +3,7 @@ use Prim.Native.Nat.{ℕ}
 use mathlib.Core.Path.{_≡_}
 use native.Mathlib.Omega.{arith}
 use lib.Dec.{eqb}
-use Rattle.byte.proofs.Tests.{by-bool}
+use Rattle.base.proofs.Tests.{by-bool}
 use Rattle.expression.specs.Code.Lengths.{lineOf}
 use Rattle.expression.specs.Parse.{operator}
 use borrow.Author.Needs.{needs}

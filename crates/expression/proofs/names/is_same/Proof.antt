@@ -1,6 +1,6 @@
 -- `expression::names::is_same` meets its contract: what is left of the two parts is the same exactly where they are.
 use lib.ListN.{take, drop}
-use Rattle.byte.specs.Equal.{equal}
+use Rattle.base.specs.Equal.{equal}
 use Rattle.expression.proofs.Lookup.{sameFrom, same-start, same-more, same-stop, same-end}
 use Prim.Native.Nat.{_-_, _≤_}
 use mathlib.Core.Path.{_≡_, sym, _∙_}

@@ -3,9 +3,9 @@ use Prim.Native.Nat.{ℕ, _+_}
 use native.Mathlib.Omega.{arith}
 use mathlib.Core.Path.{sym, ap, _∙_}
 use lib.ListN.{drop}
-use Rattle.number.specs.Decimal.{digits}
-use Rattle.number.specs.declared.Digits.{Digits}
-use Rattle.number.proofs.Decimal.{length-word}
+use Rattle.decimal.specs.Decimal.{digits}
+use Rattle.decimal.specs.declared.Digits.{Digits}
+use Rattle.decimal.proofs.Laws.{length-word}
 use Rattle.expression.proofs.Atoms.{run-inside, literal-large, literal-is}
 use borrow.Author.Needs.{needs}
 use Rattle.expression.proofs.operands.literal.Statement.{statement}

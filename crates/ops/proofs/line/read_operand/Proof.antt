@@ -5,7 +5,7 @@ use mathlib.Core.Path.{sym, ap, _∙_}
 use native.Mathlib.Omega.{arith}
 use lib.ListN.{length, take, drop}
 use denote.Ref.{now}
-use Rattle.byte.proofs.Parts.{rest}
+use Rattle.base.proofs.Parts.{rest}
 use Rattle.trim.proofs.Laws.{startTrimmed-length}
 use Rattle.ops.specs.Line.{ruleOf, ofNumber}
 use Rattle.ops.specs.declared.line.LineRead.the-variants.{Bad}

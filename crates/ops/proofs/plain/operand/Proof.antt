@@ -5,7 +5,7 @@ use mathlib.Core.Path.{sym, ap, _∙_}
 use borrow.Author.Tests.{not-false}
 use native.Mathlib.Omega.{arith}
 use denote.Ref.{now}
-use Rattle.number.specs.declared.Digits.{Digits}
+use Rattle.decimal.specs.declared.Digits.{Digits}
 use Rattle.ops.proofs.PlainReads.{run-within, operand-read}
 use borrow.Author.Needs.{needs}
 use Rattle.ops.proofs.plain.operand.Statement.{statement}

@@ -1,12 +1,12 @@
 -- `replay::hex::is_pair` meets its contract: two bytes are left where it looks at them.
 -- Assumes nothing.
-use Rattle.byte.proofs.Tests.{never}
+use Rattle.base.proofs.Tests.{never}
 use borrow.Author.Needs.{needs}
 use Rattle.replay.proofs.hex.is_pair.Statement.{statement}
 use Rattle.replay.proofs.hex.is_pair.Tie as tie
 use Rattle.replay.proofs.hex.is_pair.Reads as reads
 use Rattle.replay.proofs.hex.is_pair.Lts as lts
-use Rattle.byte.proofs.both.Reads as both-reads
+use Rattle.base.proofs.both.Reads as both-reads
 use Rattle.replay.proofs.hex.is_digit.Reads as is-digit-reads
 
 returns : tie.Need-returns

@@ -1,6 +1,6 @@
 -- `source::key::agrees` meets its contract: where the key stands in double quotes, each of their bytes does, so the three do.
 use mathlib.Core.Path.{refl, _∙_}
-use Rattle.byte.proofs.Tests.{and-both}
+use Rattle.base.proofs.Tests.{and-both}
 use Rattle.source.proofs.Quoted.{opening-here, closing-here, byte-here}
 use borrow.Author.Needs.{needs}
 use Rattle.source.proofs.key.agrees.Statement.{statement}

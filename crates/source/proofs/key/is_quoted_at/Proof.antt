@@ -3,7 +3,7 @@ use Prim.Native.Nat.{_+_, _-_}
 use mathlib.Core.Path.{sym, _∙_}
 use native.Mathlib.Omega.{arith}
 use lib.ListN.{length}
-use Rattle.byte.proofs.Tests.{by-bool, never, and-both}
+use Rattle.base.proofs.Tests.{by-bool, never, and-both}
 use Rattle.source.proofs.Quoted.{between, opening-here, closing-here}
 use borrow.Author.Needs.{needs}
 use Rattle.source.proofs.key.is_quoted_at.Statement.{statement}

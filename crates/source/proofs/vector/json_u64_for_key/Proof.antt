@@ -5,12 +5,12 @@ use mathlib.Core.List.{List}
 use native.Mathlib.Omega.{arith}
 use lib.ListN.{length}
 use denote.Ref.{now}
-use Rattle.byte.specs.Ascii.{ascii}
-use Rattle.byte.proofs.Parts.{rest}
+use Rattle.base.specs.Ascii.{ascii}
+use Rattle.base.proofs.Parts.{rest}
 use Rattle.search.specs.declared.Found.the-variants.{At}
 use Rattle.search.specs.First.{firstAt}
 use Rattle.trim.specs.Trim.{startTrimmed}
-use Rattle.number.specs.Decimal.{digits}
+use Rattle.decimal.specs.Decimal.{digits}
 use Rattle.source.specs.Vector.{quoted, ofDigits, keyValueNumbered}
 use Rattle.source.proofs.Found.{in-text}
 use Rattle.source.proofs.Numbers.{with-number}

@@ -2,8 +2,8 @@
 use mathlib.Core.Path.{_≡_, sym, ap, _∙_}
 use lib.ListN.{length}
 use denote.Ref.{now}
-use Rattle.number.specs.Decimal.{digits}
-use Rattle.number.specs.declared.Digits.{Digits}
+use Rattle.decimal.specs.Decimal.{digits}
+use Rattle.decimal.specs.declared.Digits.{Digits}
 use Rattle.source.specs.Vector.{ofDigits}
 use Rattle.source.proofs.Numbers.{asKeyValue, no-digit, some-digits}
 use borrow.Author.Needs.{needs}

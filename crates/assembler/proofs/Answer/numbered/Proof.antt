@@ -1,0 +1,19 @@
+-- The number and values of each answer, case by case.
+use Rattle.numbered.proofs.Told.{told}
+use Rattle.contract.specs.Output.{assemblyNumbered}
+use Rattle.assembler.specs.declared.Answer.{Answer}
+use Rattle.assembler.specs.Answers.{answerOf}
+use borrow.Author.Needs.{needs}
+use Rattle.assembler.proofs.Answer.numbered.Statement.{statement}
+use Rattle.assembler.proofs.Answer.numbered.Tie as tie
+
+pub numbered-spec : {M : Type 1} → statement M
+numbered-spec =
+    tie.close
+    (tie.spec
+    (λ c. search needs)
+    (λ c κs. search needs)
+    (λ c. search needs)
+    (λ c κs. search needs)
+    (λ c. told (λ (a : Answer). assemblyNumbered (answerOf a)) (c .before .before .self .given .1) (c .carrying-four .ensures))
+    (λ c. told (λ (a : Answer). assemblyNumbered (answerOf a)) (c .before .before .self2 .given .1) (c .numbered .ensures)))

@@ -1,0 +1,149 @@
+-- The output's pieces, and what is answered of an accepted contract.
+use Prim.Native.Nat.{ℕ, _+_, _<_, _≤_}
+use mathlib.Core.Path.{_≡_, refl, sym, ap, subst, _∙_}
+use mathlib.Core.List.{List, [], _∷_, _++_, append-assoc}
+use mathlib.Core.Bool.{true, false}
+use mathlib.Core.Option.{some}
+use native.Mathlib.Omega.{arith}
+use borrow.Author.Tests.{le-leb, lt-leb}
+use lib.ListN.{length, take, drop, length-append}
+use Rattle.base.proofs.Parts.{middle}
+use Rattle.decimal.specs.Decimal.{decimal}
+use Rattle.base.specs.Ascii.{ascii}
+use Rattle.ops.specs.Ops.{onto}
+use Rattle.expression.specs.Tree.{Tree}
+use Rattle.expression.specs.Code.Lengths.{lenOf}
+use Rattle.expression.specs.Parse.{meaning}
+use Rattle.expression.specs.Code.Source.{sources, treeIn, envOf}
+use Rattle.expression.specs.Written.{opsOf}
+use Rattle.expression.specs.Code.Texts.{textOf}
+use Rattle.expression.proofs.Written.{written-append, text-length}
+use Rattle.writer.specs.Code.Pieces.{Put}
+use Rattle.writer.proofs.Pieces.{put-then}
+use Rattle.emission.specs.Code.Emitted.{treeBetween, Means}
+use Rattle.contract.specs.declared.assembly.Assembly as Code
+use Rattle.contract.specs.declared.state.Last.{Last}
+use Rattle.contract.specs.declared.state.Last.the-variants.{Is, Nothing}
+use Rattle.contract.specs.declared.state.Returned.{Returned}
+use Rattle.contract.specs.declared.state.Status.{Status}
+use Rattle.contract.specs.declared.state.Status.the-variants as Status
+use Rattle.contract.specs.declared.state.Status.the-variants.{Going}
+use Rattle.contract.specs.declared.refusal.Refusal.{Refusal}
+use Rattle.contract.specs.declared.refusal.Refusal.the-variants.{BadStem, OutputTooLong}
+use Rattle.contract.specs.Part.{part}
+use Rattle.contract.specs.Assembled.{assembledTree}
+use Rattle.numbered.specs.Outcome.{Outcome, is}
+use Rattle.contract.specs.Code.Held.{LastIs, ReturnIs}
+use Rattle.contract.specs.Code.Concluded.{Accepts, ConcludesBy, Concludes}
+use Rattle.contract.specs.Output as Output
+use Rattle.contract.specs.Output.{assemblyNumbered, stemFits, header, output, named, assembled}
+use Rattle.assembler.specs.declared.Answer.{Answer}
+use Rattle.assembler.specs.declared.Answer.the-variants.{Success, Refused}
+use Rattle.assembler.specs.Answers.{answerOf, Assembles}
+
+pub header-length : (stem : List ℕ) (e : ℕ) → length (header stem e) ≡ 26 + length stem + length (decimal e)
+header-length stem e =
+    let a : List ℕ = ascii "# contract: " in
+    let b : List ℕ = 10 ∷ ascii "# expected: " in
+    omega (arith, length-append (a ++ stem ++ b ++ decimal e) (10 ∷ []), length-append (a ++ stem ++ b) (decimal e), length-append (a ++ stem) b, length-append a stem)
+
+-- its five pieces
+module _ (stem : List ℕ) (e : ℕ) {out a b c d after : List ℕ} {i j k l r : ℕ} (h : length (header stem e) ≤ length out) where
+  pub header-put : Put out 0 (ascii "# contract: ") a i → Put a i stem b j → Put b j (10 ∷ ascii "# expected: ") c k → Put c k (decimal e) d l → Put d l (10 ∷ []) after r → Put out 0 (header stem e) after r
+  header-put p q s t u =
+      let x : List ℕ = ascii "# contract: " in
+      let y : List ℕ = 10 ∷ ascii "# expected: " in
+      let n = header-length stem e in
+      let one = length-append x stem in
+      let two = length-append (x ++ stem) y in
+      let three = length-append (x ++ stem ++ y) (decimal e) in
+      put-then (put-then (put-then (put-then p (omega arith) q) (omega arith) s) (omega arith) t) (omega arith) u
+
+abbrev pub haltLine : List ℕ
+haltLine = ascii "Halt\n"
+
+output-text : (stem : List ℕ) (e : ℕ) (t : Tree) → output stem e t ≡ (header stem e ++ textOf t) ++ haltLine
+unfolding output
+output-text stem e t =
+    ap (λ (x : List ℕ). header stem e ++ x) (written-append (opsOf t) (record { kind = 15; operand = 0 } ∷ []))
+    ∙ sym (append-assoc (header stem e) (textOf t) haltLine)
+
+pub output-length : (stem : List ℕ) (e : ℕ) (t : Tree) → length (output stem e t) ≡ length (header stem e) + lenOf t + 5
+output-length stem e t = omega (arith, ap length (output-text stem e t), length-append (header stem e ++ textOf t) haltLine, length-append (header stem e) (textOf t), text-length t)
+
+put-onto : {out text after : List ℕ} {r : ℕ} → Put out 0 text after r → after ≡ onto text out
+put-onto {out} {text} p = let z : 0 + length text ≡ length text = omega arith in p .is ∙ ap (λ (n : ℕ). text ++ drop n out) z
+
+-- what is concluded of the contract, by the status
+pub is-going : {s vector : List ℕ} {o : Outcome (ℕ × Tree)} {a : Code.Assembly} → Concludes s vector o a → a .state .status ≡ Going → Accepts s vector o a
+is-going {s} {vector} {o} {a} c e = subst (λ (x : Status). ConcludesBy x s vector o a) e (c .by)
+
+assembles : {a : Output.Assembly} {out after : List ℕ} {r : Answer} → answerOf r ≡ a .answer → after ≡ onto (a .text) out → Assembles a out after r
+assembles e b = record { answer = e; number = ap assemblyNumbered e; buffer = b }
+
+pub is-refused : {s vector : List ℕ} {o : Outcome (ℕ × Tree)} {a : Code.Assembly} {why : Refusal} → Concludes s vector o a → a .state .status ≡ Status.Refused why → (stem out : List ℕ) → Assembles (named o stem (length out)) out out (Refused why)
+is-refused {s} {vector} {o} {a} c e stem out =
+    let q = subst (λ (x : Status). ConcludesBy x s vector o a) e (c .by) .0 in
+    rw q (assembles refl refl)
+
+pub as-assembled : (contract vector stem : List ℕ) {out after : List ℕ} {r : Answer} → Assembles (named (assembledTree contract vector) stem (length out)) out after r → Assembles (assembled contract vector stem (length out)) out after r
+unfolding assembled
+as-assembled contract vector stem x = x
+
+-- the stem does not fit
+pub stem-refused : {s vector : List ℕ} {o : Outcome (ℕ × Tree)} {a : Code.Assembly} (stem out : List ℕ) → Accepts s vector o a → stemFits stem ≡ false → Assembles (named o stem (length out)) out out (Refused BadStem)
+stem-refused stem out acc f = rw (acc .accepts) (simp f (assembles refl refl))
+
+module _ {s vector : List ℕ} {o : Outcome (ℕ × Tree)} {a : Code.Assembly} (acc : Accepts s vector o a) {last : Last} (q : a .state .last ≡ last) where
+  returned-as : LastIs s (a .state .table) (a .state .values) last (some (acc .t))
+  returned-as = subst (λ (x : Last). LastIs s (a .state .table) (a .state .values) x (some (acc .t))) q (acc .returned)
+
+pub no-return : {s vector : List ℕ} {o : Outcome (ℕ × Tree)} {a : Code.Assembly} → Accepts s vector o a → a .state .last ≡ Nothing → ⊥
+no-return acc q = returned-as acc q
+
+module _ {s vector : List ℕ} {o : Outcome (ℕ × Tree)} {a : Code.Assembly} (acc : Accepts s vector o a) {l : Returned} (q : a .state .last ≡ Is l) where
+  returned : ReturnIs s (a .state .table) (a .state .values) l (acc .t)
+  returned = returned-as acc q
+
+  between : part s (l .start) (l .end) ≡ drop (l .start) (take (l .end) s)
+  between = middle s (l .start) (l .end) (returned .ordered) (returned .inside)
+
+  is-tree : meaning (envOf s (sources (a .state .table) (a .state .values)) (l .count)) (drop (l .start) (take (l .end) s)) ≡ is (acc .t)
+  is-tree = ap (meaning (envOf s (sources (a .state .table) (a .state .values)) (l .count))) (sym between) ∙ returned .means
+
+  same-tree : treeBetween s (sources (a .state .table) (a .state .values)) (l .count) (l .start) (l .end) ≡ acc .t
+  same-tree = ap treeIn is-tree
+
+  pub means : Means s (sources (a .state .table) (a .state .values)) (l .count) (l .start) (l .end)
+  means = record {
+    few = omega (arith, returned .few, acc .reached .represents .holds .room);
+    stand = λ i h. acc .reached .represents .stand i (omega (arith, returned .few));
+    inside = returned .inside;
+    is = is-tree ∙ ap is (sym same-tree);
+  }
+
+  pub text-size : length (textOf (treeBetween s (sources (a .state .table) (a .state .values)) (l .count) (l .start) (l .end))) ≡ l .read .len
+  text-size = ap (λ (t : Tree). length (textOf t)) same-tree ∙ text-length (acc .t) ∙ sym (returned .figures .len)
+
+  module _ (stem out : List ℕ) (f : stemFits stem ≡ true) where
+    size : length (output stem (a .expected) (acc .t)) ≡ length (header stem (a .expected)) + l .read .len + 5
+    size = omega (arith, output-length stem (a .expected) (acc .t), returned .figures .len)
+
+    pub no-room : length out < length (header stem (a .expected)) + l .read .len + 5 → Assembles (named o stem (length out)) out out (Refused OutputTooLong)
+    no-room h =
+        let b = lt-leb (length (output stem (a .expected) (acc .t))) (length out) (omega (arith, size)) in
+        rw (acc .accepts) (simp (f, b) (assembles refl refl))
+
+    pub written-whole : length (header stem (a .expected)) + l .read .len + 5 ≤ length out
+        → {mid after : List ℕ} {n w : ℕ}
+        → Put out 0 (header stem (a .expected) ++ textOf (treeBetween s (sources (a .state .table) (a .state .values)) (l .count) (l .start) (l .end))) mid n
+        → Put mid n haltLine after w
+        → Assembles (named o stem (length out)) out after (Success w (l .read .k) (l .read .p) (a .expected))
+    written-whole h {mid} {after} {n} {w} p r =
+        let b = le-leb (length (output stem (a .expected) (acc .t))) (length out) (omega (arith, size)) in
+        let y = length-append (header stem (a .expected)) (textOf (treeBetween s (sources (a .state .table) (a .state .values)) (l .count) (l .start) (l .end))) in
+        let x = put-then p (omega (arith, y, text-size)) r in
+        let e : (header stem (a .expected) ++ textOf (treeBetween s (sources (a .state .table) (a .state .values)) (l .count) (l .start) (l .end))) ++ haltLine ≡ output stem (a .expected) (acc .t) = ap (λ (t : Tree). (header stem (a .expected) ++ textOf t) ++ haltLine) same-tree ∙ sym (output-text stem (a .expected) (acc .t)) in
+        let z : Put out 0 (output stem (a .expected) (acc .t)) after w = rw e at x in
+        let m : w ≡ length (output stem (a .expected) (acc .t)) = omega (arith, z .next) in
+        rw (acc .accepts) (simp (f, b) (assembles (cc (m, returned .figures .k, returned .figures .p)) (put-onto z)))

@@ -1,0 +1,17 @@
+pub mod Examples
+pub mod Places
+pub mod Stored
+pub mod Holding
+pub mod Sourced
+pub mod Leading
+pub mod Checking
+pub mod Lines
+pub mod Reading
+pub mod Coming
+pub mod BodyLines
+pub mod Naming
+pub mod Concluding
+pub mod Words
+pub mod Wrong
+pub mod Accepted
+pub mod Meeting

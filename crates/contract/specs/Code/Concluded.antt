@@ -1,0 +1,64 @@
+-- What the code's answer says: the tree that is accepted, or the refusal.
+use Prim.Native.Nat.{ℕ, _≤_}
+use mathlib.Core.Path.{_≡_}
+use mathlib.Core.List.{List}
+use mathlib.Core.Option.{some}
+use lib.ListN.{length}
+use Rattle.source.specs.declared.function.Places.{Places}
+use Rattle.source.specs.declared.function.Function.the-variants.{Found}
+use Rattle.source.specs.Function.{functionOf}
+use Rattle.expression.specs.Tree.{Tree}
+use Rattle.numbered.specs.Outcome.{Outcome, is, refused, andThen}
+use Rattle.contract.specs.declared.assembly.Assembly.{Assembly}
+use Rattle.contract.specs.declared.refusal.Refusal.{Refusal}
+use Rattle.contract.specs.declared.state.Status.{Status}
+use Rattle.contract.specs.declared.state.Status.the-variants.{Going, Refused}
+use Rattle.contract.specs.declared.state.State as Code
+use Rattle.contract.specs.State.{State}
+use Rattle.contract.specs.Numbers.{refusalNumbered}
+use Rattle.contract.specs.Code.Stored.{refusedAs, nothingYet}
+use Rattle.contract.specs.Code.LastReturn.{lastReturn, placeOf, Standing}
+use Rattle.contract.specs.Code.Held.{LastIs, Represents, Leads}
+use Rattle.contract.specs.Assembled.{bodyRead, returned}
+
+-- the contract's body was read, and a is what it has come to
+pub record Reached (s vector : List ℕ) (a : Code.State) : Type 0 where
+  pub places : Places
+  pub found : functionOf s ≡ Found places
+  pub st : State
+  pub read : bodyRead s vector places ≡ is st
+  pub represents : Represents s a st
+  pub place : placeOf (a .last) ≡ lastReturn s places
+
+-- the state's last return means the tree t, which is accepted
+pub record Accepts (s vector : List ℕ) (o : Outcome (ℕ × Tree)) (r : Assembly) : Type 0 where
+  pub reached : Reached s vector (r .state)
+  pub t : Tree
+  pub last : reached .st .last ≡ some t
+  pub returned : LastIs s (r .state .table) (r .state .values) (r .state .last) (some t)
+  pub accepts : o ≡ is (r .expected, t)
+
+-- an assembly that is refused
+abbrev pub rejectedFor : Refusal → Assembly
+rejectedFor why = record { state = refusedAs nothingYet why; expected = 0 }
+
+abbrev pub ConcludesBy : Status → List ℕ → List ℕ → Outcome (ℕ × Tree) → Assembly → Type 0
+ConcludesBy Going s vector o r = Accepts s vector o r
+ConcludesBy (Refused why) s vector o r = (o ≡ refused (refusalNumbered why)) × (r ≡ rejectedFor why)
+
+-- the answer r says o of the contract s and its vector: its state holds the tree that is accepted, or the refusal
+pub record Concludes (s vector : List ℕ) (o : Outcome (ℕ × Tree)) (r : Assembly) : Type 0 where
+  pub by : ConcludesBy (r .state .status) s vector o r
+
+-- what the body's last return makes of it
+abbrev pub concluded : ℕ → Outcome State → Outcome (ℕ × Tree)
+concluded expected o = andThen o (λ st. returned expected (st .last))
+
+-- what is made of a state and the expected value, wherever the state was read
+pub record ConcludesAll (a : Code.State) (expected : ℕ) (r : Assembly) : Type 0 where
+  pub is : (s vector : List ℕ) (p : Places) → functionOf s ≡ Found p → Leads s a (bodyRead s vector p) is → Standing s p a → Concludes s vector (concluded expected (bodyRead s vector p)) r
+
+-- where the contract's function stands
+pub record Located (s : List ℕ) (p : Places) : Type 0 where
+  pub short : length s ≤ 65536
+  pub found : functionOf s ≡ Found p

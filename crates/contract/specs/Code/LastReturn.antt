@@ -1,0 +1,71 @@
+-- Where the expression of a body's last `return ` stands, how many bindings were made before its line, and where its last token ends.
+use Prim.Native.Nat.{ℕ, _+_}
+use mathlib.Core.Path.{_≡_}
+use mathlib.Core.List.{List, [], _∷_}
+use mathlib.Core.Option.{Option, some, none}
+use lib.ListN.{length, take}
+use Rattle.lines.specs.Lines.{lines}
+use Rattle.lines.specs.Cursor.{lineFrom}
+use Rattle.source.specs.declared.function.Places.{Places}
+use Rattle.source.specs.Parameters.{parameters}
+use Rattle.token.specs.Code.Places.{lastEnd}
+use Rattle.contract.specs.declared.body.Checked.{Checked}
+use Rattle.contract.specs.declared.body.Checked.the-variants as Checked
+use Rattle.contract.specs.declared.statement.Statement.{Statement}
+use Rattle.contract.specs.declared.statement.Statement.the-variants.{Skipped, NoEquals, Let, Return}
+use Rattle.contract.specs.declared.state.Last.{Last}
+use Rattle.contract.specs.declared.state.Last.the-variants as Last
+use Rattle.contract.specs.declared.state.Status.the-variants.{Going}
+use Rattle.contract.specs.declared.state.State.{State}
+use Rattle.contract.specs.Part.{part}
+use Rattle.contract.specs.Code.Places.{statementAt}
+
+pub record Place : Type 0 where
+  pub start : ℕ
+  pub end : ℕ
+  pub count : ℕ
+  pub next : ℕ
+
+-- how many bindings were made, and the last return's place, if any
+pub record Met : Type 0 where
+  pub count : ℕ
+  pub last : Option Place
+
+abbrev pub meeting : List ℕ → Met → Statement → Met
+meeting s m Skipped = m
+meeting s m NoEquals = m
+meeting s m (Let name expr) = record { count = m .count + 1; last = m .last }
+meeting s m (Return expr) = record { count = m .count; last = some (record { start = expr .start; end = expr .end; count = m .count; next = lastEnd (take (expr .end) s) }) }
+
+-- the lines of the text before `end`, the first of which starts at a place
+unfoldable pub linesMet : List ℕ → ℕ → Met → ℕ → List (List ℕ) → Met
+linesMet s end m at [] = m
+linesMet s end m at (t ∷ rest) = linesMet s end (meeting s m (statementAt s at (lineFrom (take end s) at .end))) (lineFrom (take end s) at .next) rest
+
+abbrev pub bodyMet : List ℕ → ℕ → ℕ → Met → Met
+bodyMet s start end m = linesMet s end m start (lines (part s start end))
+
+-- the parameters were bound
+abbrev pub lastReturn : List ℕ → Places → Option Place
+lastReturn s p = bodyMet s (p .«body_start») (p .«body_end») (record { count = length (parameters (part s (p .«params_start») (p .«params_end»))); last = none }) .last
+
+-- what the code's state says of it
+abbrev pub placeOf : Last → Option Place
+placeOf Last.Nothing = none
+placeOf (Last.Is l) = some (record { start = l .start; end = l .end; count = l .count; next = l .read .next })
+
+abbrev pub metOf : State → Met
+metOf a = record { count = a .table .count; last = placeOf (a .last) }
+
+-- an expression of a text is read up to the end of the text's last token
+abbrev pub ReadToLast : List ℕ → Checked → Type 0
+ReadToLast s (Checked.Is v) = v .next ≡ lastEnd s
+ReadToLast s (Checked.Refused why) = Unit {0}
+
+-- r is what the body makes of a, unless it is refused
+pub record Meets (s : List ℕ) (start end : ℕ) (a r : State) : Type 0 where
+  pub is : r .status ≡ Going → metOf r ≡ bodyMet s start end (metOf a)
+
+-- the last return stands where the contract's does, unless a is refused
+pub record Standing (s : List ℕ) (p : Places) (a : State) : Type 0 where
+  pub is : a .status ≡ Going → placeOf (a .last) ≡ lastReturn s p

@@ -1,0 +1,100 @@
+-- How a state is stored: what a binding more changes in the table and beside it.
+use Prim.Native.Nat.{ℕ, _+_, _-_, _^_, _<_, _≤_}
+use mathlib.Core.Path.{_≡_}
+use mathlib.Core.List.{List}
+use mathlib.Core.Bool.{Bool, true, false}
+use lib.ListN.{getD, replicate}
+use Rattle.source.specs.declared.parameters.Span.{Span}
+use Rattle.expression.specs.declared.Bindings.{Bindings}
+use Rattle.expression.specs.declared.Values.{Values}
+use Rattle.expression.specs.declared.figures.Read.{Read}
+use Rattle.expression.specs.declared.figures.Value.{Value}
+use Rattle.expression.specs.declared.figures.Value.the-variants.{Is, None}
+use Rattle.expression.specs.Code.Table.{tagOf}
+use Rattle.contract.specs.declared.refusal.Refusal.{Refusal}
+use Rattle.contract.specs.declared.refusal.Refusal.the-variants.{TooManyBindings}
+use Rattle.contract.specs.declared.state.State.{State}
+use Rattle.contract.specs.declared.state.Status.the-variants as Status
+use Rattle.contract.specs.declared.state.Last.the-variants as Last
+use Rattle.contract.specs.declared.table.Row.{Row}
+
+-- no binding, no return; every array is zero
+abbrev pub noBindings : Bindings
+noBindings = record { «name_start» = replicate 256 0; «name_len» = replicate 256 0; «expr_start» = replicate 256 0; «expr_len» = replicate 256 0; k = replicate 256 0; p = replicate 256 0; count = 0 }
+
+abbrev pub noValues : Values
+noValues = record { value = replicate 256 0; none = replicate 256 false; len = replicate 256 0; tag = replicate 256 0 }
+
+abbrev pub nothingYet : State
+nothingYet = record { table = noBindings; values = noValues; last = Last.Nothing; status = Status.Going }
+
+abbrev pub refusedAs : State → Refusal → State
+refusedAs a why = record { table = a .table; values = a .values; last = a .last; status = Status.Refused why }
+
+abbrev pub returning : State → Span → Read → State
+returning a expr v = record { table = a .table; values = a .values; last = Last.Is (record { start = expr .start; end = expr .end; count = a .table .count; read = v }); status = a .status }
+
+-- places and figures that fit the table's types
+pub record Placed (p : Span) : Type 0 where
+  pub ordered : p .start ≤ p .end
+  pub fits : p .end < 65536
+
+pub record Small (v : Read) : Type 0 where
+  pub k : v .k < 65536
+  pub p : v .p < 65536
+  pub len : v .len < 2 ^ 32
+
+-- v stands at i, and all else is as before
+pub record Set {A : Type 0} (d : A) (before : List A) (i : ℕ) (v : A) (after : List A) : Type 0 where
+  pub here : getD after i d ≡ v
+  pub other : (j : ℕ) → (j ≡ i → ⊥) → getD after j d ≡ getD before j d
+
+pub record Put (t : Bindings) (name expr : Span) (k p : ℕ) (r : Bindings) : Type 0 where
+  pub count : r .count ≡ t .count + 1
+  pub name-start : Set 0 (t .«name_start») (t .count) (name .start) (r .«name_start»)
+  pub name-len : Set 0 (t .«name_len») (t .count) (name .end - name .start) (r .«name_len»)
+  pub expr-start : Set 0 (t .«expr_start») (t .count) (expr .start) (r .«expr_start»)
+  pub expr-len : Set 0 (t .«expr_len») (t .count) (expr .end - expr .start) (r .«expr_len»)
+  pub ks : Set 0 (t .k) (t .count) k (r .k)
+  pub ps : Set 0 (t .p) (t .count) p (r .p)
+
+abbrev pub numberIn : Value → ℕ
+numberIn (Is n) = n
+numberIn None = 0
+
+abbrev pub isNone : Value → Bool
+isNone (Is n) = false
+isNone None = true
+
+-- one binding, with the name w, as the arrays hold it
+abbrev pub rowOf : Span → Span → Read → List ℕ → Row
+rowOf name expr v w = record {
+  «name_start» = name .start;
+  «name_len» = name .end - name .start;
+  «expr_start» = expr .start;
+  «expr_len» = expr .end - expr .start;
+  k = v .k;
+  p = v .p;
+  value = numberIn (v .value);
+  none = isNone (v .value);
+  len = v .len;
+  tag = tagOf w;
+}
+
+-- of a binding with the name w
+pub record PutValue (t : Values) (i : ℕ) (v : Read) (w : List ℕ) (r : Values) : Type 0 where
+  pub value : Set 0 (t .value) i (numberIn (v .value)) (r .value)
+  pub none : Set false (t .none) i (isNone (v .value)) (r .none)
+  pub len : Set 0 (t .len) i (v .len) (r .len)
+  pub tag : Set 0 (t .tag) i (tagOf w) (r .tag)
+
+-- one binding more than a has, with the name w
+pub record More (a : State) (name expr : Span) (v : Read) (w : List ℕ) (r : State) : Type 0 where
+  pub table : Put (a .table) name expr (v .k) (v .p) (r .table)
+  pub values : PutValue (a .values) (a .table .count) v w (r .values)
+  pub last : r .last ≡ a .last
+  pub status : r .status ≡ a .status
+
+pub record Bound (a : State) (name expr : Span) (v : Read) (w : List ℕ) (r : State) : Type 0 where
+  pub full : 256 ≤ a .table .count → r ≡ refusedAs a TooManyBindings
+  pub more : a .table .count < 256 → More a name expr v w r

@@ -1,0 +1,9 @@
+pub mod Part
+pub mod Statement
+pub mod State
+pub mod Parameters
+pub mod Body
+pub mod Assembled
+pub mod Numbers
+pub mod Output
+pub mod Code

@@ -1,0 +1,61 @@
+-- What assembly answers and writes, for a contract, its vector, a stem and the room of the lent buffer.
+use Prim.Native.Nat.{ℕ}
+use mathlib.Core.List.{List, [], _∷_, _++_}
+use mathlib.Core.Bool.{Bool, _&&_}
+use lib.Dec.{leb, ltb}
+use lib.ListN.{length}
+use Rattle.base.specs.Need.{need}
+use Rattle.utf8.specs.Utf8.{utf8}
+use Rattle.lines.specs.Lines.{feedFree}
+use Rattle.decimal.specs.Decimal.{decimal}
+use Rattle.base.specs.Ascii.{ascii}
+use Rattle.kinds.specs.Kinds.{Operation}
+use Rattle.ops.specs.Written.{writtenAll}
+use Rattle.expression.specs.Tree.{Tree, kOf, pOf}
+use Rattle.expression.specs.Written.{opsOf}
+use Rattle.numbered.specs.declared.Numbered.{Numbered}
+use Rattle.numbered.specs.Numbered.{plain, carrying}
+use Rattle.numbered.specs.Outcome.{Outcome, is, refused}
+use Rattle.contract.specs.Assembled.{assembledTree}
+
+-- not empty, at most 255 bytes, UTF-8, without a line feed
+abbrev pub stemFits : List ℕ → Bool
+stemFits stem = ltb 0 (length stem) && leb (length stem) 255 && utf8 stem && feedFree stem
+
+abbrev pub header : List ℕ → ℕ → List ℕ
+header stem expected = ascii "# contract: " ++ stem ++ 10 ∷ ascii "# expected: " ++ decimal expected ++ 10 ∷ []
+
+-- the tree's operations, left side, right side, operator; last `Halt`
+abbrev pub operationsOf : Tree → List Operation
+operationsOf t = opsOf t ++ record { kind = 15; operand = 0 } ∷ []
+
+unfoldable pub output : List ℕ → ℕ → Tree → List ℕ
+output stem expected t = header stem expected ++ writtenAll (operationsOf t)
+
+-- a success has the bytes written, k, p and the value; a contract is document 01's accepted where the answer is one
+pub data Answer : Type 0 where
+  success : ℕ → ℕ → ℕ → ℕ → Answer
+  refusal : Numbered → Answer
+
+abbrev pub assemblyNumbered : Answer → Numbered
+assemblyNumbered (success written k p value) = carrying 0 (written ∷ k ∷ p ∷ value ∷ [])
+assemblyNumbered (refusal r) = r
+
+-- the answer, and what is written at the start of the lent buffer
+pub record Assembly : Type 0 where
+  pub answer : Answer
+  pub text : List ℕ
+
+abbrev pub nothing : Numbered → Assembly
+nothing r = record { answer = refusal r; text = [] }
+
+abbrev pub written : List ℕ → ℕ → Tree → ℕ → Assembly
+written text expected t room =
+    need (leb (length text) room) (nothing (plain 26)) (record { answer = success (length text) (kOf t) (pOf t) expected; text = text })
+
+abbrev pub named : Outcome (ℕ × Tree) → List ℕ → ℕ → Assembly
+named (refused r) stem room = nothing r
+named (is (expected, t)) stem room = need (stemFits stem) (nothing (plain 25)) (written (output stem expected t) expected t room)
+
+unfoldable pub assembled : List ℕ → List ℕ → List ℕ → ℕ → Assembly
+assembled contract vector stem room = named (assembledTree contract vector) stem room

@@ -1,0 +1,136 @@
+// The parameters of the function, bound to the vector's numbers.
+ghost use mathlib.Core.Path.{_≡_};
+ghost use lib.ListN.{take};
+ghost use Rattle.source.specs.Vector.{vectorNumber};
+ghost use Rattle.source.specs.Parameters.{parameters};
+ghost use Rattle.expression.specs.Tree.{num};
+ghost use Rattle.expression.specs.Code.Figures.{Figures};
+ghost use Rattle.contract.specs.Part.{part};
+ghost use Rattle.contract.specs.Parameters.{keyed, parameterBound};
+ghost use Rattle.contract.specs.State.{each};
+ghost use Rattle.contract.specs.Code.Stored.{Small};
+ghost use Rattle.contract.specs.Code.Held.{Follows, Within, keyedAs};
+use crate::refusal::Refusal;
+use crate::state::State;
+use crate::state::Status;
+use crate::table::row_of;
+use decimal::decimal_len;
+use expression::figures::Read;
+use expression::figures::Value;
+use source::parameters::NextParameter;
+use source::parameters::Span;
+use source::parameters::next_parameter;
+use source::vector::KeyValue;
+use source::vector::json_u64_for_key;
+
+// A key's number, or why it is refused.
+pub enum Number {
+    Is(u64),
+    Refused(Refusal),
+}
+
+// The parameters from start to end of the contract. `read_places` calls it with the places that `find_function` found in a contract of at
+// most 65,536 bytes.
+pub fn bind_parameters(contract: &[u8], vector: &[u8], start: usize, end: usize, a: State) -> State
+    requires { ⌜ Within (now contract) start end ⌝ }
+    ensures { λ r. ⌜ Follows (take start (now (contract .entry))) a
+        (λ st. each (parameterBound (now (vector .entry))) 1 st (parameters (part (now (contract .entry)) start end)))
+        (take end (now (contract .entry))) r ⌝ }
+{
+    let mut table = a.table;
+    let mut values = a.values;
+    let last = a.last;
+    let status = a.status;
+    let mut at = start;
+    let mut place: usize = 1;
+    while at < end {
+        let next = next_parameter(contract, at, end);
+        let NextParameter::Is(p) = next else {
+            return State {
+                table,
+                values,
+                last,
+                status,
+            };
+        };
+        let first = p.start;
+        let behind = p.end;
+        let number = number_for(vector, &contract[first..behind], place);
+        let n = match number {
+            Number::Is(n) => n,
+            Number::Refused(why) => {
+                return State {
+                    table,
+                    values,
+                    last,
+                    status: Status::Refused(why),
+                };
+            }
+        };
+        let read = literal(n);
+        let i = table.count;
+        if 256 <= i {
+            return State {
+                table,
+                values,
+                last,
+                status: Status::Refused(Refusal::TooManyBindings),
+            };
+        }
+        let name = Span {
+            start: first,
+            end: behind,
+        };
+        let expr = Span {
+            start: behind,
+            end: behind,
+        };
+        let row = row_of(contract, name, expr, read);
+        table.name_start[i] = row.name_start;
+        table.name_len[i] = row.name_len;
+        table.expr_start[i] = row.expr_start;
+        table.expr_len[i] = row.expr_len;
+        table.k[i] = row.k;
+        table.p[i] = row.p;
+        table.count = i + 1;
+        values.value[i] = row.value;
+        values.none[i] = row.none;
+        values.len[i] = row.len;
+        values.tag[i] = row.tag;
+        at = p.next;
+        place += 1;
+    }
+    State {
+        table,
+        values,
+        last,
+        status,
+    }
+}
+
+// The number that the vector has for a key with a place.
+pub fn number_for(vector: &[u8], key: &[u8], place: usize) -> Number
+    ensures { λ r. ⌜ keyedAs r ≡ keyed (vectorNumber (now (vector .entry)) (now (key .entry))) place ⌝ }
+{
+    let value = json_u64_for_key(vector, key);
+    match value {
+        KeyValue::Is(n) => Number::Is(n),
+        KeyValue::NoKey => Number::Refused(Refusal::NoKey(place)),
+        KeyValue::NoColon => Number::Refused(Refusal::NoColon(place)),
+        KeyValue::NoDigit => Number::Refused(Refusal::NoDigit(place)),
+        KeyValue::TooLarge => Number::Refused(Refusal::TooLarge(place)),
+    }
+}
+
+// The figures of a number.
+fn literal(n: u64) -> Read
+    ensures { λ r. ⌜ Figures (num n) r × Small r ⌝ }
+{
+    Read {
+        next: 0,
+        k: 1,
+        p: 1,
+        len: 6 + decimal_len(n) as u64,
+        value: Value::Is(n),
+    }
+}

@@ -1,0 +1,120 @@
+// The state as it is stored: the first one, a refused one, and one binding more in the table.
+ghost use mathlib.Core.Path.{_≡_};
+ghost use Prim.Native.Nat.{_≤_};
+ghost use lib.ListN.{length};
+ghost use Rattle.contract.specs.Part.{part};
+ghost use Rattle.contract.specs.Code.Held.{isRefused};
+ghost use Rattle.contract.specs.Code.Stored.{nothingYet, Small, Placed, rowOf, numberIn, isNone, refusedAs};
+use crate::refusal::Refusal;
+use crate::state::Last;
+use crate::state::State;
+use crate::state::Status;
+use expression::Bindings;
+use expression::Values;
+use expression::figures::Read;
+use expression::figures::Value;
+use expression::names::tag_of;
+use source::parameters::Span;
+
+// One binding, as the arrays of the table and beside it hold it.
+pub struct Row {
+    pub name_start: u16,
+    pub name_len: u16,
+    pub expr_start: u16,
+    pub expr_len: u16,
+    pub k: u16,
+    pub p: u16,
+    pub value: u64,
+    pub none: bool,
+    pub len: u32,
+    pub tag: u8,
+}
+
+pub fn started() -> State
+    ensures { λ r. ⌜ r ≡ nothingYet ⌝ }
+{
+    let table = Bindings {
+        name_start: [0; 256],
+        name_len: [0; 256],
+        expr_start: [0; 256],
+        expr_len: [0; 256],
+        k: [0; 256],
+        p: [0; 256],
+        count: 0,
+    };
+    let values = Values {
+        value: [0; 256],
+        none: [false; 256],
+        len: [0; 256],
+        tag: [0; 256],
+    };
+    State {
+        table,
+        values,
+        last: Last::Nothing,
+        status: Status::Going,
+    }
+}
+
+pub fn is_refused(status: Status) -> bool
+    ensures { λ r. ⌜ r ≡ isRefused status ⌝ }
+{
+    match status {
+        Status::Going => false,
+        Status::Refused(_) => true,
+    }
+}
+
+pub fn refuse(a: State, refusal: Refusal) -> State
+    ensures { λ r. ⌜ r ≡ refusedAs a refusal ⌝ }
+{
+    let table = a.table;
+    let values = a.values;
+    let last = a.last;
+    State {
+        table,
+        values,
+        last,
+        status: Status::Refused(refusal),
+    }
+}
+
+// What the arrays hold of one binding. Its places lie before a closing parenthesis or brace of a contract of at most 65,536 bytes (1), and
+// its k is 1 or was tested to be 32,768 at most (20): so places and figures fit the arrays' types. The loops over parameters and lines
+// write it into the arrays themselves, at the count, where that is below 256 (21).
+pub fn row_of(text: &[u8], name: Span, expr: Span, read: Read) -> Row
+    requires { ⌜ Placed name × (Placed expr × (Small read × (name .end ≤ length (now text)))) ⌝ }
+    ensures { λ r. ⌜ r ≡ rowOf name expr read (part (now (text .entry)) (name .start) (name .end)) ⌝ }
+{
+    let value = read.value;
+    Row {
+        name_start: name.start as u16,
+        name_len: (name.end - name.start) as u16,
+        expr_start: expr.start as u16,
+        expr_len: (expr.end - expr.start) as u16,
+        k: read.k as u16,
+        p: read.p as u16,
+        value: number(value),
+        none: is_none(value),
+        len: read.len as u32,
+        tag: tag_of(text, name.start, name.end - name.start),
+    }
+}
+
+fn number(value: Value) -> u64
+    ensures { λ r. ⌜ r ≡ numberIn value ⌝ }
+{
+    match value {
+        Value::Is(n) => n,
+        Value::None => 0,
+    }
+}
+
+fn is_none(value: Value) -> bool
+    ensures { λ r. ⌜ r ≡ isNone value ⌝ }
+{
+    match value {
+        Value::Is(_) => false,
+        Value::None => true,
+    }
+}

@@ -1,0 +1,71 @@
+-- Reading what assembly writes for a tree gives the tree's operations.
+use Prim.Native.Nat.{ℕ, _*_, _≤_}
+use native.Mathlib.Omega.{arith}
+use mathlib.Core.Path.{_≡_, refl, ap, _∙_}
+use mathlib.Core.List.{List, [], _∷_, _++_, append-assoc, append-nil}
+use mathlib.Core.Bool.{true, _&&_}
+use lib.Dec.{leb, ltb}
+use lib.ListN.{length, drop-of-length-le}
+use Rattle.base.specs.Ascii.{ascii}
+use Rattle.base.proofs.Tests.{and-left, and-right, between}
+use Rattle.utf8.specs.Utf8.{utf8}
+use Rattle.utf8.proofs.Lead.{one-is}
+use Rattle.utf8.proofs.Encoding.{append}
+use Rattle.lines.specs.Lines.{feedFree}
+use Rattle.lines.proofs.Written.{free-cons, free-append}
+use Rattle.decimal.specs.Decimal.{digit, allDigits, decimal}
+use Rattle.decimal.proofs.Laws.{allDigits-decimal}
+use Rattle.ops.specs.Ops.{ops, readText, onto}
+use Rattle.ops.specs.Written.{writtenAll, remarks, IsRemark, Each, none, one}
+use Rattle.ops.proofs.Written.{reads-written}
+use Rattle.expression.specs.Tree.{Tree, kOf}
+use Rattle.contract.specs.Output.{stemFits, header, operationsOf, output}
+use Rattle.contract.proofs.Words.{Words}
+use Rattle.correctness.proofs.Operations.{operations-fine, k-positive, operations-length, all-writable, all-same}
+
+-- digits are UTF-8 on one line
+digits-remark : (s : List ℕ) → allDigits s ≡ true → IsRemark s
+digits-remark [] e = record { valid = refl; oneLine = refl }
+digits-remark (a ∷ s) e =
+    let b = between 48 57 a (and-left (digit a) (allDigits s) e) in
+    let r = digits-remark s (and-right (digit a) (allDigits s) e) in
+    record { valid = one-is a s (omega arith) ∙ r .valid; oneLine = free-cons a s (λ e. omega arith) ∙ r .oneLine }
+
+stem-remark : (stem : List ℕ) → stemFits stem ≡ true → IsRemark stem
+stem-remark stem e =
+    let some = ltb 0 (length stem) in
+    let short = leb (length stem) 255 in
+    let front = and-left (some && short && utf8 stem) (feedFree stem) e in
+    record { valid = and-right (some && short) (utf8 stem) front; oneLine = and-right (some && short && utf8 stem) (feedFree stem) e }
+
+-- behind other text of that kind
+behind : (x y : List ℕ) → utf8 x ≡ true → feedFree x ≡ true → IsRemark y → IsRemark (x ++ y)
+behind x y u f p = record { valid = append x y u ∙ p .valid; oneLine = free-append x y f ∙ p .oneLine }
+
+-- the header is two remarks
+abbrev titles : List ℕ → ℕ → List (List ℕ)
+titles stem v = (ascii " contract: " ++ stem) ∷ (ascii " expected: " ++ decimal v) ∷ []
+
+regroup : (a s b d e : List ℕ) → (((a ++ s) ++ 10 ∷ b) ++ d) ++ e ≡ ((a ++ s) ++ 10 ∷ []) ++ (((b ++ d) ++ e) ++ [])
+regroup a s b d e = simp (append-assoc, append-nil)
+
+header-remarks : (stem : List ℕ) (v : ℕ) → header stem v ≡ remarks (titles stem v)
+header-remarks stem v = regroup (ascii "# contract: ") stem (ascii "# expected: ") (decimal v) (10 ∷ [])
+
+titles-remarks : (stem : List ℕ) (v : ℕ) → stemFits stem ≡ true → Each IsRemark (titles stem v)
+titles-remarks stem v e =
+    one (behind (ascii " contract: ") stem refl refl (stem-remark stem e))
+    (one (behind (ascii " expected: ") (decimal v) refl refl (digits-remark (decimal v) (allDigits-decimal v)))
+    none)
+
+pub reads-output : (stem : List ℕ) (v : ℕ) (t : Tree) → stemFits stem ≡ true → Words t → (room : ℕ) → 2 * kOf t ≤ room → readText (output stem v t) room ≡ ops (operationsOf t)
+unfolding output
+reads-output stem v t e h room k =
+    let f = operations-fine t h in
+    ap (λ (x : List ℕ). readText (x ++ writtenAll (operationsOf t)) room) (header-remarks stem v)
+    ∙ reads-written (titles-remarks stem v e) (all-writable f) (omega (arith, operations-length t, k-positive t)) room (omega (arith, operations-length t))
+    ∙ ap ops (all-same f)
+
+-- a buffer of that length is filled
+pub onto-full : (xs buffer : List ℕ) → length buffer ≡ length xs → onto xs buffer ≡ xs
+onto-full xs buffer e = let h : length buffer ≤ length xs = omega arith in ap (λ (l : List ℕ). xs ++ l) (drop-of-length-le buffer h) ∙ append-nil xs

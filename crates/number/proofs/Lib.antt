@@ -1,5 +1,0 @@
-pub mod Runs
-pub mod FromStr
-pub mod Decimal
-pub mod Buffer
-pub mod Examples
