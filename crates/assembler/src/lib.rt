@@ -43,7 +43,9 @@ impl Answer {
     }
 }
 
-// Nothing is written unless all of it fits.
+// Assembles a contract with its vector: writes a header with the stem and the expected value, and the operations of the last return's
+// expression, at the start of `out`. It refuses with the first of document 01's 1 to 26 that applies, and then leaves `out` unchanged;
+// a success leaves unchanged what lies behind the text.
 pub fn assemble(contract: &[u8], vector: &[u8], stem: &[u8], out: &mut [u8]) -> Answer
     ensures { λ r. ⌜ Assembles (assembled (now (contract .entry)) (now (vector .entry)) (now (stem .entry)) (length (now (out .entry)))) (now (out .entry)) (now (out .exit)) r ⌝ }
 {

@@ -81,6 +81,8 @@ pub fn buffers_fit(
     base::both(program, slots)
 }
 
+// Tests a program before it is run, and the used length of the storage that it would run on. It refuses with 34 of document 01 where kinds
+// and operands differ in length, then with the first of 41 to 45 that applies; 44 and 45 go by the position of the operation.
 pub fn verify(kinds: &[u8], operands: &[u64], used: usize) -> Check
     ensures { λ r. ⌜ Checked (verifyOf (now (kinds .entry)) (now (operands .entry)) used) r ⌝ }
 {

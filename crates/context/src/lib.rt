@@ -52,6 +52,8 @@ impl Gate {
     }
 }
 
+// Tests the context of a transition. It refuses with the first of document 01's 35 to 40 that applies. Texts are compared byte by byte;
+// none has to be UTF-8.
 pub fn execution_gate(
     chain_id: &[u8],
     network_id: &[u8],

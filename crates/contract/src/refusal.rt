@@ -9,7 +9,7 @@ use numbered::plain;
 use source::function::FunctionError;
 
 // A key's refusal carries its place among the parameters from 1, or 0 for the expected value; a line's the number of that line.
-// The last two are of crate assembly, which alone gives them.
+// The last two are given by crate assembler alone.
 pub enum Refusal {
     Contract,
     Vector,

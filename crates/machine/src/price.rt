@@ -2,7 +2,7 @@
 ghost use mathlib.Core.Path.{_≡_};
 ghost use Rattle.kinds.specs.Kinds.{kindOf};
 
-// A kind above 15 costs what Halt costs.
+// The price of an operation by its kind number, as document 01 has it. A kind above 15 costs what Halt costs.
 pub fn gas_cost(kind: u8) -> u64
     ensures { λ r. ⌜ r ≡ kindOf kind .price ⌝ }
 {

@@ -90,7 +90,9 @@ impl ParsedOps {
     }
 }
 
-// Reads twice: first the answer, then, unless it is a refusal, the operations into the buffers.
+// Reads the operations of a text, one to a line, into the start of both buffers. It refuses with 27 to 33 of document 01, as they are met
+// line by line, and then leaves both buffers unchanged; a success leaves unchanged what lies behind the operations. The text is read
+// twice: first for the answer, then, unless that is a refusal, to write.
 pub fn parse_ops(text: &[u8], kinds: &mut [u8], operands: &mut [u64]) -> ParsedOps
     ensures { λ r. ⌜ Parsed (now (text .entry)) (now (kinds .entry)) (now (operands .entry)) (now (kinds .exit)) (now (operands .exit)) r ⌝ }
 {
@@ -104,7 +106,8 @@ pub fn parse_ops(text: &[u8], kinds: &mut [u8], operands: &mut [u64]) -> ParsedO
     }
 }
 
-// The trimmed line of a number from 1, as a part of the text.
+// The trimmed text of a line by its number from 1, as a part of the caller's text. It refuses nothing: the part is empty where the text
+// isn't UTF-8 or has no such line.
 pub fn trimmed_line<'a>(text: &'a [u8], line: usize) -> &'a [u8]
     ensures { λ r. ⌜ Part (text .entry) r (trimmedPlace (now (text .entry)) line) (trimmedLine (now (text .entry)) line) ⌝ }
 {

@@ -10,6 +10,10 @@ use context::Gate;
 use perform::Answer;
 use perform::State;
 
+// Runs a program under a gas limit, on the used slots of the storage and without the chain gate. It refuses with 34, then 41 to 45 of
+// document 01, and leaves every buffer unchanged; or with 46 to 51 from the run itself, and leaves the storage as it was, and the stack
+// and work buffers zero. A success leaves the items in the stack buffer, bottom first, with zeros behind them; the work buffer zero; the
+// used slots as the run made them, and the rest of the storage unchanged.
 pub fn run_with_gas(
     kinds: &[u8],
     operands: &[u64],
@@ -54,6 +58,8 @@ pub fn run_with_gas(
     )
 }
 
+// Runs a program under a gas limit behind the chain gate. It refuses with 34, then 35 to 40 (the gate), then as `run_with_gas` does, and
+// leaves what that leaves.
 pub fn execute_state_transition_with_gas(
     chain_id: &[u8],
     network_id: &[u8],
@@ -121,7 +127,7 @@ pub fn execute_state_transition_with_gas(
     }
 }
 
-// The same with no gas, as the Rust has it.
+// The same under the limit 0, as the Rust has it.
 pub fn execute_state_transition(
     chain_id: &[u8],
     network_id: &[u8],
