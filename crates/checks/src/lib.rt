@@ -5,6 +5,9 @@ ghost use Rattle.checks.specs.Verify.{buffersFit, verifyOf};
 
 mod operations;
 
+use kinds::MAX_PROGRAM_OPS;
+use kinds::MAX_STACK_ITEMS;
+use kinds::MAX_STORAGE_SLOTS;
 use numbered::Numbered;
 use numbered::carrying_one;
 use numbered::carrying_two;
@@ -76,7 +79,7 @@ pub fn buffers_fit(
 ) -> bool
     ensures { λ r. ⌜ r ≡ buffersFit kinds operands stack work storage used ⌝ }
 {
-    let program = base::both(kinds == operands, stack >= 4096);
+    let program = base::both(kinds == operands, stack >= MAX_STACK_ITEMS);
     let slots = base::both(work == storage, used <= storage);
     base::both(program, slots)
 }
@@ -93,10 +96,10 @@ pub fn verify(kinds: &[u8], operands: &[u64], used: usize) -> Check
     if size == 0 {
         return Check::Refused(Refusal::EmptyProgram);
     }
-    if size > 65536 {
+    if size > MAX_PROGRAM_OPS {
         return Check::Refused(Refusal::ProgramTooLarge(size));
     }
-    if used > 65536 {
+    if used > MAX_STORAGE_SLOTS {
         return Check::Refused(Refusal::StorageTooLarge(used));
     }
     operations::verify_operations(kinds, operands)

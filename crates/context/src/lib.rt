@@ -9,6 +9,8 @@ ghost use Rattle.context.specs.Gate.{gateOf, contextErrorNumbered, gateN
 use numbered::Numbered;
 use numbered::plain;
 
+pub const CHAIN_ID: [u8; 3] = *b"atc";
+
 // How many bytes are compared at a time.
 const BLOCK: usize = 16;
 
@@ -69,7 +71,7 @@ pub fn execution_gate(
         (now («expected_protocol» .entry)) (now («expected_vm» .entry)))
         r ⌝ }
 {
-    if !same(chain_id, b"atc") {
+    if !same(chain_id, &CHAIN_ID) {
         return Gate::Refused(ContextError::InvalidChainId);
     }
     if !is_network(network_id) {

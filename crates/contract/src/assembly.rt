@@ -22,6 +22,9 @@ use source::function::Places;
 use source::function::find_function;
 use utf8::is_utf8;
 
+// A contract and a vector have at most so many bytes.
+const MAX_TEXT_BYTES: usize = 65536;
+
 // The bindings and the last return, which has the expected value; or the refusal, with no binding and no expected value. Left open are what
 // the table's arrays hold from the count on, the number beside a binding whose value is none, and at which of the places that give the same
 // names and trees the bindings stand.
@@ -50,7 +53,7 @@ pub fn checked(contract: &[u8], vector: &[u8]) -> Assembly
 fn is_readable(s: &[u8]) -> bool
     ensures { λ r. ⌜ r ≡ readable (now (s .entry)) ⌝ }
 {
-    if 65536 < s.len() {
+    if MAX_TEXT_BYTES < s.len() {
         return false;
     }
     is_utf8(s)

@@ -24,6 +24,9 @@ use lines::Step;
 use lines::line_at;
 use source::parameters::Span;
 
+// An expression's k is at most this (20).
+const MAX_K: u64 = 32768;
+
 // The figures of an expression, or why it is refused.
 pub enum Checked {
     Is(Read),
@@ -146,7 +149,7 @@ fn check(contract: &[u8], expr: Span, line: usize, table: Bindings, values: Valu
     match parsed {
         Parsed::Refused(e) => Checked::Refused(Refusal::Expression(e, line)),
         Parsed::Done(read) => {
-            if 32768 < read.k {
+            if MAX_K < read.k {
                 return Checked::Refused(Refusal::TooLong(line));
             }
             Checked::Is(read)

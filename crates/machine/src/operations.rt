@@ -10,13 +10,15 @@ ghost use Rattle.machine.specs.Machine.{jumps, pushOf, twoOf, dupOf, swa
 ghost use Rattle.machine.specs.Code.Registers.{Ready, Did, DidAny, binaryOf, goneOn};
 use super::Regs;
 use super::registers;
+use kinds::MAX_STACK_ITEMS;
+use kinds::MAX_STORAGE_SLOTS;
 
 pub fn push(stack: &mut [u64], r: Regs, v: u64) -> Regs
     requires { ⌜ Ready r (length (now stack)) ⌝ }
     ensures { λ q. ⌜ DidAny (r .pos + 1) (pushOf v) r q (now (stack .entry)) (now (stack .exit)) ⌝ }
 {
     let n = r.items;
-    if n >= 4096 {
+    if n >= MAX_STACK_ITEMS {
         return registers::stop(r, 48, 0);
     }
     stack[n] = v;
@@ -143,7 +145,7 @@ pub fn store(stack: &[u64], work: &mut [u64], r: Regs, slot: u64) -> Regs
         return registers::stop(r, 47, 0);
     }
     let v = stack[n - 1];
-    if slot >= 65536 {
+    if slot >= MAX_STORAGE_SLOTS as u64 {
         return registers::stop(r, 50, requested(slot));
     }
     let at = slot as usize;
