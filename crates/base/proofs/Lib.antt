@@ -1,2 +1,4 @@
 pub mod Tests
 pub mod Parts
+pub mod Skips
+pub mod Cursor
