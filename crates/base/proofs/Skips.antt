@@ -8,9 +8,6 @@ use Rattle.base.proofs.Tests.{never, and-left, and-right, by-leb}
 use Rattle.base.specs.Code.Skips.{Skips, SkipsTo, AllFrom}
 
 module _ (P : ℕ → Type 0) (at : ℕ) where
-  pub all-none : AllFrom at 0 P
-  all-none k h = absurd (omega arith)
-
   -- one offset more
   pub all-more : (n : ℕ) → AllFrom at n P → P (at + n) → AllFrom at (n + 1) P
   all-more n a p k h = by-leb (suc k) n (a k) (λ g. let e : k ≡ n = omega arith in rw e p)
