@@ -29,16 +29,16 @@ module _ (P : ℕ → Type 0) (at : ℕ) where
   pub all-rest : (n : ℕ) → AllFrom at (suc n) P → AllFrom (at + 1) n P
   all-rest n a k h = let e : at + suc k ≡ at + 1 + k = omega arith in rw e at (a (suc k) (omega arith))
 
-module _ {A : Type 0} (f : ℕ → A) where
-  -- offsets that are skipped one by one are skipped at once
-  pub skips-all : (n at : ℕ) → AllFrom at n (λ i. Skips f i (i + 1)) → Skips f at (at + n)
-  skips-all zero at a = let e : at ≡ at + 0 = omega arith in ap f e
-  skips-all (suc n) at a =
-      let e : at + n + 1 ≡ at + suc n = omega arith in
-      skips-all n at (all-fewer (λ i. Skips f i (i + 1)) at (suc n) n (omega arith) a) ∙ a n (omega arith) ∙ ap f e
+-- offsets that are skipped one by one are skipped at once
+pub skips-all : {A : Type 0} (f : ℕ → A) (n at : ℕ) → AllFrom at n (λ i. Skips f i (i + 1)) → Skips f at (at + n)
+skips-all f zero at a = let e : at ≡ at + 0 = omega arith in ap f e
+skips-all f (suc n) at a =
+    let e : at + n + 1 ≡ at + suc n = omega arith in
+    skips-all f n at (all-fewer (λ i. Skips f i (i + 1)) at (suc n) n (omega arith) a) ∙ a n (omega arith) ∙ ap f e
 
-  pub skips-none : (at end i : ℕ) → at ≤ end → i ≡ at → SkipsTo f at end i
-  skips-none at end i h e = record { on = omega arith; within = omega arith; same = ap f (sym e) }
+module _ {A : Type 0} {f : ℕ → A} where
+  pub skips-none : {at end i : ℕ} → at ≤ end → i ≡ at → SkipsTo f at end i
+  skips-none h e = record { on = omega arith; within = omega arith; same = ap f (sym e) }
 
   pub skips-on : {at end i j : ℕ} → SkipsTo f at end i → SkipsTo f i end j → SkipsTo f at end j
   skips-on x y = record { on = le-trans (x .on) (y .on); within = y .within; same = x .same ∙ y .same }

@@ -22,7 +22,7 @@ room : (c : tie.Then1 Inv-loop μ-loop) → c .before .before .loop .block + 16 
 room c = leb-true _ _ (sym (c .before .has-room .ensures) ∙ c .if1 .taken)
 
 loop-holds : tie.Need-loop-holds Inv-loop μ-loop
-loop-holds c = skips-none _ _ _ _ (c .before .pre) refl
+loop-holds c = skips-none (c .before .pre) refl
 
 has-room-requires : tie.Need-has-room-requires Inv-loop μ-loop
 has-room-requires c κs = search needs
@@ -40,7 +40,7 @@ loop-less : tie.Need-loop-less Inv-loop μ-loop
 loop-less c = omega (arith, room (c .before .before))
 
 loop-again : tie.Need-loop-again Inv-loop μ-loop
-loop-again c = skips-on _ (c .before .before .before .before .loop .inv) (record { on = omega arith; within = room (c .before .before); same = c .before .has-byte .ensures (c .if2 .left) })
+loop-again c = skips-on (c .before .before .before .before .loop .inv) (record { on = omega arith; within = room (c .before .before); same = c .before .has-byte .ensures (c .if2 .left) })
 
 returns-2 : tie.Need-returns-2 Inv-loop μ-loop
 returns-2 c = search needs
