@@ -2,3 +2,4 @@ pub mod Tests
 pub mod Parts
 pub mod Skips
 pub mod Cursor
+pub mod Bytes

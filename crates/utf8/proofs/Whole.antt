@@ -4,6 +4,7 @@ use mathlib.Core.Path.{_≡_, refl, sym, ap, _∙_}
 use mathlib.Core.List.{List, [], _∷_}
 use mathlib.Core.Bool.{Bool, true, false, cond, _&&_, _||_}
 use borrow.Author.Tests.{le-leb, lt-leb, leb-true, ne-eqb}
+use native.Mathlib.Nat.{le-trans}
 use native.Mathlib.Omega.{arith}
 use lib.Dec.{eqb, leb}
 use lib.ListN.{length, getD, drop}
@@ -66,17 +67,20 @@ module _ (n b c d e : ℕ) (s : List ℕ) (o : opened b c d ≡ true) (w : whole
       (t, u .0, u .1, ranged-more .1)
 
 -- the second byte is a tail
-ranged : (p q : Bool) (lo hi e : ℕ) → 0x80 ≤ lo → hi ≤ 0xBF → within (cond p lo 0x80) (cond q hi 0xBF) e ≡ true → (0x80 ≤ e) × (e ≤ 0xBF)
-ranged true true lo hi e h k v = let r = between lo hi e v in (omega arith, omega arith)
-ranged true false lo hi e h k v = let r = between lo 0xBF e v in (omega arith, omega arith)
-ranged false true lo hi e h k v = let r = between 0x80 hi e v in (omega arith, omega arith)
-ranged false false lo hi e h k v = between 0x80 0xBF e v
+least : (p q : Bool) → 0x80 ≤ cond p 0xA0 (cond q 0x90 0x80)
+least true q = omega arith
+least false true = omega arith
+least false false = omega arith
 
-low3 : (d e : ℕ) → within (cond (eqb d 0xE0) 0xA0 0x80) (cond (eqb d 0xED) 0x9F 0xBF) e ≡ true → (0x80 ≤ e) × (e ≤ 0xBF)
-low3 d e v = ranged (eqb d 0xE0) (eqb d 0xED) 0xA0 0x9F e (omega arith) (omega arith) v
+most : (p q : Bool) → cond p 0x9F (cond q 0x8F 0xBF) ≤ 0xBF
+most true q = omega arith
+most false true = omega arith
+most false false = omega arith
 
-low4 : (d e : ℕ) → within (cond (eqb d 0xF0) 0x90 0x80) (cond (eqb d 0xF4) 0x8F 0xBF) e ≡ true → (0x80 ≤ e) × (e ≤ 0xBF)
-low4 d e v = ranged (eqb d 0xF0) (eqb d 0xF4) 0x90 0x8F e (omega arith) (omega arith) v
+second : (d e : ℕ) → within (lowest d) (highest d) e ≡ true → (0x80 ≤ e) × (e ≤ 0xBF)
+second d e v =
+    let r = between (lowest d) (highest d) e v in
+    (le-trans (least (eqb d 0xE0) (eqb d 0xF0)) (r .0), le-trans (r .1) (most (eqb d 0xED) (eqb d 0xF4)))
 
 mutual
   pub pass : (n a b c : ℕ) (s : List ℕ) → opened a b c ≡ false → whole a b c n s ≡ true → utf8 s ≡ utf8 (drop n s)
@@ -88,8 +92,7 @@ mutual
       let r = bounds a b c o in
       by-leb d 0x7F (λ h. one-is d s h ∙ pass n b c d s (closed b c d (omega arith) (omega arith) (omega arith)) g)
       (λ h. let i = first-next a b c d f o h in
-      by-leb d 0xDF (λ k. pass2 n b c d s (r .2) (i .0) k g)
-      (λ k. by-leb d 0xEF (λ l. pass3 n b c d s (r .2) k l g) (λ l. pass4 n b c d s l (i .1) g)))
+      by-leb d 0xDF (λ k. pass2 n b c d s (r .2) (i .0) k g) (λ k. pass3 n b c d s k (i .1) g))
 
   pass2 : (n b c d : ℕ) (s : List ℕ) → c < 0xC0 → 0xC2 ≤ d → d ≤ 0xDF → whole b c d n s ≡ true → utf8 (d ∷ s) ≡ utf8 (drop n s)
   pass2 zero b c d s k h i w = absurd (still b c d s (open3 b c d (omega arith)) w)
@@ -100,50 +103,40 @@ mutual
       ∙ ap (λ (p : Bool). cond p (utf8 s) false) (and-both (within 0xC2 0xDF d) (tail e) (inside 0xC2 0xDF d h i) (t .0))
       ∙ pass n c d e s (closed c d e (omega arith) (omega arith) (omega arith)) (t .3)
 
-  pass3 : (n b c d : ℕ) (s : List ℕ) → c < 0xC0 → 0xDF < d → d ≤ 0xEF → whole b c d n s ≡ true → utf8 (d ∷ s) ≡ utf8 (drop n s)
-  pass3 zero b c d s k h i w = absurd (still b c d s (open3 b c d (omega arith)) w)
-  pass3 (suc n) b c d [] k h i w = never w
-  pass3 (suc n) b c d (e ∷ s) k h i w =
-      let t = ranged-more n b c d e s (open3 b c d (omega arith)) w in
-      let v : within (cond (eqb d 0xE0) 0xA0 0x80) (cond (eqb d 0xED) 0x9F 0xBF) e ≡ true = simp (ne-eqb d 0xF0 (λ p. omega arith), ne-eqb d 0xF4 (λ p. omega arith)) at (t .0) in
-      pass3-more n c d e s h i (low3 d e v) v (t .1)
+  -- a character of three bytes or four, from its second byte on
+  pass3 : (n b c d : ℕ) (s : List ℕ) → 0xDF < d → d ≤ 0xF4 → whole b c d n s ≡ true → utf8 (d ∷ s) ≡ utf8 (drop n s)
+  pass3 zero b c d s h i w = absurd (still b c d s (open3 b c d (omega arith)) w)
+  pass3 (suc n) b c d [] h i w = never w
+  pass3 (suc n) b c d (e ∷ s) h i w = let t = ranged-more n b c d e s (open3 b c d (omega arith)) w in pass3-more n c d e s h i (t .0) (t .1)
 
-  pass3-more : (n c d e : ℕ) (s : List ℕ) → 0xDF < d → d ≤ 0xEF → (0x80 ≤ e) × (e ≤ 0xBF)
-      → within (cond (eqb d 0xE0) 0xA0 0x80) (cond (eqb d 0xED) 0x9F 0xBF) e ≡ true → whole c d e n s ≡ true → utf8 (d ∷ e ∷ s) ≡ utf8 (drop n s)
-  pass3-more zero c d e s h i j v w = absurd (still c d e s (open2 c d e (omega arith) (omega arith)) w)
-  pass3-more (suc n) c d e [] h i j v w = never w
-  pass3-more (suc n) c d e (x ∷ s) h i j v w =
+  pass3-more : (n c d e : ℕ) (s : List ℕ) → 0xDF < d → d ≤ 0xF4 → within (lowest d) (highest d) e ≡ true → whole c d e n s ≡ true → utf8 (d ∷ e ∷ s) ≡ utf8 (drop n s)
+  pass3-more zero c d e s h i v w = let j = second d e v in absurd (still c d e s (open2 c d e (omega arith) (omega arith)) w)
+  pass3-more (suc n) c d e [] h i v w = never w
+  pass3-more (suc n) c d e (x ∷ s) h i v w =
+      let j = second d e v in
       let t = tail-more n c d e x s (open2 c d e (omega arith) (omega arith)) w (omega arith) in
-      three-is d e x s h i
-      ∙ ap (λ (p : Bool). cond p (utf8 s) false) (sym (three-by d e x h i) ∙ and-both _ (tail x) v (t .0))
-      ∙ pass n d e x s (closed d e x (omega arith) (omega arith) (omega arith)) (t .3)
+      by-leb d 0xEF
+      (λ l. let u : within (cond (eqb d 0xE0) 0xA0 0x80) (cond (eqb d 0xED) 0x9F 0xBF) e ≡ true = simp (ne-eqb d 0xF0 (λ p. omega arith), ne-eqb d 0xF4 (λ p. omega arith)) at v in
+      three-is d e x s h l
+      ∙ ap (λ (p : Bool). cond p (utf8 s) false) (sym (three-by d e x h l) ∙ and-both _ (tail x) u (t .0))
+      ∙ pass n d e x s (closed d e x (omega arith) (omega arith) (omega arith)) (t .3))
+      (λ l. pass4 n d e x s l i v (t .0) (t .3))
 
-  pass4 : (n b c d : ℕ) (s : List ℕ) → 0xEF < d → d ≤ 0xF4 → whole b c d n s ≡ true → utf8 (d ∷ s) ≡ utf8 (drop n s)
-  pass4 zero b c d s h i w = absurd (still b c d s (open3 b c d (omega arith)) w)
-  pass4 (suc n) b c d [] h i w = never w
-  pass4 (suc n) b c d (e ∷ s) h i w =
-      let t = ranged-more n b c d e s (open3 b c d (omega arith)) w in
-      let v : within (cond (eqb d 0xF0) 0x90 0x80) (cond (eqb d 0xF4) 0x8F 0xBF) e ≡ true = simp (ne-eqb d 0xE0 (λ p. omega arith), ne-eqb d 0xED (λ p. omega arith)) at (t .0) in
-      pass4-more n c d e s h i (low4 d e v) v (t .1)
-
-  pass4-more : (n c d e : ℕ) (s : List ℕ) → 0xEF < d → d ≤ 0xF4 → (0x80 ≤ e) × (e ≤ 0xBF)
-      → within (cond (eqb d 0xF0) 0x90 0x80) (cond (eqb d 0xF4) 0x8F 0xBF) e ≡ true → whole c d e n s ≡ true → utf8 (d ∷ e ∷ s) ≡ utf8 (drop n s)
-  pass4-more zero c d e s h i j v w = absurd (still c d e s (open2 c d e (omega arith) (omega arith)) w)
-  pass4-more (suc n) c d e [] h i j v w = never w
-  pass4-more (suc n) c d e (x ∷ s) h i j v w =
-      let t = tail-more n c d e x s (open2 c d e (omega arith) (omega arith)) w (omega arith) in
-      pass4-last n d e x s h i j v (t .0) (t .3)
-
-  pass4-last : (n d e x : ℕ) (s : List ℕ) → 0xEF < d → d ≤ 0xF4 → (0x80 ≤ e) × (e ≤ 0xBF)
-      → within (cond (eqb d 0xF0) 0x90 0x80) (cond (eqb d 0xF4) 0x8F 0xBF) e ≡ true → tail x ≡ true → whole d e x n s ≡ true → utf8 (d ∷ e ∷ x ∷ s) ≡ utf8 (drop n s)
-  pass4-last zero d e x s h i j v t w = let u = between 0x80 0xBF x t in absurd (still d e x s (open1 d e x (omega arith) (omega arith) (omega arith)) w)
-  pass4-last (suc n) d e x [] h i j v t w = never w
-  pass4-last (suc n) d e x (y ∷ s) h i j v t w =
+  -- the fourth byte
+  pass4 : (n d e x : ℕ) (s : List ℕ) → 0xEF < d → d ≤ 0xF4 → within (lowest d) (highest d) e ≡ true → tail x ≡ true → whole d e x n s ≡ true → utf8 (d ∷ e ∷ x ∷ s) ≡ utf8 (drop n s)
+  pass4 zero d e x s h i v t w =
+      let j = second d e v in
+      let u = between 0x80 0xBF x t in
+      absurd (still d e x s (open1 d e x (omega arith) (omega arith) (omega arith)) w)
+  pass4 (suc n) d e x [] h i v t w = never w
+  pass4 (suc n) d e x (y ∷ s) h i v t w =
+      let j = second d e v in
       let u = between 0x80 0xBF x t in
       let z = tail-more n d e x y s (open1 d e x (omega arith) (omega arith) (omega arith)) w (omega arith) in
+      let r : within (cond (eqb d 0xF0) 0x90 0x80) (cond (eqb d 0xF4) 0x8F 0xBF) e ≡ true = simp (ne-eqb d 0xE0 (λ p. omega arith), ne-eqb d 0xED (λ p. omega arith)) at v in
       four-is d e x y s h
       ∙ ap (λ (p : Bool). cond p (utf8 s) false)
-      (sym (four-by d e x y h) ∙ and-both (leb d 0xF4) _ (le-leb d 0xF4 i) (and-both _ (tail x && tail y) v (and-both (tail x) (tail y) t (z .0))))
+      (sym (four-by d e x y h) ∙ and-both (leb d 0xF4) _ (le-leb d 0xF4 i) (and-both _ (tail x && tail y) r (and-both (tail x) (tail y) t (z .0))))
       ∙ pass n e x y s (closed e x y (omega arith) (omega arith) (omega arith)) (z .3)
 
 -- the same by positions

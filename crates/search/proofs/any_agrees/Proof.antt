@@ -1,5 +1,5 @@
 -- `search::any_agrees` meets its contract: while there is no hit, p stands at none of the places that are passed.
-use Prim.Native.Nat.{_+_, _-_, _≤_}
+use Prim.Native.Nat.{_-_, _≤_}
 use mathlib.Core.Path.{_≡_, sym, _∙_}
 use mathlib.Core.Bool.{false}
 use native.Mathlib.Omega.{arith}

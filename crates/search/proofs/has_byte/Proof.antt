@@ -1,5 +1,5 @@
 -- `search::has_byte` meets its contract: while there is no hit, the byte stands at none of the places that are passed.
-use Prim.Native.Nat.{_+_, _-_, _≤_}
+use Prim.Native.Nat.{_-_, _≤_}
 use mathlib.Core.Path.{_≡_, sym, _∙_}
 use mathlib.Core.List.{[], _∷_}
 use mathlib.Core.Bool.{false}

@@ -62,7 +62,7 @@ loop-again c =
     let a = l .before .before .args in (
       omega arith,
       λ e. both-more (λ i. followsAt (now (a .s)) i ≡ true) (a .at) (l .loop .k) (l .loop .all) _ (l .loop .inv .1)
-      (λ f. sym (c .before .does-follow .ensures) ∙ f) (sym (c .both .ensures) ∙ e),
+          (λ f. sym (c .before .does-follow .ensures) ∙ f) (sym (c .both .ensures) ∙ e),
     )
 
 returns : tie.Need-returns Inv-loop μ-loop

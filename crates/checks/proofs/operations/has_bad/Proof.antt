@@ -54,7 +54,7 @@ loop-again c =
     let l = c .before .before .before .before .before .loop in (
       omega arith,
       λ e. either-more (λ i. Skips (checkFrom (a .kinds .now) (a .operands .now)) i (i + 1)) (a .at) (l .k) (l .hit) _ (l .inv .1)
-      (λ f. skips-passing (a .kinds .now) (a .operands .now) (a .at + l .k) (p .0) (omega arith) (c .before .is-bad .ensures f)) (sym (c .either .ensures) ∙ e),
+          (λ f. skips-passing (a .kinds .now) (a .operands .now) (a .at + l .k) (p .0) (omega arith) (c .before .is-bad .ensures f)) (sym (c .either .ensures) ∙ e),
     )
 
 returns : tie.Need-returns Inv-loop μ-loop
