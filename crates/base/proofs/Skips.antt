@@ -5,7 +5,7 @@ use native.Mathlib.Omega.{arith}
 use mathlib.Core.Path.{_≡_, refl, sym, ap, _∙_}
 use mathlib.Core.Bool.{Bool, true, false, _&&_, _||_}
 use Rattle.base.proofs.Tests.{never, and-left, and-right, by-leb}
-use Rattle.base.specs.Code.Skips.{Skips, SkipsTo, AllFrom}
+use Rattle.base.specs.Code.Skips.{Skips, SkipsTo, SkipsIf, AllFrom}
 
 module _ (P : ℕ → Type 0) (at : ℕ) where
   -- one offset more
@@ -42,3 +42,14 @@ module _ {A : Type 0} {f : ℕ → A} where
 
   pub skips-on : {at end i j : ℕ} → SkipsTo f at end i → SkipsTo f i end j → SkipsTo f at end j
   skips-on x y = record { on = le-trans (x .on) (y .on); within = y .within; same = x .same ∙ y .same }
+
+module _ (f : ℕ → Bool) (at i : ℕ) where
+  pub skips-yes : (r : Bool) → SkipsIf f at i r → r ≡ true → Skips f at i
+  skips-yes r e h = e ∙ ap (λ p. p && f i) h
+
+  pub skips-no : (r : Bool) → SkipsIf f at i r → r ≡ false → f at ≡ false
+  skips-no r e h = e ∙ ap (λ p. p && f i) h
+
+  pub skips-if-more : (all t r : Bool) → SkipsIf f at i all → SkipsIf f i (i + 1) t → r ≡ (all && t) → SkipsIf f at (i + 1) r
+  skips-if-more true t r e g n = rw n (e ∙ g)
+  skips-if-more false t r e g n = rw n e
