@@ -1,2 +1,5 @@
 pub mod Tests
 pub mod Parts
+pub mod Skips
+pub mod Cursor
+pub mod Bytes

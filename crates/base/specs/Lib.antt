@@ -4,3 +4,4 @@ pub mod Need
 pub mod Range
 pub mod Part
 pub mod Texts
+pub mod Code

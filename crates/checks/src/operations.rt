@@ -1,15 +1,16 @@
 // The verifier's look at each operation, 44 and 45.
 ghost use mathlib.Core.Path.{_≡_};
 ghost use mathlib.Core.Bool.{false};
-ghost use Prim.Native.Nat.{ℕ, _+_, _<_, _≤_};
+ghost use Prim.Native.Nat.{_+_, _<_, _≤_};
 ghost use lib.Dec.{ltb};
-ghost use lib.ListN.{length, getD, drop};
+ghost use lib.ListN.{length, getD};
+ghost use Rattle.base.specs.Code.Skips.{Skips, SkipsTo, AllFrom};
 ghost use Rattle.base.specs.Need.{need};
 ghost use Rattle.kinds.specs.Kinds.{operation};
 ghost use Rattle.checks.specs.declared.Refusal.the-variants.{JumpOutOfRange};
 ghost use Rattle.checks.specs.declared.Check.the-variants as check;
 ghost use Rattle.checks.specs.Verify.{operationCheck, operationsCheck};
-ghost use Rattle.checks.specs.Code.Blocks.{Passes, Clear};
+ghost use Rattle.checks.specs.Code.Blocks.{checkFrom};
 use super::Check;
 use super::Refusal;
 
@@ -30,7 +31,7 @@ pub fn verify_operations(kinds: &[u8], operands: &[u64]) -> Check
 // Passes blocks as long as their kinds are known and every operand is below the program's length.
 fn pass_near(kinds: &[u8], operands: &[u64]) -> usize
     requires { ⌜ length (now kinds) ≡ length (now operands) ⌝ }
-    ensures { λ r. ⌜ Passes (now (kinds .entry)) (now (operands .entry)) 0 r ⌝ }
+    ensures { λ r. ⌜ SkipsTo (checkFrom (now (kinds .entry)) (now (operands .entry))) 0 (length (now (kinds .entry))) r ⌝ }
 {
     let mut at: usize = 0;
     while kinds.len() - at >= BLOCK {
@@ -45,7 +46,7 @@ fn pass_near(kinds: &[u8], operands: &[u64]) -> usize
 // Passes blocks as long as none of their operations is bad.
 fn pass_fitting(kinds: &[u8], operands: &[u64], from: usize) -> usize
     requires { ⌜ (length (now kinds) ≡ length (now operands)) × (from ≤ length (now kinds)) ⌝ }
-    ensures { λ r. ⌜ Passes (now (kinds .entry)) (now (operands .entry)) from r ⌝ }
+    ensures { λ r. ⌜ SkipsTo (checkFrom (now (kinds .entry)) (now (operands .entry))) from (length (now (kinds .entry))) r ⌝ }
 {
     let mut at = from;
     while kinds.len() - at >= BLOCK {
@@ -60,7 +61,7 @@ fn pass_fitting(kinds: &[u8], operands: &[u64], from: usize) -> usize
 // Whether a kind is unknown or an operand is not below the program's length, among the n operations from a place on.
 fn has_far(kinds: &[u8], operands: &[u64], at: usize, n: usize) -> bool
     requires { ⌜ (length (now kinds) ≡ length (now operands)) × (at + n ≤ length (now kinds)) ⌝ }
-    ensures { λ r. ⌜ Clear (now (kinds .entry)) (now (operands .entry)) at (at + n) r ⌝ }
+    ensures { λ r. ⌜ (r ≡ false → Skips (checkFrom (now (kinds .entry)) (now (operands .entry))) at (at + n)) ⌝ }
 {
     let kind = has_above(kinds, at, n);
     let operand = has_from(operands, at, n, kinds.len());
@@ -70,7 +71,7 @@ fn has_far(kinds: &[u8], operands: &[u64], at: usize, n: usize) -> bool
 // Whether a kind above 15 is among the n from a place on.
 fn has_above(kinds: &[u8], at: usize, n: usize) -> bool
     requires { ⌜ at + n ≤ length (now kinds) ⌝ }
-    ensures { λ r. ⌜ (r ≡ false → (j : ℕ) → at ≤ j → j < at + n → getD (now (kinds .entry)) j 0 ≤ 15) ⌝ }
+    ensures { λ r. ⌜ (r ≡ false → AllFrom at n (λ i. getD (now (kinds .entry)) i 0 ≤ 15)) ⌝ }
 {
     let mut hit = false;
     let mut k: usize = 0;
@@ -84,7 +85,7 @@ fn has_above(kinds: &[u8], at: usize, n: usize) -> bool
 // Whether an operand of size or more is among the n from a place on.
 fn has_from(operands: &[u64], at: usize, n: usize, size: usize) -> bool
     requires { ⌜ at + n ≤ length (now operands) ⌝ }
-    ensures { λ r. ⌜ (r ≡ false → (j : ℕ) → at ≤ j → j < at + n → getD (now (operands .entry)) j 0 < size) ⌝ }
+    ensures { λ r. ⌜ (r ≡ false → AllFrom at n (λ i. getD (now (operands .entry)) i 0 < size)) ⌝ }
 {
     let mut hit = false;
     let mut k: usize = 0;
@@ -98,7 +99,7 @@ fn has_from(operands: &[u64], at: usize, n: usize, size: usize) -> bool
 // Whether a bad operation is among the n from a place on.
 fn has_bad(kinds: &[u8], operands: &[u64], at: usize, n: usize) -> bool
     requires { ⌜ (length (now kinds) ≡ length (now operands)) × (at + n ≤ length (now kinds)) ⌝ }
-    ensures { λ r. ⌜ Clear (now (kinds .entry)) (now (operands .entry)) at (at + n) r ⌝ }
+    ensures { λ r. ⌜ (r ≡ false → Skips (checkFrom (now (kinds .entry)) (now (operands .entry))) at (at + n)) ⌝ }
 {
     let size = kinds.len();
     let mut hit = false;
@@ -121,8 +122,7 @@ fn is_bad(kind: u8, operand: u64, size: usize) -> bool
 // The check from a place on, by one operation after the other.
 fn verify_from(kinds: &[u8], operands: &[u64], from: usize) -> Check
     requires { ⌜ (length (now kinds) ≡ length (now operands)) × (from ≤ length (now kinds)) ⌝ }
-    ensures { λ r. ⌜ r ≡ operationsCheck (length (now (kinds .entry)))
-        (drop from (now (kinds .entry))) (drop from (now (operands .entry))) ⌝ }
+    ensures { λ r. ⌜ r ≡ checkFrom (now (kinds .entry)) (now (operands .entry)) from ⌝ }
 {
     let size = kinds.len();
     let mut i = from;

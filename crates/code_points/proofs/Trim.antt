@@ -6,7 +6,7 @@ use mathlib.Core.Bool.{Bool, true, false, cond}
 use native.Mathlib.Omega.{arith}
 use Rattle.base.proofs.Tests.{by-bool}
 use Rattle.trim.specs.Trim.{white1, white2, white3, trimmedBy, startTrimmed, back, endTrimmed, trimmed}
-use Rattle.trim.specs.Code.Step.{back2, back3}
+use Rattle.trim.specs.Code.Trims.{back2, back3}
 use Rattle.trim.proofs.White.{not1, not2, not3}
 use Rattle.trim.proofs.Laws.{yes1, yes2, yes3, no1, no2, no3, start-stays}
 use Rattle.utf8.specs.Encode.{encode, encodes}

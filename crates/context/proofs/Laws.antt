@@ -9,6 +9,7 @@ use borrow.Author.Tests.{eq-eqb, eqb-true, not-true, not-false}
 use Rattle.base.proofs.Tests.{never, and-left, and-right}
 use Rattle.base.proofs.Parts.{next}
 use Rattle.base.specs.Equal.{equal}
+use Rattle.base.specs.Code.Skips.{SkipsIf}
 use Rattle.context.specs.Gate.{isHexDigit, allHexDigits}
 
 -- lists of different lengths differ
@@ -22,31 +23,15 @@ equal-lengths (a ∷ s) (b ∷ t) n = go (eqb a b) (equal-lengths s t (λ e. n (
     go true e = e
     go false e = refl
 
-equal-next : (s t : List ℕ) (i : ℕ) → i < length s → i < length t → equal (drop i s) (drop i t) ≡ (eqb (getD s i 0) (getD t i 0) && equal (drop (i + 1) s) (drop (i + 1) t))
+pub equal-next : (s t : List ℕ) (i : ℕ) → i < length s → i < length t → SkipsIf (λ j. equal (drop j s) (drop j t)) i (i + 1) (eqb (getD s i 0) (getD t i 0))
 equal-next s t i h k = rw (next s i (i + 1) h refl, next t i (i + 1) k refl)
 
 pub and-true : (p : Bool) → (p && true) ≡ p
 and-true true = refl
 and-true false = refl
 
--- two tests joined, where the first is known
-pub joined-on : (w r q : Bool) → w ≡ (r && q) → r ≡ true → w ≡ q
-joined-on w r q e f = e ∙ ap (λ p. p && q) f
-
-pub joined-off : (w r q : Bool) → w ≡ (r && q) → r ≡ false → w ≡ false
-joined-off w r q e f = e ∙ ap (λ p. p && q) f
-
--- a test joined with the first of two more
-joined : (w all p q r : Bool) → w ≡ (all && (p && q)) → r ≡ (all && p) → w ≡ (r && q)
-joined w true p q r e f = rw f e
-joined w false p q r e f = rw f e
-
--- the test at one place more, joined with those before it
-pub equal-step : (s t : List ℕ) (i : ℕ) (w all r : Bool) → i < length s → i < length t → w ≡ (all && equal (drop i s) (drop i t)) → r ≡ (all && eqb (getD s i 0) (getD t i 0)) → w ≡ (r && equal (drop (i + 1) s) (drop (i + 1) t))
-equal-step s t i w all r h k e f = joined w all (eqb (getD s i 0) (getD t i 0)) (equal (drop (i + 1) s) (drop (i + 1) t)) r (e ∙ ap (λ x. all && x) (equal-next s t i h k)) f
-
-pub hex-step : (s : List ℕ) (i : ℕ) (w all p r : Bool) → i < length s → p ≡ isHexDigit (getD s i 0) → w ≡ (all && allHexDigits (drop i s)) → r ≡ (all && p) → w ≡ (r && allHexDigits (drop (i + 1) s))
-hex-step s i w all p r h d e f = joined w all p (allHexDigits (drop (i + 1) s)) r (e ∙ ap (λ x. all && x) (rw (next s i (i + 1) h refl, sym d))) f
+pub hex-next : (s : List ℕ) (i : ℕ) → i < length s → SkipsIf (λ j. allHexDigits (drop j s)) i (i + 1) (isHexDigit (getD s i 0))
+hex-next s i h = rw (next s i (i + 1) h refl)
 
 -- the test says equality
 pub equal-refl : (s : List ℕ) → equal s s ≡ true

@@ -1,9 +1,9 @@
 // The chain gate: what a state transition tests of its context before anything else is looked at.
 ghost use mathlib.Core.Path.{_≡_};
-ghost use mathlib.Core.Bool.{_&&_};
 ghost use Prim.Native.Nat.{_+_, _≤_};
 ghost use lib.ListN.{length, drop};
 ghost use Rattle.base.specs.Equal.{equal};
+ghost use Rattle.base.specs.Code.Skips.{SkipsIf};
 ghost use Rattle.context.specs.Gate.{isHexDigit, allHexDigits, isNetwork, isGenesisId};
 ghost use Rattle.context.specs.Gate.{gateOf, contextErrorNumbered, gateNumbered, Gated};
 use numbered::Numbered;
@@ -112,8 +112,7 @@ fn same(a: &[u8], b: &[u8]) -> bool
 // Whether the n bytes from a place on are the same. No branch: a block compiles to vector code.
 fn agree(a: &[u8], b: &[u8], at: usize, n: usize) -> bool
     requires { ⌜ (at + n ≤ length (now a)) × (at + n ≤ length (now b)) ⌝ }
-    ensures { λ r. ⌜ equal (drop at (now (a .entry))) (drop at (now (b .entry)))
-        ≡ (r && equal (drop (at + n) (now (a .entry))) (drop (at + n) (now (b .entry)))) ⌝ }
+    ensures { λ r. ⌜ SkipsIf (λ i. equal (drop i (now (a .entry))) (drop i (now (b .entry)))) at (at + n) r ⌝ }
 {
     let mut all = true;
     let mut k: usize = 0;

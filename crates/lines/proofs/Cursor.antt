@@ -8,7 +8,8 @@ use native.Mathlib.Omega.{arith}
 use lib.Dec.{eqb, ltb}
 use lib.ListN.{length, getD, take, drop, length-drop, drop-of-length-le}
 use lib.Seq.{drop-drop, getD-drop}
-use Rattle.base.proofs.Parts.{next}
+use Rattle.base.specs.Code.Cursor.{visited, Cuts}
+use Rattle.base.proofs.Cursor as cursor
 use Rattle.base.proofs.Tests.{choice, by-eqb, by-leb}
 use Rattle.search.specs.declared.Found.the-variants.{At, Nothing}
 use Rattle.search.specs.First.{firstFrom}
@@ -16,7 +17,7 @@ use Rattle.search.proofs.Prefix.{other}
 use Rattle.search.proofs.Laws.{from-miss, within}
 use Rattle.lines.specs.Lines.{front, feedNext, lines, feedFree}
 use Rattle.lines.specs.Cursor.{span, firstLine, lineFrom, lineAt}
-use Rattle.lines.specs.Code.Visits.{feedFrom, placeOr, headOf, visited, IsLine}
+use Rattle.lines.specs.Code.Visits.{feedFrom, placeOr, headOf, visitOf, visit, IsLine}
 use Rattle.lines.specs.declared.Line.{Line}
 use Rattle.lines.specs.declared.Step.{Step}
 use Rattle.lines.specs.declared.Step.the-variants.{Next, Done}
@@ -273,19 +274,12 @@ module _ (s : List ℕ) (at : ℕ) where
       some p = let z : _≡_ {A = ℕ} 0 1 = cc in omega arith
 
 -- a cursor visits the lines in order
-visits : (n : ℕ) (s : List ℕ) (at : ℕ) → length s ≤ n + at → visited n s at ≡ lines (drop at s)
-unfolding visited
-visits zero s at h = sym (ap lines (drop-of-length-le s {i = at} (omega arith)))
-visits (suc n) s at h =
-    by-leb (suc at) (length s)
-    (λ g. let w = line-here s at g in
-    let i = step-line s at _ w in
-    let k : length s ≤ n + (at + span (drop at s)) = let q = i .on in omega arith in
-    ap (stepped n) w ∙ ap (λ (ls : List (List ℕ)). take (at + length (firstLine (drop at s)) - at) (drop at s) ∷ ls) (visits n s (at + span (drop at s)) k) ∙ sym (i .is))
-    (λ g. ap (stepped n) (line-done s at (omega arith)) ∙ sym (step-done s at (line-done s at (omega arith))))
+cuts : (s : List ℕ) (at : ℕ) → Cuts (λ i. lines (drop i s)) at (visit s at)
+cuts s at = go (lineAt s at) refl
   where
-    stepped : ℕ → Step → List (List ℕ)
-    stepped n = elim [ Next l ↦ take (l .end - l .start) (drop (l .start) s) ∷ visited n s (l .next) | Done ↦ [] ]
+    go : (x : Step) → lineAt s at ≡ x → Cuts (λ i. lines (drop i s)) at (visitOf s x)
+    go (Next l) e = let i = step-line s at l e in (i .on, rw (i .starts) (i .is))
+    go Done e = step-done s at e
 
-pub in-order : (s : List ℕ) → visited (length s) s 0 ≡ lines s
-in-order s = visits (length s) s 0 (omega arith)
+pub in-order : (s : List ℕ) → visited (visit s) (length s) 0 ≡ lines s
+in-order s = cursor.in-order (visit s) (λ i. lines (drop i s)) (length s) (cuts s) (λ at h. ap lines (drop-of-length-le s {i = at} h))

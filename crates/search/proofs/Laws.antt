@@ -6,13 +6,15 @@ use mathlib.Core.Bool.{Bool, true, false, _||_}
 use borrow.Author.Tests.{le-leb, lt-leb}
 use native.Mathlib.Omega.{arith}
 use lib.ListN.{length, getD, drop, drop-of-length-le, length-drop}
+use Rattle.base.specs.Code.Skips.{Skips}
 use Rattle.base.proofs.Tests.{by-bool, by-leb, by-eqb, never}
 use Rattle.base.proofs.Parts.{next}
+use Rattle.base.proofs.Skips.{either-more, skips-all}
 use Rattle.search.specs.declared.Found.{Found}
 use Rattle.search.specs.declared.Found.the-variants.{At, Nothing}
 use Rattle.search.specs.First.{prefixOf, firstFrom, firstAt}
 use Rattle.search.specs.Code.Place.{First}
-use Rattle.search.specs.Code.Scan.{orElse, Clear}
+use Rattle.search.specs.Code.Scan.{orElse, Misses}
 use Rattle.search.proofs.Prefix.{fits, too-long}
 
 nowhere : {P : Type 0} (i : ℕ) → Nothing ≡ At i → P
@@ -50,7 +52,7 @@ module _ (p s : List ℕ) where
   hit at h e = within at h ∙ from-hit p at (drop at s) e
 
   -- p does not stand there
-  pub miss : (at : ℕ) → prefixOf p (drop at s) ≡ false → firstAt p s at ≡ firstAt p s (at + 1)
+  pub miss : (at : ℕ) → prefixOf p (drop at s) ≡ false → Skips (firstAt p s) at (at + 1)
   miss at e =
       by-leb (at + 1) (length s)
       (λ h. let n = next s at (at + 1) (omega arith) refl in
@@ -59,6 +61,14 @@ module _ (p s : List ℕ) where
       (λ g. let n : drop at s ≡ [] = drop-of-length-le s {i = at} (omega arith) in
       within at g ∙ ap (firstFrom at p) n ∙ from-end p at (ap (prefixOf p) (sym n) ∙ e) ∙ sym (past (at + 1) h))
       (λ g. past at g ∙ sym (past (at + 1) h)))
+
+  -- p stands at none of n places: one place more, by a test that says yes wherever p stands
+  pub miss-more : (at n : ℕ) (hit t : Bool) → (hit ≡ false → Misses p s at n) → (prefixOf p (drop (at + n) s) ≡ true → t ≡ true) → (hit || t) ≡ false → Misses p s at (n + 1)
+  miss-more at n hit t a f =
+      either-more (λ i. prefixOf p (drop i s) ≡ false) at n hit t a (λ e. by-bool (prefixOf p (drop (at + n) s)) (λ y. never (sym e ∙ f y)) (λ y. y))
+
+  pub misses : (n at : ℕ) → Misses p s at n → Skips (firstAt p s) at (at + n)
+  misses n at a = skips-all (firstAt p s) n at (λ k h. miss (at + k) (a k h))
 
   -- less is left than p has
   pub no-room : (at : ℕ) → length s < at + length p → firstAt p s at ≡ Nothing
@@ -93,15 +103,6 @@ module _ (p s : List ℕ) where
       (λ y. nowhere at (sym e ∙ hit at h y))
       (λ n. by-eqb at j (λ q. rw (← q) n) (λ q. more (omega arith) (sym (miss at n) ∙ e))))
       at a e
-
-  -- no place is passed
-  pub none-yet : (at : ℕ) (r : Bool) → Clear p s at (at + 0) r
-  none-yet at r e = let z : at ≡ at + 0 = omega arith in ap (firstAt p s) z
-
-  -- one place more, by a test that is yes wherever p stands
-  pub one-more : (at i j : ℕ) (hit t : Bool) → Clear p s at i hit → (t ≡ false → prefixOf p (drop i s) ≡ false) → j ≡ i + 1 → Clear p s at j (hit || t)
-  one-more at i j true t c f n e = never (sym e)
-  one-more at i j false t c f n e = c refl ∙ miss i (f e) ∙ ap (firstAt p s) (sym n)
 
 pub or-nothing : (f : Found) → orElse f Nothing ≡ f
 or-nothing (At i) = refl

@@ -5,12 +5,13 @@ use base::either;
 use base::pick;
 ghost use mathlib.Core.Path.{_≡_};
 ghost use mathlib.Core.List.{[], _∷_};
-ghost use mathlib.Core.Bool.{true, cond};
+ghost use mathlib.Core.Bool.{true, false, cond};
 ghost use Prim.Native.Nat.{_+_, _<_, _≤_};
 ghost use lib.Dec.{leb, ltb};
 ghost use lib.ListN.{length, drop};
+ghost use Rattle.base.specs.Code.Skips.{Skips, SkipsTo};
 ghost use Rattle.search.specs.First.{prefixOf, firstAt};
-ghost use Rattle.search.specs.Code.Scan.{orElse, Places, Passed, Clear, Least};
+ghost use Rattle.search.specs.Code.Scan.{orElse, Places, Least};
 
 // How many places a block has.
 const BLOCK: usize = 16;
@@ -106,7 +107,7 @@ fn find_by_blocks(s: &[u8], b: u8, at: usize) -> Found
 // Passes blocks as long as they are without b.
 fn pass_blocks(s: &[u8], b: u8, at: usize) -> usize
     requires { ⌜ at ≤ length (now s) ⌝ }
-    ensures { λ r. ⌜ Passed (b ∷ []) (now (s .entry)) at r ⌝ }
+    ensures { λ r. ⌜ SkipsTo (firstAt (b ∷ []) (now (s .entry))) at (length (now (s .entry))) r ⌝ }
 {
     let mut block = at;
     while has_room(s, BLOCK, block) {
@@ -121,7 +122,7 @@ fn pass_blocks(s: &[u8], b: u8, at: usize) -> usize
 // No only where b is not among the n bytes from a place on.
 fn has_byte(s: &[u8], b: u8, at: usize, n: usize) -> bool
     requires { ⌜ at + n ≤ length (now s) ⌝ }
-    ensures { λ r. ⌜ Clear (b ∷ []) (now (s .entry)) at (at + n) r ⌝ }
+    ensures { λ r. ⌜ (r ≡ false → Skips (firstAt (b ∷ []) (now (s .entry))) at (at + n)) ⌝ }
 {
     let mut hit = false;
     let mut k: usize = 0;
@@ -167,7 +168,7 @@ fn find_string(s: &[u8], p: &[u8], at: usize) -> Found
 // Whether p may stand at a place before end. Of less than a block nothing is known.
 fn may_stand(s: &[u8], p: &[u8], at: usize, end: usize) -> bool
     requires { ⌜ Places (now p) (now s) at end ⌝ }
-    ensures { λ r. ⌜ Clear (now (p .entry)) (now (s .entry)) at end r ⌝ }
+    ensures { λ r. ⌜ (r ≡ false → Skips (firstAt (now (p .entry)) (now (s .entry))) at end) ⌝ }
 {
     if end - at != BLOCK {
         return true;
@@ -178,7 +179,7 @@ fn may_stand(s: &[u8], p: &[u8], at: usize, end: usize) -> bool
 // No only where p agrees at none of the n places from a place on.
 fn any_agrees(s: &[u8], p: &[u8], at: usize, n: usize) -> bool
     requires { ⌜ Places (now p) (now s) at (at + n) ⌝ }
-    ensures { λ r. ⌜ Clear (now (p .entry)) (now (s .entry)) at (at + n) r ⌝ }
+    ensures { λ r. ⌜ (r ≡ false → Skips (firstAt (now (p .entry)) (now (s .entry))) at (at + n)) ⌝ }
 {
     let mut hit = false;
     let mut k: usize = 0;

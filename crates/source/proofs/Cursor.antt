@@ -4,9 +4,11 @@ use mathlib.Core.Path.{_≡_, refl, sym, ap, _∙_}
 use mathlib.Core.List.{List, [], _∷_}
 use native.Mathlib.Omega.{arith}
 use lib.ListN.{length, take, drop}
+use Rattle.base.specs.Code.Cursor.{visited, Cuts}
 use Rattle.base.proofs.Tests.{by-leb}
+use Rattle.base.proofs.Cursor as cursor
 use Rattle.source.specs.Parameters.{pieces, name, unlessEmpty, parameters}
-use Rattle.source.specs.Code.Cursor.{placed, parameterAt, visited, IsParameter}
+use Rattle.source.specs.Code.Cursor.{placed, parameterAt, visitOf, visit, IsParameter}
 use Rattle.source.specs.declared.parameters.Parameter.{Parameter}
 use Rattle.source.specs.declared.parameters.NextParameter.{NextParameter}
 use Rattle.source.specs.declared.parameters.NextParameter.the-variants.{Is, Done}
@@ -74,15 +76,12 @@ pub next-done : (s : List ℕ) (at : ℕ) → parameterAt s at ≡ Done → para
 next-done s at e = answered s at Done e
 
 -- a cursor visits the parameters in order
-visits : (n : ℕ) (s : List ℕ) (at : ℕ) → length s ≤ n + at → visited n s at ≡ parameters (drop at s)
-unfolding visited
-visits zero s at h = sym (none-past s at (omega arith))
-visits (suc n) s at h = stepped (parameterAt s at) (says (length s) s at (omega arith)) (λ i k. visits n s i k)
+cuts : (s : List ℕ) (at : ℕ) → Cuts (λ i. parameters (drop i s)) at (visit s at)
+cuts s at = go (parameterAt s at) (says (length s) s at (omega arith))
   where
-    stepped : (r : NextParameter) → Says s at r → ((i : ℕ) → length s ≤ n + i → visited n s i ≡ parameters (drop i s))
-        → elim r as (λ _. List (List ℕ)) [ Is p ↦ take (p .end - p .start) (drop (p .start) s) ∷ visited n s (p .next) | Done ↦ [] ] ≡ parameters (drop at s)
-    stepped (Is p) a v = ap (λ (ns : List (List ℕ)). take (p .end - p .start) (drop (p .start) s) ∷ ns) (v (p .next) (let k = a .on in omega arith)) ∙ sym (a .is)
-    stepped Done a v = sym a
+    go : (r : NextParameter) → Says s at r → Cuts (λ i. parameters (drop i s)) at (visitOf s r)
+    go (Is p) a = (a .on, a .is)
+    go Done a = a
 
-pub in-order : (s : List ℕ) → visited (length s) s 0 ≡ parameters s
-in-order s = visits (length s) s 0 (omega arith)
+pub in-order : (s : List ℕ) → visited (visit s) (length s) 0 ≡ parameters s
+in-order s = cursor.in-order (visit s) (λ i. parameters (drop i s)) (length s) (cuts s) (none-past s)

@@ -2,12 +2,13 @@
 use Prim.Native.Nat.{ℕ}
 use mathlib.Core.Path.{_≡_, refl}
 use mathlib.Core.List.{List, [], _∷_}
+use Rattle.base.specs.Code.Cursor.{visited}
 use Rattle.source.specs.declared.function.FunctionError.the-variants.{NoFunction, NoParameters, UnclosedParameters, NoBody, UnclosedBody}
 use Rattle.source.specs.declared.function.Function.the-variants.{Found, Refused}
 use Rattle.source.specs.declared.vector.KeyValue.the-variants.{Is, NoKey, NoColon, NoDigit, TooLarge}
 use Rattle.source.specs.Function.{functionOf}
 use Rattle.source.specs.Parameters.{parameters}
-use Rattle.source.specs.Code.Cursor.{parameterAt, visited}
+use Rattle.source.specs.Code.Cursor.{parameterAt, visit}
 use Rattle.source.specs.declared.parameters.NextParameter.the-variants as NextParameter
 use Rattle.source.specs.Vector.{vectorNumber}
 
@@ -67,7 +68,7 @@ second = refl
 third : parameterAt listed 15 ≡ NextParameter.Done
 third = refl
 
-visited-all : visited 3 listed 0 ≡ parameters listed
+visited-all : visited (visit listed) 3 0 ≡ parameters listed
 unfolding visited
 visited-all = refl
 

@@ -8,7 +8,7 @@ use lib.ListN.{length, take, drop, length-append}
 use lib.Seq.{take-at, drop-at}
 use Rattle.base.proofs.Tests.{by-bool}
 use Rattle.trim.specs.Trim.{passed, white1, white2, white3, trimmedBy, after1, after2, startTrimmed, back, endTrimmed, trimmed}
-use Rattle.trim.specs.Code.Step.{back2, back3}
+use Rattle.trim.specs.Code.Trims.{back2, back3}
 use Rattle.trim.proofs.Laws.{startTrimmed-length, endTrimmed-length}
 
 -- a text ends in another

@@ -2,11 +2,11 @@
 // one is bounded: beyond the bound the search is that of Knuth, Morris and Pratt, so that no key takes more than linear time in a vector of
 // an assembly. A key of quotes alone has a search of its own.
 ghost use mathlib.Core.Path.{_≡_};
-ghost use mathlib.Core.Bool.{true};
+ghost use mathlib.Core.Bool.{true, false};
 ghost use Prim.Native.Nat.{_+_, _<_, _≤_};
 ghost use lib.ListN.{length, drop};
+ghost use Rattle.base.specs.Code.Skips.{Skips};
 ghost use Rattle.search.specs.First.{prefixOf, firstAt};
-ghost use Rattle.search.specs.Code.Scan.{Clear};
 ghost use Rattle.source.specs.Vector.{quoted};
 ghost use Rattle.source.specs.Code.Marked.{Quotes, Marks, Room, FirstBefore, Other, Holds};
 use base::both;
@@ -157,7 +157,7 @@ fn last_other(s: &[u8], from: usize, end: usize) -> Found
 // Whether the key agrees at one of the n places from a place on.
 fn any_agrees(s: &[u8], key: &[u8], mark: Mark, at: usize, n: usize) -> bool
     requires { ⌜ Room (now s) (now key) at (at + n) × Marks (now key) mark ⌝ }
-    ensures { λ r. ⌜ Clear (quoted (now (key .entry))) (now (s .entry)) at (at + n) r ⌝ }
+    ensures { λ r. ⌜ (r ≡ false → Skips (firstAt (quoted (now (key .entry))) (now (s .entry))) at (at + n)) ⌝ }
 {
     let mut hit = false;
     let mut k: usize = 0;

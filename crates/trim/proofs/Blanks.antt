@@ -1,20 +1,21 @@
 -- White_Space within a line: what stands before it and behind it is trimmed as if it were not there, and how much of it there is.
 use Prim.Native.Nat.{ℕ, suc, _+_, _-_, _<_, _≤_}
-use mathlib.Core.Path.{_≡_, refl, sym, ap, subst, _∙_}
+use mathlib.Core.Path.{_≡_, refl, sym, ap, _∙_}
 use mathlib.Core.List.{List, [], _∷_, _++_, append-assoc, reverse, reverse-cons, reverse-append}
-use mathlib.Core.Bool.{true, false, cond, not}
+use mathlib.Core.Bool.{true, false, not}
 use borrow.Author.Tests.{eq-eqb, ne-eqb}
 use native.Mathlib.Omega.{arith}
 use lib.Dec.{eqb}
 use lib.ListN.{length, getD, drop, length-append, length-drop}
 use lib.Seq.{drop-drop}
-use Rattle.base.proofs.Tests.{never, and-left, and-right, by-bool, by-leb}
+use Rattle.base.proofs.Tests.{never, and-left, and-right, by-bool}
+use Rattle.base.proofs.Bytes.{at1, at3}
 use Rattle.trim.specs.Trim.{white1, white2, white3, startTrimmed, back, endTrimmed}
-use Rattle.trim.specs.Code.Step.{back2, back3, threeLen}
+use Rattle.trim.specs.Code.Trims.{back2, back3, threeLen}
 use Rattle.trim.specs.Code.Blank.{blank1, blanksLen, blanks1, blanks2, blanksEnd, BlankAt}
 use Rattle.trim.proofs.White.{by-white3, not1, not2, not3}
 use Rattle.trim.proofs.Laws.{yes1, yes3}
-use Rattle.trim.proofs.Steps.{at1, at3, three-short}
+use Rattle.trim.proofs.Steps.{by-three}
 
 -- such characters, one after the other
 pub data Blank : List ℕ → Type 0 where
@@ -171,11 +172,7 @@ module _ (s : List ℕ) (at : ℕ) where
       let y = getD s (at + 1) 0 in
       let z = getD s (at + 2) 0 in
       let b : blank1 x ≡ false = simp (not1 x k) in
-      by-leb (length s) (at + 2)
-      (λ l. subst (BlankAt s at) (sym (e ∙ three-short (drop at s) (omega (arith, length-drop at s))))
-      (none-here (ap blanksLen (at1 s at h) ∙ wide-short x (drop (at + 1) s) b (omega (arith, length-drop (at + 1) s)))))
-      (λ l. by-bool (white3 x y z)
-      (λ w. subst (BlankAt s at) (sym (e ∙ ap threeLen (at3 s at l) ∙ ap (λ b. cond b 3 0) w))
-      (some-here 3 (omega arith) (omega arith) (ap blanksLen (at3 s at l) ∙ wide-yes x y z (drop (at + 3) s) b w)))
-      (λ w. subst (BlankAt s at) (sym (e ∙ ap threeLen (at3 s at l) ∙ ap (λ b. cond b 3 0) w))
-      (none-here (ap blanksLen (at3 s at l) ∙ wide-no x y z (drop (at + 3) s) b w))))
+      by-three (BlankAt s at) s at n e
+      (λ l. none-here (ap blanksLen (at1 s at h) ∙ wide-short x (drop (at + 1) s) b (omega (arith, length-drop (at + 1) s))))
+      (λ l w. some-here 3 (omega arith) (omega arith) (ap blanksLen (at3 s at l) ∙ wide-yes x y z (drop (at + 3) s) b w))
+      (λ l w. none-here (ap blanksLen (at3 s at l) ∙ wide-no x y z (drop (at + 3) s) b w))

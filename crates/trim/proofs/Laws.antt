@@ -10,7 +10,7 @@ use Rattle.base.proofs.Tests.{by-bool}
 use Rattle.base.proofs.Parts.{last}
 use Rattle.trim.proofs.White.{not2, not3}
 use Rattle.trim.specs.Trim.{white1, white2, white3, trimmedBy, after1, after2, startTrimmed, back, endTrimmed, trimmed}
-use Rattle.trim.specs.Code.Step.{back2, back3}
+use Rattle.trim.specs.Code.Trims.{back2, back3}
 
 module _ (two : ℕ → ℕ → Bool) (three : ℕ → ℕ → ℕ → Bool) where
   pub yes1 : (a : ℕ) (t : List ℕ) → white1 a ≡ true → trimmedBy two three (a ∷ t) ≡ trimmedBy two three t

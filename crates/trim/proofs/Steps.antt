@@ -2,31 +2,22 @@
 use Prim.Native.Nat.{ℕ, _+_, _-_, _<_, _≤_}
 use mathlib.Core.Path.{_≡_, refl, sym, ap, subst, _∙_}
 use mathlib.Core.List.{List, [], _∷_, reverse}
-use mathlib.Core.Bool.{cond}
+use mathlib.Core.Bool.{true, false, cond}
 use native.Mathlib.Omega.{arith}
 use lib.ListN.{length, getD, take, drop, length-drop, drop-of-length-le}
 use Rattle.base.proofs.Tests.{by-bool, by-leb}
-use Rattle.base.proofs.Parts.{next, last}
+use Rattle.base.proofs.Parts.{last}
+use Rattle.base.proofs.Bytes.{at1, at2, at3}
 use Rattle.trim.specs.Trim.{white2, white3}
-use Rattle.trim.specs.Code.Step.{Step, WhiteAt, threeLen}
+use Rattle.trim.specs.Code.Trims.{Trims, WhiteAt, threeLen}
 use Rattle.trim.proofs.White.{not1, not2}
 use Rattle.trim.proofs.Laws.{yes3, no3, end1, end2}
 
-pub stays : {f : List ℕ → List ℕ} {t l u : List ℕ} {room : ℕ} → t ≡ l → f l ≡ l → Step f t u room 0
+pub stays : {f : List ℕ → List ℕ} {t l u : List ℕ} {room : ℕ} → t ≡ l → f l ≡ l → Trims f t u room 0
 stays p e = record { fits = omega arith; none = λ _. rw p e; some = λ x. absurd (x refl) }
 
-pub goes : {f : List ℕ → List ℕ} {t l u : List ℕ} {room : ℕ} (n : ℕ) → 0 < n → n ≤ room → t ≡ l → f l ≡ f u → Step f t u room n
+pub goes : {f : List ℕ → List ℕ} {t l u : List ℕ} {room : ℕ} (n : ℕ) → 0 < n → n ≤ room → t ≡ l → f l ≡ f u → Trims f t u room n
 goes n h k p e = record { fits = k; none = λ x. absurd (omega arith); some = λ _. rw p e }
-
-module _ (s : List ℕ) (at : ℕ) where
-  pub at1 : at < length s → drop at s ≡ getD s at 0 ∷ drop (at + 1) s
-  at1 h = next s at (at + 1) h refl
-
-  pub at2 : at + 1 < length s → drop at s ≡ getD s at 0 ∷ getD s (at + 1) 0 ∷ drop (at + 2) s
-  at2 h = at1 (omega arith) ∙ ap (λ (t : List ℕ). getD s at 0 ∷ t) (next s (at + 1) (at + 2) h (omega arith))
-
-  pub at3 : at + 2 < length s → drop at s ≡ getD s at 0 ∷ getD s (at + 1) 0 ∷ getD s (at + 2) 0 ∷ drop (at + 3) s
-  at3 h = at2 (omega arith) ∙ ap (λ (t : List ℕ). getD s at 0 ∷ getD s (at + 1) 0 ∷ t) (next s (at + 2) (at + 3) h (omega arith))
 
 -- a character of three bytes
 pub three-short : (t : List ℕ) → length t < 3 → threeLen t ≡ 0
@@ -35,6 +26,17 @@ three-short (a ∷ []) h = refl
 three-short (a ∷ b ∷ []) h = refl
 three-short (a ∷ b ∷ c ∷ t) h = absurd (omega arith)
 
+-- what holds of n, by whether such a character stands at a place
+pub by-three : (P : ℕ → Type 0) (s : List ℕ) (at n : ℕ) → n ≡ threeLen (drop at s) → (length s ≤ at + 2 → P 0)
+    → (at + 2 < length s → white3 (getD s at 0) (getD s (at + 1) 0) (getD s (at + 2) 0) ≡ true → P 3)
+    → (at + 2 < length s → white3 (getD s at 0) (getD s (at + 1) 0) (getD s (at + 2) 0) ≡ false → P 0) → P n
+by-three P s at n e short three none =
+    by-leb (length s) (at + 2)
+    (λ l. subst P (sym (e ∙ three-short (drop at s) (omega (arith, length-drop at s)))) (short l))
+    (λ l. by-bool (white3 (getD s at 0) (getD s (at + 1) 0) (getD s (at + 2) 0))
+    (λ w. subst P (sym (e ∙ ap threeLen (at3 s at l) ∙ ap (λ b. cond b 3 0) w)) (three l w))
+    (λ w. subst P (sym (e ∙ ap threeLen (at3 s at l) ∙ ap (λ b. cond b 3 0) w)) (none l w)))
+
 pub white-three : (s : List ℕ) (at n : ℕ) → at < length s → 0xC2 < getD s at 0 → n ≡ threeLen (drop at s) → WhiteAt s at n
 white-three s at n h k e =
     let x = getD s at 0 in
@@ -42,16 +44,12 @@ white-three s at n h k e =
     let z = getD s (at + 2) 0 in
     let one = not1 x (omega arith) in
     let two = not2 x y (λ p. omega arith) in
-    by-leb (length s) (at + 2)
-    (λ l. subst (WhiteAt s at) (sym (e ∙ three-short (drop at s) (omega (arith, length-drop at s))))
-    (by-leb (length s) (at + 1)
+    by-three (WhiteAt s at) s at n e
+    (λ l. by-leb (length s) (at + 1)
     (λ m. stays (at1 s at h) (end1 white2 white3 x (drop (at + 1) s) (drop-of-length-le s {i = at + 1} m) one))
-    (λ m. stays (at2 s at m) (end2 white2 white3 x y (drop (at + 2) s) (drop-of-length-le s {i = at + 2} l) one two))))
-    (λ l. by-bool (white3 x y z)
-    (λ w. subst (WhiteAt s at) (sym (e ∙ ap threeLen (at3 s at l) ∙ ap (λ b. cond b 3 0) w))
-    (goes 3 (omega arith) (omega arith) (at3 s at l) (yes3 white2 white3 x y z (drop (at + 3) s) one two w)))
-    (λ w. subst (WhiteAt s at) (sym (e ∙ ap threeLen (at3 s at l) ∙ ap (λ b. cond b 3 0) w))
-    (stays (at3 s at l) (no3 white2 white3 x y z (drop (at + 3) s) one two w))))
+    (λ m. stays (at2 s at m) (end2 white2 white3 x y (drop (at + 2) s) (drop-of-length-le s {i = at + 2} l) one two)))
+    (λ l w. goes 3 (omega arith) (omega arith) (at3 s at l) (yes3 white2 white3 x y z (drop (at + 3) s) one two w))
+    (λ l w. stays (at3 s at l) (no3 white2 white3 x y z (drop (at + 3) s) one two w))
 
 pub none : (s : List ℕ) (e : ℕ) → e ≡ 0 → reverse (take e s) ≡ []
 none s e h = rw h refl

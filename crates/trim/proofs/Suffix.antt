@@ -8,7 +8,7 @@ use lib.ListN.{length, take, drop, length-append}
 use lib.Seq.{take-at, drop-at}
 use Rattle.base.proofs.Tests.{by-bool}
 use Rattle.trim.specs.Trim.{white1, white2, white3, trimmedBy, after1, after2, startTrimmed, back, endTrimmed, trimmed, passed}
-use Rattle.trim.specs.Code.Step.{back2, back3}
+use Rattle.trim.specs.Code.Trims.{back2, back3}
 
 -- what was passed, and what is left
 abbrev Left : List ℕ → List ℕ → Type 0

@@ -4,7 +4,7 @@ ghost use Prim.Native.Nat.{_-_, _≤_, _<_};
 ghost use lib.ListN.{length, getD, drop};
 ghost use Rattle.base.specs.Part.{Part};
 ghost use Rattle.trim.specs.Trim.{startTrimmed, endTrimmed, trimmed, passed, white1, white2, white3};
-ghost use Rattle.trim.specs.Code.Step.{WhiteAt, WhiteBefore, threeLen};
+ghost use Rattle.trim.specs.Code.Trims.{WhiteAt, WhiteBefore, threeLen};
 ghost use Rattle.trim.specs.Code.Blank.{BlankAt, blanksEnd};
 use base::both;
 use base::either;

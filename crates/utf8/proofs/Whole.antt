@@ -4,17 +4,19 @@ use mathlib.Core.Path.{_≡_, refl, sym, ap, _∙_}
 use mathlib.Core.List.{List, [], _∷_}
 use mathlib.Core.Bool.{Bool, true, false, cond, _&&_, _||_}
 use borrow.Author.Tests.{le-leb, lt-leb, leb-true, ne-eqb}
+use native.Mathlib.Nat.{le-trans}
 use native.Mathlib.Omega.{arith}
 use lib.Dec.{eqb, leb}
-use native.Mathlib.Nat.{le-trans}
 use lib.ListN.{length, getD, drop}
 use lib.Seq.{drop-drop}
 use Rattle.base.specs.Range.{within}
+use Rattle.base.specs.Code.Skips.{SkipsTo}
 use Rattle.base.proofs.Parts.{next}
 use Rattle.base.proofs.Tests.{never, and-left, and-right, and-both, by-or, by-leb, between, inside}
+use Rattle.base.proofs.Skips.{all-first, all-rest, all-fewer}
 use Rattle.utf8.specs.Utf8.{utf8, tail}
-use Rattle.utf8.specs.Code.Passed.{Passed}
-use Rattle.utf8.specs.Code.Windows.{opened, lowest, highest, follows, whole, Follow}
+use Rattle.utf8.specs.Code.From.{utf8From}
+use Rattle.utf8.specs.Code.Windows.{opened, lowest, highest, follows, followsAt, whole, Follow}
 use Rattle.utf8.proofs.Lead.{one-is, two-is, three-is, four-is}
 use Rattle.utf8.proofs.Second.{three-by, four-by}
 
@@ -46,24 +48,39 @@ first-next a b c d f o h =
     let e = sym (ap (λ (p : Bool). cond p (within (lowest c) (highest c) d) (leb d 0x7F || within 0xC2 0xF4 d)) o) ∙ f in
     by-or (leb d 0x7F) (within 0xC2 0xF4 d) e (λ p. let q = leb-true d 0x7F p in absurd (omega arith)) (λ p. between 0xC2 0xF4 d p)
 
-plain-tail : (c d : ℕ) → (c ≡ 0xE0 → ⊥) → (c ≡ 0xF0 → ⊥) → (c ≡ 0xED → ⊥) → (c ≡ 0xF4 → ⊥) → within (lowest c) (highest c) d ≡ true → tail d ≡ true
-plain-tail c d p q r s e = simp (ne-eqb c 0xE0 p, ne-eqb c 0xF0 q, ne-eqb c 0xED r, ne-eqb c 0xF4 s) at e
+plain-tail : (c d : ℕ) → c < 0xE0 → within (lowest c) (highest c) d ≡ true → tail d ≡ true
+plain-tail c d h e =
+    simp (ne-eqb c 0xE0 (λ p. omega arith), ne-eqb c 0xF0 (λ p. omega arith), ne-eqb c 0xED (λ p. omega arith), ne-eqb c 0xF4 (λ p. omega arith)) at e
 
 still : (a b c : ℕ) (s : List ℕ) → opened a b c ≡ true → whole a b c 0 s ≡ true → ⊥
 still a b c s o w = never (sym (ap (λ (p : Bool). cond p false true) o) ∙ w)
 
+-- behind b c d, where a character is not complete: the next byte, and what follows it
+module _ (n b c d e : ℕ) (s : List ℕ) (o : opened b c d ≡ true) (w : whole b c d (suc n) (e ∷ s) ≡ true) where
+  ranged-more : (within (lowest d) (highest d) e ≡ true) × (whole c d e n s ≡ true)
+  ranged-more = (tail-next b c d e (and-left (follows b c d e) (whole c d e n s) w) o, and-right (follows b c d e) (whole c d e n s) w)
+
+  tail-more : d < 0xE0 → (tail e ≡ true) × (0x80 ≤ e) × (e ≤ 0xBF) × (whole c d e n s ≡ true)
+  tail-more h =
+      let t = plain-tail d e h (ranged-more .0) in
+      let u = between 0x80 0xBF e t in
+      (t, u .0, u .1, ranged-more .1)
+
 -- the second byte is a tail
-ranged : (p q : Bool) (lo hi e : ℕ) → 0x80 ≤ lo → hi ≤ 0xBF → within (cond p lo 0x80) (cond q hi 0xBF) e ≡ true → (0x80 ≤ e) × (e ≤ 0xBF)
-ranged true true lo hi e h k v = let r = between lo hi e v in (omega arith, omega arith)
-ranged true false lo hi e h k v = let r = between lo 0xBF e v in (omega arith, omega arith)
-ranged false true lo hi e h k v = let r = between 0x80 hi e v in (omega arith, omega arith)
-ranged false false lo hi e h k v = between 0x80 0xBF e v
+least : (p q : Bool) → 0x80 ≤ cond p 0xA0 (cond q 0x90 0x80)
+least true q = omega arith
+least false true = omega arith
+least false false = omega arith
 
-low3 : (d e : ℕ) → within (cond (eqb d 0xE0) 0xA0 0x80) (cond (eqb d 0xED) 0x9F 0xBF) e ≡ true → (0x80 ≤ e) × (e ≤ 0xBF)
-low3 d e v = ranged (eqb d 0xE0) (eqb d 0xED) 0xA0 0x9F e (omega arith) (omega arith) v
+most : (p q : Bool) → cond p 0x9F (cond q 0x8F 0xBF) ≤ 0xBF
+most true q = omega arith
+most false true = omega arith
+most false false = omega arith
 
-low4 : (d e : ℕ) → within (cond (eqb d 0xF0) 0x90 0x80) (cond (eqb d 0xF4) 0x8F 0xBF) e ≡ true → (0x80 ≤ e) × (e ≤ 0xBF)
-low4 d e v = ranged (eqb d 0xF0) (eqb d 0xF4) 0x90 0x8F e (omega arith) (omega arith) v
+second : (d e : ℕ) → within (lowest d) (highest d) e ≡ true → (0x80 ≤ e) × (e ≤ 0xBF)
+second d e v =
+    let r = between (lowest d) (highest d) e v in
+    (le-trans (least (eqb d 0xE0) (eqb d 0xF0)) (r .0), le-trans (r .1) (most (eqb d 0xED) (eqb d 0xF4)))
 
 mutual
   pub pass : (n a b c : ℕ) (s : List ℕ) → opened a b c ≡ false → whole a b c n s ≡ true → utf8 s ≡ utf8 (drop n s)
@@ -75,78 +92,52 @@ mutual
       let r = bounds a b c o in
       by-leb d 0x7F (λ h. one-is d s h ∙ pass n b c d s (closed b c d (omega arith) (omega arith) (omega arith)) g)
       (λ h. let i = first-next a b c d f o h in
-      by-leb d 0xDF (λ k. pass2 n b c d s (r .2) (i .0) k g)
-      (λ k. by-leb d 0xEF (λ l. pass3 n b c d s (r .2) k l g) (λ l. pass4 n b c d s l (i .1) g)))
+      by-leb d 0xDF (λ k. pass2 n b c d s (r .2) (i .0) k g) (λ k. pass3 n b c d s k (i .1) g))
 
   pass2 : (n b c d : ℕ) (s : List ℕ) → c < 0xC0 → 0xC2 ≤ d → d ≤ 0xDF → whole b c d n s ≡ true → utf8 (d ∷ s) ≡ utf8 (drop n s)
   pass2 zero b c d s k h i w = absurd (still b c d s (open3 b c d (omega arith)) w)
   pass2 (suc n) b c d [] k h i w = never w
   pass2 (suc n) b c d (e ∷ s) k h i w =
-      let f = and-left (follows b c d e) (whole c d e n s) w in
-      let g = and-right (follows b c d e) (whole c d e n s) w in
-      let t = plain-tail d e (λ p. omega arith) (λ p. omega arith) (λ p. omega arith) (λ p. omega arith) (tail-next b c d e f (open3 b c d (omega arith))) in
-      let u = between 0x80 0xBF e t in
+      let t = tail-more n b c d e s (open3 b c d (omega arith)) w (omega arith) in
       two-is d e s (omega arith) i
-      ∙ ap (λ (p : Bool). cond p (utf8 s) false) (and-both (within 0xC2 0xDF d) (tail e) (inside 0xC2 0xDF d h i) t)
-      ∙ pass n c d e s (closed c d e (omega arith) (omega arith) (omega arith)) g
+      ∙ ap (λ (p : Bool). cond p (utf8 s) false) (and-both (within 0xC2 0xDF d) (tail e) (inside 0xC2 0xDF d h i) (t .0))
+      ∙ pass n c d e s (closed c d e (omega arith) (omega arith) (omega arith)) (t .3)
 
-  pass3 : (n b c d : ℕ) (s : List ℕ) → c < 0xC0 → 0xDF < d → d ≤ 0xEF → whole b c d n s ≡ true → utf8 (d ∷ s) ≡ utf8 (drop n s)
-  pass3 zero b c d s k h i w = absurd (still b c d s (open3 b c d (omega arith)) w)
-  pass3 (suc n) b c d [] k h i w = never w
-  pass3 (suc n) b c d (e ∷ s) k h i w =
-      let f = and-left (follows b c d e) (whole c d e n s) w in
-      let g = and-right (follows b c d e) (whole c d e n s) w in
-      let t = tail-next b c d e f (open3 b c d (omega arith)) in
-      let v : within (cond (eqb d 0xE0) 0xA0 0x80) (cond (eqb d 0xED) 0x9F 0xBF) e ≡ true = simp (ne-eqb d 0xF0 (λ p. omega arith), ne-eqb d 0xF4 (λ p. omega arith)) at t in
-      pass3-more n c d e s h i (low3 d e v) v g
+  -- a character of three bytes or four, from its second byte on
+  pass3 : (n b c d : ℕ) (s : List ℕ) → 0xDF < d → d ≤ 0xF4 → whole b c d n s ≡ true → utf8 (d ∷ s) ≡ utf8 (drop n s)
+  pass3 zero b c d s h i w = absurd (still b c d s (open3 b c d (omega arith)) w)
+  pass3 (suc n) b c d [] h i w = never w
+  pass3 (suc n) b c d (e ∷ s) h i w = let t = ranged-more n b c d e s (open3 b c d (omega arith)) w in pass3-more n c d e s h i (t .0) (t .1)
 
-  pass3-more : (n c d e : ℕ) (s : List ℕ) → 0xDF < d → d ≤ 0xEF → (0x80 ≤ e) × (e ≤ 0xBF)
-      → within (cond (eqb d 0xE0) 0xA0 0x80) (cond (eqb d 0xED) 0x9F 0xBF) e ≡ true → whole c d e n s ≡ true → utf8 (d ∷ e ∷ s) ≡ utf8 (drop n s)
-  pass3-more zero c d e s h i j v w = absurd (still c d e s (open2 c d e (omega arith) (omega arith)) w)
-  pass3-more (suc n) c d e [] h i j v w = never w
-  pass3-more (suc n) c d e (x ∷ s) h i j v w =
-      let f = and-left (follows c d e x) (whole d e x n s) w in
-      let g = and-right (follows c d e x) (whole d e x n s) w in
-      let t = plain-tail e x (λ p. omega arith) (λ p. omega arith) (λ p. omega arith) (λ p. omega arith) (tail-next c d e x f (open2 c d e (omega arith) (omega arith))) in
+  pass3-more : (n c d e : ℕ) (s : List ℕ) → 0xDF < d → d ≤ 0xF4 → within (lowest d) (highest d) e ≡ true → whole c d e n s ≡ true → utf8 (d ∷ e ∷ s) ≡ utf8 (drop n s)
+  pass3-more zero c d e s h i v w = let j = second d e v in absurd (still c d e s (open2 c d e (omega arith) (omega arith)) w)
+  pass3-more (suc n) c d e [] h i v w = never w
+  pass3-more (suc n) c d e (x ∷ s) h i v w =
+      let j = second d e v in
+      let t = tail-more n c d e x s (open2 c d e (omega arith) (omega arith)) w (omega arith) in
+      by-leb d 0xEF
+      (λ l. let u : within (cond (eqb d 0xE0) 0xA0 0x80) (cond (eqb d 0xED) 0x9F 0xBF) e ≡ true = simp (ne-eqb d 0xF0 (λ p. omega arith), ne-eqb d 0xF4 (λ p. omega arith)) at v in
+      three-is d e x s h l
+      ∙ ap (λ (p : Bool). cond p (utf8 s) false) (sym (three-by d e x h l) ∙ and-both _ (tail x) u (t .0))
+      ∙ pass n d e x s (closed d e x (omega arith) (omega arith) (omega arith)) (t .3))
+      (λ l. pass4 n d e x s l i v (t .0) (t .3))
+
+  -- the fourth byte
+  pass4 : (n d e x : ℕ) (s : List ℕ) → 0xEF < d → d ≤ 0xF4 → within (lowest d) (highest d) e ≡ true → tail x ≡ true → whole d e x n s ≡ true → utf8 (d ∷ e ∷ x ∷ s) ≡ utf8 (drop n s)
+  pass4 zero d e x s h i v t w =
+      let j = second d e v in
       let u = between 0x80 0xBF x t in
-      three-is d e x s h i
-      ∙ ap (λ (p : Bool). cond p (utf8 s) false) (sym (three-by d e x h i) ∙ and-both _ (tail x) v t)
-      ∙ pass n d e x s (closed d e x (omega arith) (omega arith) (omega arith)) g
-
-  pass4 : (n b c d : ℕ) (s : List ℕ) → 0xEF < d → d ≤ 0xF4 → whole b c d n s ≡ true → utf8 (d ∷ s) ≡ utf8 (drop n s)
-  pass4 zero b c d s h i w = absurd (still b c d s (open3 b c d (omega arith)) w)
-  pass4 (suc n) b c d [] h i w = never w
-  pass4 (suc n) b c d (e ∷ s) h i w =
-      let f = and-left (follows b c d e) (whole c d e n s) w in
-      let g = and-right (follows b c d e) (whole c d e n s) w in
-      let t = tail-next b c d e f (open3 b c d (omega arith)) in
-      let v : within (cond (eqb d 0xF0) 0x90 0x80) (cond (eqb d 0xF4) 0x8F 0xBF) e ≡ true = simp (ne-eqb d 0xE0 (λ p. omega arith), ne-eqb d 0xED (λ p. omega arith)) at t in
-      pass4-more n c d e s h i (low4 d e v) v g
-
-  pass4-more : (n c d e : ℕ) (s : List ℕ) → 0xEF < d → d ≤ 0xF4 → (0x80 ≤ e) × (e ≤ 0xBF)
-      → within (cond (eqb d 0xF0) 0x90 0x80) (cond (eqb d 0xF4) 0x8F 0xBF) e ≡ true → whole c d e n s ≡ true → utf8 (d ∷ e ∷ s) ≡ utf8 (drop n s)
-  pass4-more zero c d e s h i j v w = absurd (still c d e s (open2 c d e (omega arith) (omega arith)) w)
-  pass4-more (suc n) c d e [] h i j v w = never w
-  pass4-more (suc n) c d e (x ∷ s) h i j v w =
-      let f = and-left (follows c d e x) (whole d e x n s) w in
-      let g = and-right (follows c d e x) (whole d e x n s) w in
-      let t = plain-tail e x (λ p. omega arith) (λ p. omega arith) (λ p. omega arith) (λ p. omega arith) (tail-next c d e x f (open2 c d e (omega arith) (omega arith))) in
-      pass4-last n d e x s h i j v t g
-
-  pass4-last : (n d e x : ℕ) (s : List ℕ) → 0xEF < d → d ≤ 0xF4 → (0x80 ≤ e) × (e ≤ 0xBF)
-      → within (cond (eqb d 0xF0) 0x90 0x80) (cond (eqb d 0xF4) 0x8F 0xBF) e ≡ true → tail x ≡ true → whole d e x n s ≡ true → utf8 (d ∷ e ∷ x ∷ s) ≡ utf8 (drop n s)
-  pass4-last zero d e x s h i j v t w = let u = between 0x80 0xBF x t in absurd (still d e x s (open1 d e x (omega arith) (omega arith) (omega arith)) w)
-  pass4-last (suc n) d e x [] h i j v t w = never w
-  pass4-last (suc n) d e x (y ∷ s) h i j v t w =
+      absurd (still d e x s (open1 d e x (omega arith) (omega arith) (omega arith)) w)
+  pass4 (suc n) d e x [] h i v t w = never w
+  pass4 (suc n) d e x (y ∷ s) h i v t w =
+      let j = second d e v in
       let u = between 0x80 0xBF x t in
-      let f = and-left (follows d e x y) (whole e x y n s) w in
-      let g = and-right (follows d e x y) (whole e x y n s) w in
-      let z = plain-tail x y (λ p. omega arith) (λ p. omega arith) (λ p. omega arith) (λ p. omega arith) (tail-next d e x y f (open1 d e x (omega arith) (omega arith) (omega arith))) in
-      let m = between 0x80 0xBF y z in
+      let z = tail-more n d e x y s (open1 d e x (omega arith) (omega arith) (omega arith)) w (omega arith) in
+      let r : within (cond (eqb d 0xF0) 0x90 0x80) (cond (eqb d 0xF4) 0x8F 0xBF) e ≡ true = simp (ne-eqb d 0xE0 (λ p. omega arith), ne-eqb d 0xED (λ p. omega arith)) at v in
       four-is d e x y s h
       ∙ ap (λ (p : Bool). cond p (utf8 s) false)
-      (sym (four-by d e x y h) ∙ and-both (leb d 0xF4) _ (le-leb d 0xF4 i) (and-both _ (tail x && tail y) v (and-both (tail x) (tail y) t z)))
-      ∙ pass n e x y s (closed e x y (omega arith) (omega arith) (omega arith)) g
+      (sym (four-by d e x y h) ∙ and-both (leb d 0xF4) _ (le-leb d 0xF4 i) (and-both _ (tail x && tail y) r (and-both (tail x) (tail y) t (z .0))))
+      ∙ pass n e x y s (closed e x y (omega arith) (omega arith) (omega arith)) (z .3)
 
 -- the same by positions
 wholes : (n : ℕ) (s : List ℕ) (at : ℕ) → at + n + 3 ≤ length s → Follow s at n → opened (getD s (at + n) 0) (getD s (at + n + 1) 0) (getD s (at + n + 2) 0) ≡ false
@@ -155,51 +146,29 @@ wholes zero s at h f o =
     let z : at + 0 ≡ at = omega arith in
     ap (λ (p : Bool). cond p false true) (sym (ap (λ (i : ℕ). opened (getD s i 0) (getD s (i + 1) 0) (getD s (i + 2) 0)) z) ∙ o)
 wholes (suc n) s at h f o =
-    let z : at + 0 ≡ at = omega arith in
     let a1 : at + 1 + 1 ≡ at + 2 = omega arith in
     let a2 : at + 1 + 2 ≡ at + 3 = omega arith in
     let a3 : at + 1 + 3 ≡ at + 4 = omega arith in
     let y : at + suc n ≡ at + 1 + n = omega arith in
-    let up : Follow s (at + 1) n =
-    record { each = λ k g. let e = f .each (suc k) (omega arith) in let x : at + suc k ≡ at + 1 + k = omega arith in rw x at e } in
-    let r = wholes n s (at + 1) (omega arith) up (rw y at o) in
-    let first = f .each 0 (omega arith) in
+    let P : ℕ → Type 0 = λ i. followsAt s i ≡ true in
+    let r = wholes n s (at + 1) (omega arith) (all-rest P at n f) (rw y at o) in
     ap (whole (getD s at 0) (getD s (at + 1) 0) (getD s (at + 2) 0) (suc n)) (next s (at + 3) (at + 4) (omega arith) (omega arith))
-    ∙ and-both (follows (getD s at 0) (getD s (at + 1) 0) (getD s (at + 2) 0) (getD s (at + 3) 0)) _ (rw z at first) (rw (a1, a2, a3) at r)
+    ∙ and-both (follows (getD s at 0) (getD s (at + 1) 0) (getD s (at + 2) 0) (getD s (at + 3) 0)) _ (all-first P at n f) (rw (a1, a2, a3) at r)
 
 -- n bytes between complete characters are passed
 pub between-whole : (n : ℕ) (s : List ℕ) (at : ℕ) → at + n + 3 ≤ length s → opened (getD s at 0) (getD s (at + 1) 0) (getD s (at + 2) 0) ≡ false → Follow s at n
     → opened (getD s (at + n) 0) (getD s (at + n + 1) 0) (getD s (at + n + 2) 0) ≡ false → utf8 (drop (at + 3) s) ≡ utf8 (drop n (drop (at + 3) s))
 between-whole n s at h o f p = pass n (getD s at 0) (getD s (at + 1) 0) (getD s (at + 2) 0) (drop (at + 3) s) o (wholes n s at h f p)
 
--- the first of them
-pub fewer : (s : List ℕ) (at m n : ℕ) → n ≤ m → Follow s at m → Follow s at n
-fewer s at m n h f = record { each = λ k g. f .each k (omega arith) }
-
-pub none-follow : (s : List ℕ) (at : ℕ) → Follow s at 0
-none-follow s at = record { each = λ k g. absurd (omega arith) }
-
-pub one-follow : (s : List ℕ) (at n : ℕ) → Follow s at n → follows (getD s (at + n) 0) (getD s (at + n + 1) 0) (getD s (at + n + 2) 0) (getD s (at + n + 3) 0) ≡ true
-    → Follow s at (n + 1)
-one-follow s at n f e = record { each = λ k g. by-leb (suc k) n (λ h. f .each k h) (λ h. let z : k ≡ n = omega arith in rw z e) }
-
--- nothing is passed, or what is passed is UTF-8 where it is
-pub not-passed : (s : List ℕ) (at end : ℕ) → at ≤ length s → end ≡ at → Passed s at at end
-not-passed s at end h e =
-    record { on = omega arith; fits = omega arith; same = ap (λ (i : ℕ). utf8 (drop i s)) (sym e); stopped = λ g. absurd (omega arith) }
-
-pub passed-to : (s : List ℕ) (at end : ℕ) → at ≤ end → end ≤ length s → utf8 (drop at s) ≡ utf8 (drop end s) → Passed s at at end
-passed-to s at end h k e = record { on = h; fits = k; same = e; stopped = λ g. absurd (omega arith) }
-
-pub passed-more : (s : List ℕ) (at i end : ℕ) → Passed s at at i → Passed s i i end → Passed s at at end
-passed-more s at i end x y = passed-to s at end (le-trans (x .on) (y .on)) (y .fits) (x .same ∙ y .same)
-
-pub passed-block : (s : List ℕ) (at start m n : ℕ) → at ≡ start + 3 → n ≤ m → start + m + 3 ≤ length s
+pub skips-block : (s : List ℕ) (at start m n : ℕ) → at ≡ start + 3 → n ≤ m → start + m + 3 ≤ length s
     → opened (getD s start 0) (getD s (start + 1) 0) (getD s (start + 2) 0) ≡ false → Follow s start m
-    → opened (getD s (start + n) 0) (getD s (start + n + 1) 0) (getD s (start + n + 2) 0) ≡ false → Passed s at at (at + n)
-passed-block s at start m n e h k o f p =
+    → opened (getD s (start + n) 0) (getD s (start + n + 1) 0) (getD s (start + n + 2) 0) ≡ false → SkipsTo (utf8From s) at (length s) (at + n)
+skips-block s at start m n e h k o f p =
     let z : start + 3 + n ≡ at + n = omega arith in
-    passed-to s at (at + n) (omega arith) (omega arith)
-    (ap (λ (i : ℕ). utf8 (drop i s)) e
-    ∙ between-whole n s start (omega arith) o (fewer s start m n h f) p
-    ∙ ap utf8 (drop-drop n (start + 3) s) ∙ ap (λ (i : ℕ). utf8 (drop i s)) z)
+    record {
+      on = omega arith;
+      within = omega arith;
+      same = ap (utf8From s) e
+          ∙ between-whole n s start (omega arith) o (all-fewer (λ i. followsAt s i ≡ true) start m n h f) p
+          ∙ ap utf8 (drop-drop n (start + 3) s) ∙ ap (utf8From s) z;
+    }

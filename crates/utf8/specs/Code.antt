@@ -1,2 +1,2 @@
-pub mod Passed
+pub mod From
 pub mod Windows

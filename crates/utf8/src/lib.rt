@@ -4,11 +4,12 @@ use base::either;
 use base::in_range;
 use base::pick;
 ghost use mathlib.Core.Path.{_≡_};
-ghost use mathlib.Core.Bool.{true, cond};
-ghost use Prim.Native.Nat.{ℕ, _+_, _≤_, _<_};
+ghost use mathlib.Core.Bool.{true, false, cond};
+ghost use Prim.Native.Nat.{_+_, _≤_, _<_};
 ghost use lib.ListN.{length, getD};
+ghost use Rattle.base.specs.Code.Skips.{SkipsTo, AllFrom};
 ghost use Rattle.utf8.specs.Utf8.{utf8, tail, two, three, four};
-ghost use Rattle.utf8.specs.Code.Passed.{Step, Passed, Bound, Ascii};
+ghost use Rattle.utf8.specs.Code.From.{utf8From, CharactersAt};
 ghost use Rattle.utf8.specs.Code.Windows.{opened, follows, Follow};
 
 pub fn is_utf8(s: &[u8]) -> bool
@@ -32,7 +33,7 @@ pub fn is_utf8(s: &[u8]) -> bool
 // Passes blocks of 64 bytes as long as they are seen to be UTF-8.
 fn blocks(s: &[u8], at: usize) -> usize
     requires { ⌜ at ≤ length (now s) ⌝ }
-    ensures { λ r. ⌜ Passed (now (s .entry)) at at r ⌝ }
+    ensures { λ r. ⌜ SkipsTo (utf8From (now (s .entry))) at (length (now (s .entry))) r ⌝ }
 {
     let mut i = at;
     while i < s.len() {
@@ -49,7 +50,7 @@ fn blocks(s: &[u8], at: usize) -> usize
 // characters, or 0 where it is not seen that they are UTF-8.
 fn block(s: &[u8], at: usize) -> usize
     requires { ⌜ at < length (now s) ⌝ }
-    ensures { λ r. ⌜ Passed (now (s .entry)) at at (at + r) ⌝ }
+    ensures { λ r. ⌜ SkipsTo (utf8From (now (s .entry))) at (length (now (s .entry))) (at + r) ⌝ }
 {
     if is_ascii(s, at, 64) {
         return 64;
@@ -145,7 +146,7 @@ fn block_end(s: &[u8], at: usize) -> usize
 // Whether n bytes follow that are all ASCII.
 fn is_ascii(s: &[u8], at: usize, n: usize) -> bool
     requires { ⌜ at < length (now s) ⌝ }
-    ensures { λ r. ⌜ Ascii (now (s .entry)) at n r ⌝ }
+    ensures { λ r. ⌜ (r ≡ true → SkipsTo (utf8From (now (s .entry))) at (length (now (s .entry))) (at + n)) ⌝ }
 {
     if s.len() - at < n {
         return false;
@@ -156,7 +157,7 @@ fn is_ascii(s: &[u8], at: usize, n: usize) -> bool
 // A bound of the n bytes from a position on: the largest of them.
 fn largest(s: &[u8], at: usize, n: usize) -> u8
     requires { ⌜ at + n ≤ length (now s) ⌝ }
-    ensures { λ r. ⌜ Bound (now (s .entry)) at n r ⌝ }
+    ensures { λ r. ⌜ AllFrom at n (λ i. getD (now (s .entry)) i 0 ≤ r) ⌝ }
 {
     let mut most: u8 = 0;
     let mut k: usize = 0;
@@ -176,7 +177,8 @@ fn larger(a: u8, b: u8) -> u8
 // Passes characters up to end or over it, and stops before end only where none stands.
 fn characters(s: &[u8], at: usize, end: usize) -> usize
     requires { ⌜ (at ≤ end) × (end ≤ length (now s)) ⌝ }
-    ensures { λ r. ⌜ Passed (now (s .entry)) at end r ⌝ }
+    ensures { λ r. ⌜ SkipsTo (utf8From (now (s .entry))) at (length (now (s .entry))) r
+        × (r < end → utf8From (now (s .entry)) r ≡ false) ⌝ }
 {
     let mut i = at;
     while i < end {
@@ -193,7 +195,7 @@ fn characters(s: &[u8], at: usize, end: usize) -> usize
 // character stands.
 fn step(s: &[u8], at: usize) -> usize
     requires { ⌜ at < length (now s) ⌝ }
-    ensures { λ r. ⌜ Step (now (s .entry)) at r ⌝ }
+    ensures { λ r. ⌜ CharactersAt (now (s .entry)) at r ⌝ }
 {
     let a = s[at];
     if a <= 0x7F {
@@ -213,7 +215,7 @@ fn step(s: &[u8], at: usize) -> usize
 
 fn step2(s: &[u8], at: usize) -> usize
     requires { ⌜ (at < length (now s)) × ((0x7F < getD (now s) at 0) × (getD (now s) at 0 ≤ 0xDF)) ⌝ }
-    ensures { λ r. ⌜ Step (now (s .entry)) at r ⌝ }
+    ensures { λ r. ⌜ CharactersAt (now (s .entry)) at r ⌝ }
 {
     if s.len() - at < 2 {
         return 0;
@@ -226,7 +228,7 @@ fn step2(s: &[u8], at: usize) -> usize
 
 fn step3(s: &[u8], at: usize) -> usize
     requires { ⌜ (at < length (now s)) × ((0xDF < getD (now s) at 0) × (getD (now s) at 0 ≤ 0xEF)) ⌝ }
-    ensures { λ r. ⌜ Step (now (s .entry)) at r ⌝ }
+    ensures { λ r. ⌜ CharactersAt (now (s .entry)) at r ⌝ }
 {
     if s.len() - at < 3 {
         return 0;
@@ -239,7 +241,7 @@ fn step3(s: &[u8], at: usize) -> usize
 
 fn step4(s: &[u8], at: usize) -> usize
     requires { ⌜ (at < length (now s)) × (0xEF < getD (now s) at 0) ⌝ }
-    ensures { λ r. ⌜ Step (now (s .entry)) at r ⌝ }
+    ensures { λ r. ⌜ CharactersAt (now (s .entry)) at r ⌝ }
 {
     if s.len() - at < 4 {
         return 0;

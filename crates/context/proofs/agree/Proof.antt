@@ -1,17 +1,18 @@
 -- `context::agree` meets its contract: the test of the bytes passed, joined with that of what is left.
 use Prim.Native.Nat.{_+_, _-_, _≤_}
 use mathlib.Core.Path.{_≡_, refl}
-use mathlib.Core.Bool.{_&&_}
 use native.Mathlib.Omega.{arith}
 use lib.ListN.{drop}
+use Rattle.base.specs.Code.Skips.{SkipsIf}
+use Rattle.base.proofs.Skips.{skips-if-more}
 use Rattle.base.specs.Equal.{equal}
-use Rattle.context.proofs.Laws.{equal-step}
+use Rattle.context.proofs.Laws.{equal-next}
 use borrow.Author.Needs.{needs}
 use Rattle.context.proofs.agree.Statement.{statement}
 use Rattle.context.proofs.agree.Tie as tie
 
 abbrev Inv-loop : tie.InvT-loop
-Inv-loop a b at n all₀ k₀ all k = (k ≤ n) × (equal (drop at a) (drop at b) ≡ (all && equal (drop (at + k) a) (drop (at + k) b)))
+Inv-loop a b at n all₀ k₀ all k = (k ≤ n) × SkipsIf (λ i. equal (drop i a) (drop i b)) at (at + k) all
 
 abbrev μ-loop : tie.MeasureT-loop
 μ-loop a b at n all₀ k₀ all k = n - k
@@ -48,7 +49,8 @@ loop-again c =
     let a = c .before .before .before .before .before .before .before .args in
     let l = c .before .before .before .before .loop in
     let z : a .at + (l .k + 1) ≡ a .at + l .k + 1 = omega arith in
-    (omega arith, rw z (equal-step (a .a .now) (a .b .now) (a .at + l .k) _ (l .all) (c .both .result) (omega arith) (omega arith) (l .inv .1) (c .both .ensures)))
+    let f = equal-next (a .a .now) (a .b .now) (a .at + l .k) (omega arith) (omega arith) in
+    (omega arith, rw z (skips-if-more (λ i. equal (drop i (a .a .now)) (drop i (a .b .now))) (a .at) (a .at + l .k) (l .all) _ (c .both .result) (l .inv .1) f (c .both .ensures)))
 
 returns : tie.Need-returns Inv-loop μ-loop
 returns c =

@@ -1,17 +1,19 @@
 -- `context::all_hex_digits` meets its contract: the test of the bytes passed, joined with that of what is left.
 use Prim.Native.Nat.{_-_, _≤_}
-use mathlib.Core.Path.{_≡_, refl, sym, ap, _∙_}
+use mathlib.Core.Path.{refl, sym, ap, _∙_}
 use mathlib.Core.Bool.{_&&_}
 use native.Mathlib.Omega.{arith}
 use lib.ListN.{length, drop, drop-of-length-le}
+use Rattle.base.specs.Code.Skips.{SkipsIf}
+use Rattle.base.proofs.Skips.{skips-if-more}
 use Rattle.context.specs.Gate.{allHexDigits}
-use Rattle.context.proofs.Laws.{and-true, hex-step}
+use Rattle.context.proofs.Laws.{and-true, hex-next}
 use borrow.Author.Needs.{needs}
 use Rattle.context.proofs.all_hex_digits.Statement.{statement}
 use Rattle.context.proofs.all_hex_digits.Tie as tie
 
 abbrev Inv-loop : tie.InvT-loop
-Inv-loop s all₀ i₀ all i = (i ≤ length s) × (allHexDigits s ≡ (all && allHexDigits (drop i s)))
+Inv-loop s all₀ i₀ all i = (i ≤ length s) × SkipsIf (λ j. allHexDigits (drop j s)) 0 i all
 
 abbrev μ-loop : tie.MeasureT-loop
 μ-loop s all₀ i₀ all i = length s - i
@@ -38,7 +40,8 @@ loop-again : tie.Need-loop-again Inv-loop μ-loop
 loop-again c =
     let a = c .before .before .before .before .before .before .args in
     let l = c .before .before .before .before .loop in
-    (omega arith, hex-step (a .s .now) (l .i) _ (l .all) (c .before .is-hex-digit .result) (c .both .result) (omega arith) (c .before .is-hex-digit .ensures) (l .inv .1) (c .both .ensures))
+    let r = c .both .ensures ∙ ap (λ p. l .all && p) (c .before .is-hex-digit .ensures) in
+    (omega arith, skips-if-more (λ i. allHexDigits (drop i (a .s .now))) 0 (l .i) (l .all) _ (c .both .result) (l .inv .1) (hex-next (a .s .now) (l .i) (omega arith)) r)
 
 returns : tie.Need-returns Inv-loop μ-loop
 returns c =

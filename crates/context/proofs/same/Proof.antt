@@ -6,13 +6,15 @@ use borrow.Author.Tests.{not-true, not-false}
 use native.Mathlib.Omega.{arith}
 use lib.ListN.{length, drop, drop-of-length-le}
 use Rattle.base.specs.Equal.{equal}
-use Rattle.context.proofs.Laws.{equal-lengths, and-true, joined-on, joined-off}
+use Rattle.base.specs.Code.Skips.{Skips}
+use Rattle.base.proofs.Skips.{skips-yes, skips-no}
+use Rattle.context.proofs.Laws.{equal-lengths, and-true}
 use borrow.Author.Needs.{needs}
 use Rattle.context.proofs.same.Statement.{statement}
 use Rattle.context.proofs.same.Tie as tie
 
 abbrev Inv-loop : tie.InvT-loop
-Inv-loop a b i₀ i = (i ≤ length a) × (length a ≡ length b) × (equal a b ≡ equal (drop i a) (drop i b))
+Inv-loop a b i₀ i = (i ≤ length a) × (length a ≡ length b) × Skips (λ j. equal (drop j a) (drop j b)) 0 i
 
 abbrev μ-loop : tie.MeasureT-loop
 μ-loop a b i₀ i = length a - i
@@ -31,8 +33,9 @@ agree-requires c κs = (omega arith, omega arith)
 
 returns-2 : tie.Need-returns-2 Inv-loop μ-loop
 returns-2 c =
+    let a = c .before .before .before .before .before .before .before .args in
     let l = c .before .before .before .loop in
-    sym (joined-off _ (c .before .agree .result) _ (l .inv .2 ∙ c .before .agree .ensures) (not-true _ (c .if2 .taken)))
+    sym (l .inv .2 ∙ skips-no (λ j. equal (drop j (a .a .now)) (drop j (a .b .now))) (l .i) (l .i + 16) (c .before .agree .result) (c .before .agree .ensures) (not-true _ (c .if2 .taken)))
 
 add-i : tie.Need-add-i Inv-loop μ-loop
 add-i c = search needs
@@ -42,8 +45,9 @@ loop-less c = search needs
 
 loop-again : tie.Need-loop-again Inv-loop μ-loop
 loop-again c =
+    let a = c .before .before .before .before .before .before .before .args in
     let l = c .before .before .before .loop in
-    (omega arith, omega arith, joined-on _ (c .before .agree .result) _ (l .inv .2 ∙ c .before .agree .ensures) (not-false _ (c .if2 .left)))
+    (omega arith, omega arith, l .inv .2 ∙ skips-yes (λ j. equal (drop j (a .a .now)) (drop j (a .b .now))) (l .i) (l .i + 16) (c .before .agree .result) (c .before .agree .ensures) (not-false _ (c .if2 .left)))
 
 sub-agree : tie.Need-sub-agree Inv-loop μ-loop
 sub-agree c = search needs

@@ -1,13 +1,15 @@
 -- The lines that a cursor visits.
-use Prim.Native.Nat.{ℕ, zero, suc, _-_, _<_, _≤_}
+use Prim.Native.Nat.{ℕ, _-_, _<_, _≤_}
 use mathlib.Core.Path.{_≡_}
 use mathlib.Core.List.{List, [], _∷_}
 use lib.ListN.{length, getD, take, drop}
+use Rattle.base.specs.Code.Cursor.{Visit, piece, done}
 use Rattle.search.specs.declared.Found.{Found}
 use Rattle.search.specs.declared.Found.the-variants.{At, Nothing}
 use Rattle.search.specs.First.{firstAt}
 use Rattle.lines.specs.Lines.{lines}
 use Rattle.lines.specs.declared.Line.{Line}
+use Rattle.lines.specs.declared.Step.{Step}
 use Rattle.lines.specs.declared.Step.the-variants.{Next, Done}
 use Rattle.lines.specs.Cursor.{lineAt}
 
@@ -23,10 +25,13 @@ feedFrom s at = placeOr (length s) (firstAt (10 ∷ []) s at)
 abbrev pub headOf : List (List ℕ) → List ℕ
 headOf ls = getD ls 0 []
 
--- the lines that a cursor visits in at most n steps from a place on
-unfoldable pub visited : ℕ → List ℕ → ℕ → List (List ℕ)
-visited zero s at = []
-visited (suc n) s at = elim (lineAt s at) [ Next l ↦ take (l .end - l .start) (drop (l .start) s) ∷ visited n s (l .next) | Done ↦ [] ]
+-- what a cursor visits at a place: the line there, and then the next place
+abbrev pub visitOf : List ℕ → Step → Visit (List ℕ)
+visitOf s (Next l) = piece (take (l .end - l .start) (drop (l .start) s)) (l .next)
+visitOf s Done = done
+
+abbrev pub visit : List ℕ → ℕ → Visit (List ℕ)
+visit s at = visitOf s (lineAt s at)
 
 -- the line at a place lies within the text, and the lines from that place on are it and the lines from the next place on
 pub record IsLine (s : List ℕ) (at : ℕ) (l : Line) : Type 0 where

@@ -1,22 +1,22 @@
 -- `search::any_agrees` meets its contract: while there is no hit, p stands at none of the places that are passed.
-use Prim.Native.Nat.{_+_, _-_, _≤_}
+use Prim.Native.Nat.{_-_, _≤_}
 use mathlib.Core.Path.{_≡_, sym, _∙_}
+use mathlib.Core.Bool.{false}
 use native.Mathlib.Omega.{arith}
-use Rattle.base.proofs.Tests.{by-bool, never}
-use Rattle.search.specs.Code.Scan.{Clear}
-use Rattle.search.proofs.Laws.{none-yet, one-more}
+use Rattle.search.specs.Code.Scan.{Misses}
+use Rattle.search.proofs.Laws.{miss-more, misses}
 use borrow.Author.Needs.{needs}
 use Rattle.search.proofs.any_agrees.Statement.{statement}
 use Rattle.search.proofs.any_agrees.Tie as tie
 
 abbrev Inv-loop : tie.InvT-loop
-Inv-loop s p at n hit₀ k₀ hit k = (k ≤ n) × (Clear p s at (at + k) hit)
+Inv-loop s p at n hit₀ k₀ hit k = (k ≤ n) × (hit ≡ false → Misses p s at k)
 
 abbrev μ-loop : tie.MeasureT-loop
 μ-loop s p at n hit₀ k₀ hit k = n - k
 
 loop-holds : tie.Need-loop-holds Inv-loop μ-loop
-loop-holds c = let a = c .before .before .args in (omega arith, none-yet (a .p .now) (a .s .now) (a .at) _)
+loop-holds c = (omega arith, λ e k h. absurd (omega arith))
 
 add-agrees : tie.Need-add-agrees Inv-loop μ-loop
 add-agrees c = search needs
@@ -37,15 +37,14 @@ loop-again : tie.Need-loop-again Inv-loop μ-loop
 loop-again c =
     let a = c .before .before .before .before .before .before .args in
     let l = c .before .before .before .loop in
-    let g = c .before .agrees in (
-      omega arith,
-      λ e. one-more (a .p .now) (a .s .now) (a .at) (a .at + l .k) (a .at + (l .k + 1)) (l .hit) (g .result) (l .inv .1) (λ n. by-bool _ (λ y. never (sym n ∙ g .ensures y)) (λ y. y)) (omega arith) (sym (c .either .ensures) ∙ e),
-    )
+    let g = c .before .agrees in
+    (omega arith, λ e. miss-more (a .p .now) (a .s .now) (a .at) (l .k) (l .hit) (g .result) (l .inv .1) (g .ensures) (sym (c .either .ensures) ∙ e))
 
 returns : tie.Need-returns Inv-loop μ-loop
 returns c =
+    let a = c .before .before .before .before .args in
     let l = c .before .loop in
-    let z : l .k ≡ c .before .before .before .before .args .n = omega arith in rw z at (l .inv .1)
+    let z : l .k ≡ a .n = omega arith in λ e. misses (a .p .now) (a .s .now) (a .n) (a .at) (rw z at (l .inv .1 e))
 
 pub any-agrees-spec : {M : Type 1} → statement M
 any-agrees-spec =

@@ -3,6 +3,7 @@ use Prim.Native.Nat.{_-_, _≤_}
 use mathlib.Core.Path.{_≡_, refl, ap, _∙_}
 use mathlib.Core.List.{[], _∷_}
 use native.Mathlib.Omega.{arith}
+use Rattle.base.specs.Code.Skips.{Skips}
 use Rattle.search.specs.First.{firstAt}
 use Rattle.search.proofs.Prefix.{byte-yes, byte-no}
 use Rattle.search.proofs.Laws.{hit, miss}
@@ -11,7 +12,7 @@ use Rattle.search.proofs.byte_before.Statement.{statement}
 use Rattle.search.proofs.byte_before.Tie as tie
 
 abbrev Inv-loop : tie.InvT-loop
-Inv-loop s b at end i₀ i = (i ≤ end) × (firstAt (b ∷ []) s at ≡ firstAt (b ∷ []) s i)
+Inv-loop s b at end i₀ i = (i ≤ end) × Skips (firstAt (b ∷ []) s) at i
 
 abbrev μ-loop : tie.MeasureT-loop
 μ-loop s b at end i₀ i = end - i

@@ -1,18 +1,19 @@
 -- `search::find_far_byte` meets its contract: each block that is passed is without the byte.
 -- Assumes nothing.
 use Prim.Native.Nat.{_+_, _-_, _≤_}
-use mathlib.Core.Path.{_≡_, refl, sym, _∙_}
+use mathlib.Core.Path.{refl, sym, _∙_}
 use mathlib.Core.List.{[], _∷_}
 use borrow.Author.Tests.{leb-true}
 use native.Mathlib.Omega.{arith}
 use lib.ListN.{length}
+use Rattle.base.specs.Code.Skips.{Skips}
 use Rattle.search.specs.First.{firstAt}
 use borrow.Author.Needs.{needs}
 use Rattle.search.proofs.find_far_byte.Statement.{statement}
 use Rattle.search.proofs.find_far_byte.Tie as tie
 
 abbrev Inv-loop : tie.InvT-loop
-Inv-loop s b at from₀ from = firstAt (b ∷ []) s at ≡ firstAt (b ∷ []) s from
+Inv-loop s b at from₀ from = Skips (firstAt (b ∷ []) s) at from
 
 abbrev μ-loop : tie.MeasureT-loop
 μ-loop s b at from₀ from = length s - from

@@ -1,7 +1,8 @@
 -- `search::find_string` meets its contract: p stands at no place of a block that is passed, and from `stop` on there is no room for it.
 use Prim.Native.Nat.{_-_}
-use mathlib.Core.Path.{_≡_, refl, sym, _∙_}
+use mathlib.Core.Path.{refl, sym, _∙_}
 use native.Mathlib.Omega.{arith}
+use Rattle.base.specs.Code.Skips.{Skips}
 use Rattle.search.specs.First.{firstAt}
 use Rattle.search.specs.Code.Scan.{Places}
 use Rattle.search.proofs.Laws.{no-room}
@@ -10,7 +11,7 @@ use Rattle.search.proofs.find_string.Statement.{statement}
 use Rattle.search.proofs.find_string.Tie as tie
 
 abbrev Inv-loop : tie.InvT-loop
-Inv-loop s p at stop i₀ i = (Places p s i stop) × (firstAt p s at ≡ firstAt p s i)
+Inv-loop s p at stop i₀ i = Places p s i stop × Skips (firstAt p s) at i
 
 abbrev μ-loop : tie.MeasureT-loop
 μ-loop s p at stop i₀ i = stop - i

@@ -5,13 +5,15 @@ use mathlib.Core.List.{[], _∷_}
 use borrow.Author.Tests.{leb-true}
 use native.Mathlib.Omega.{arith}
 use lib.ListN.{length}
-use Rattle.search.specs.Code.Scan.{Passed}
+use Rattle.base.specs.Code.Skips.{SkipsTo}
+use Rattle.base.proofs.Skips.{skips-none, skips-on}
+use Rattle.search.specs.First.{firstAt}
 use borrow.Author.Needs.{needs}
 use Rattle.search.proofs.pass_blocks.Statement.{statement}
 use Rattle.search.proofs.pass_blocks.Tie as tie
 
 abbrev Inv-loop : tie.InvT-loop
-Inv-loop s b at block₀ block = Passed (b ∷ []) s at block
+Inv-loop s b at block₀ block = SkipsTo (firstAt (b ∷ []) s) at (length s) block
 
 abbrev μ-loop : tie.MeasureT-loop
 μ-loop s b at block₀ block = length s - block
@@ -20,7 +22,7 @@ room : (c : tie.Then1 Inv-loop μ-loop) → c .before .before .loop .block + 16 
 room c = leb-true _ _ (sym (c .before .has-room .ensures) ∙ c .if1 .taken)
 
 loop-holds : tie.Need-loop-holds Inv-loop μ-loop
-loop-holds c = record { within = omega arith; same = refl }
+loop-holds c = skips-none (c .before .pre) refl
 
 has-room-requires : tie.Need-has-room-requires Inv-loop μ-loop
 has-room-requires c κs = search needs
@@ -38,7 +40,7 @@ loop-less : tie.Need-loop-less Inv-loop μ-loop
 loop-less c = omega (arith, room (c .before .before))
 
 loop-again : tie.Need-loop-again Inv-loop μ-loop
-loop-again c = record { within = room (c .before .before); same = c .before .before .before .before .loop .inv .same ∙ c .before .has-byte .ensures (c .if2 .left) }
+loop-again c = skips-on (c .before .before .before .before .loop .inv) (record { on = omega arith; within = room (c .before .before); same = c .before .has-byte .ensures (c .if2 .left) })
 
 returns-2 : tie.Need-returns-2 Inv-loop μ-loop
 returns-2 c = search needs

@@ -5,6 +5,7 @@ use mathlib.Core.Logic.{⊎-elim}
 use mathlib.Core.Bool.{false}
 use native.Mathlib.Omega.{arith}
 use lib.ListN.{drop}
+use Rattle.base.specs.Code.Skips.{Skips}
 use Rattle.search.specs.First.{prefixOf, firstAt}
 use Rattle.search.proofs.Prefix.{other-at}
 use Rattle.search.proofs.Laws.{hit, miss}
@@ -13,7 +14,7 @@ use Rattle.search.proofs.string_before.Statement.{statement}
 use Rattle.search.proofs.string_before.Tie as tie
 
 abbrev Inv-loop : tie.InvT-loop
-Inv-loop s p at end first i₀ i = (i ≤ end) × (firstAt p s at ≡ firstAt p s i)
+Inv-loop s p at end first i₀ i = (i ≤ end) × Skips (firstAt p s) at i
 
 abbrev μ-loop : tie.MeasureT-loop
 μ-loop s p at end first i₀ i = end - i

@@ -1,8 +1,9 @@
 -- Where the parameters stand in their text, one after the other.
-use Prim.Native.Nat.{ℕ, zero, suc, _+_, _-_, _<_, _≤_}
+use Prim.Native.Nat.{ℕ, _+_, _-_, _<_, _≤_}
 use mathlib.Core.Path.{_≡_}
 use mathlib.Core.List.{List, [], _∷_}
 use lib.ListN.{length, take, drop}
+use Rattle.base.specs.Code.Cursor.{Visit, piece, done}
 use Rattle.trim.specs.Trim.{trimmed, passed}
 use Rattle.source.specs.Parameters.{before, pieces, name, parameters}
 use Rattle.source.specs.declared.parameters.Span.{Span}
@@ -39,10 +40,13 @@ firstKept at (p ∷ ps) = elim (name p) [ [] ↦ firstKept (at + length p + 1) p
 abbrev pub parameterAt : List ℕ → ℕ → NextParameter
 parameterAt s at = firstKept at (pieces (drop at s))
 
--- the parameters that a cursor visits in at most n steps from a place on
-unfoldable pub visited : ℕ → List ℕ → ℕ → List (List ℕ)
-visited zero s at = []
-visited (suc n) s at = elim (parameterAt s at) [ Is p ↦ take (p .end - p .start) (drop (p .start) s) ∷ visited n s (p .next) | Done ↦ [] ]
+-- what a cursor visits at a place: the next parameter, and then the place behind it
+abbrev pub visitOf : List ℕ → NextParameter → Visit (List ℕ)
+visitOf s (Is p) = piece (take (p .end - p .start) (drop (p .start) s)) (p .next)
+visitOf s Done = done
+
+abbrev pub visit : List ℕ → ℕ → Visit (List ℕ)
+visit s at = visitOf s (parameterAt s at)
 
 -- the parameter at a place lies within the text, and the parameters from that place on are it and those from the next place on
 pub record IsParameter (s : List ℕ) (at : ℕ) (p : Parameter) : Type 0 where

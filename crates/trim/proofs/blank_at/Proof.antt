@@ -6,9 +6,9 @@ use mathlib.Core.Bool.{false}
 use native.Mathlib.Omega.{arith}
 use lib.ListN.{getD, drop}
 use denote.Ref.{now}
+use Rattle.base.proofs.Bytes.{at1}
 use Rattle.trim.specs.Trim.{white1}
 use Rattle.trim.specs.Code.Blank.{blanksLen}
-use Rattle.trim.proofs.Steps.{at1}
 use Rattle.trim.proofs.Blanks.{at-feed, no-blank, none-here, one-here, three-here}
 use borrow.Author.Needs.{needs}
 use Rattle.trim.proofs.blank_at.Statement.{statement}

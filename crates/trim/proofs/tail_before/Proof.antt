@@ -6,7 +6,7 @@ use mathlib.Core.List.{reverse}
 use native.Mathlib.Omega.{arith}
 use lib.ListN.{getD, take}
 use denote.Ref.{now}
-use Rattle.trim.specs.Code.Step.{back2, back3}
+use Rattle.trim.specs.Code.Trims.{back2, back3}
 use Rattle.trim.proofs.White.{not1}
 use Rattle.trim.proofs.Laws.{yes2, yes3, no3, end1, end2}
 use Rattle.trim.proofs.Steps.{stays, goes, none, before1, before2, before3}

@@ -5,8 +5,9 @@ use mathlib.Core.Bool.{cond}
 use native.Mathlib.Omega.{arith}
 use lib.ListN.{length-drop, drop}
 use denote.Ref.{now}
-use Rattle.trim.specs.Code.Step.{threeLen}
-use Rattle.trim.proofs.Steps.{at3, three-short}
+use Rattle.base.proofs.Bytes.{at3}
+use Rattle.trim.specs.Code.Trims.{threeLen}
+use Rattle.trim.proofs.Steps.{three-short}
 use borrow.Author.Needs.{needs}
 use Rattle.trim.proofs.three_at.Statement.{statement}
 use Rattle.trim.proofs.three_at.Tie as tie

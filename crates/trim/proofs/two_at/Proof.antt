@@ -5,10 +5,11 @@ use mathlib.Core.Path.{sym, _∙_}
 use native.Mathlib.Omega.{arith}
 use lib.ListN.{getD, drop, drop-of-length-le}
 use denote.Ref.{now}
+use Rattle.base.proofs.Bytes.{at1, at2}
 use Rattle.trim.specs.Trim.{white2, white3}
 use Rattle.trim.proofs.White.{not1, not3}
 use Rattle.trim.proofs.Laws.{yes2, no2, end1}
-use Rattle.trim.proofs.Steps.{stays, goes, at1, at2}
+use Rattle.trim.proofs.Steps.{stays, goes}
 use borrow.Author.Needs.{needs}
 use Rattle.trim.proofs.two_at.Statement.{statement}
 use Rattle.trim.proofs.two_at.Tie as tie

@@ -6,10 +6,11 @@ use native.Mathlib.Omega.{arith}
 use lib.ListN.{getD, drop}
 use denote.Ref.{now}
 use Rattle.base.proofs.Tests.{between, inside, never}
+use Rattle.base.proofs.Bytes.{at1}
 use Rattle.trim.specs.Trim.{white2, white3}
 use Rattle.trim.proofs.White.{not1}
 use Rattle.trim.proofs.Laws.{yes1, start-stays}
-use Rattle.trim.proofs.Steps.{stays, goes, at1, white-three}
+use Rattle.trim.proofs.Steps.{stays, goes, white-three}
 use borrow.Author.Needs.{needs}
 use Rattle.trim.proofs.white_at.Statement.{statement}
 use Rattle.trim.proofs.white_at.Tie as tie

@@ -6,7 +6,7 @@ use mathlib.Core.List.{reverse}
 use native.Mathlib.Omega.{arith}
 use lib.ListN.{getD, take}
 use denote.Ref.{now}
-use Rattle.trim.specs.Code.Step.{back2, back3}
+use Rattle.trim.specs.Code.Trims.{back2, back3}
 use Rattle.trim.proofs.White.{not1}
 use Rattle.trim.proofs.Laws.{yes1, back-stays}
 use Rattle.trim.proofs.Steps.{stays, goes, before1}

@@ -5,9 +5,8 @@ use mathlib.Core.Path.{_≡_, sym, _∙_}
 use mathlib.Core.Bool.{true}
 use native.Mathlib.Omega.{arith}
 use denote.Ref.{now}
-use Rattle.base.proofs.Tests.{and-left, and-right}
-use Rattle.utf8.specs.Code.Windows.{Follow}
-use Rattle.utf8.proofs.Whole.{none-follow, one-follow}
+use Rattle.base.proofs.Skips.{both-more}
+use Rattle.utf8.specs.Code.Windows.{followsAt, Follow}
 use borrow.Author.Needs.{needs}
 use Rattle.utf8.proofs.all_follow.Statement.{statement}
 use Rattle.utf8.proofs.all_follow.Tie as tie
@@ -19,7 +18,7 @@ abbrev μ-loop : tie.MeasureT-loop
 μ-loop s at n all₀ k₀ all k = n - k
 
 loop-holds : tie.Need-loop-holds Inv-loop μ-loop
-loop-holds c = let a = c .before .args in (omega arith, λ e. none-follow (now (a .s)) (a .at))
+loop-holds c = (omega arith, λ e k h. absurd (omega arith))
 
 add-i : tie.Need-add-i Inv-loop μ-loop
 add-i c = search needs
@@ -62,7 +61,8 @@ loop-again c =
     let l = c .before .before .before .before .before .before .before in
     let a = l .before .before .args in (
       omega arith,
-      λ e. one-follow (now (a .s)) (a .at) _ (l .loop .inv .1 (and-left (l .loop .all) _ (sym (c .both .ensures) ∙ e))) (sym (c .before .does-follow .ensures) ∙ and-right (l .loop .all) _ (sym (c .both .ensures) ∙ e)),
+      λ e. both-more (λ i. followsAt (now (a .s)) i ≡ true) (a .at) (l .loop .k) (l .loop .all) _ (l .loop .inv .1)
+          (λ f. sym (c .before .does-follow .ensures) ∙ f) (sym (c .both .ensures) ∙ e),
     )
 
 returns : tie.Need-returns Inv-loop μ-loop

@@ -1,11 +1,12 @@
 -- `utf8::block` meets its contract: ASCII, or bytes that follow each other between complete characters.
 -- Assumes nothing.
-use Prim.Native.Nat.{_+_, _-_}
+use Prim.Native.Nat.{_-_}
 use mathlib.Core.Path.{sym, _∙_}
 use borrow.Author.Tests.{not-false}
 use native.Mathlib.Omega.{arith}
 use denote.Ref.{now}
-use Rattle.utf8.proofs.Whole.{not-passed, passed-to, passed-block}
+use Rattle.base.proofs.Skips.{skips-none}
+use Rattle.utf8.proofs.Whole.{skips-block}
 use borrow.Author.Needs.{needs}
 use Rattle.utf8.proofs.block.Statement.{statement}
 use Rattle.utf8.proofs.block.Tie as tie
@@ -14,39 +15,28 @@ is-ascii-requires : tie.Need-is-ascii-requires
 is-ascii-requires c κs = search needs
 
 returns : tie.Need-returns
-returns c =
-    let a = c .before .before .before .args in
-    let e = c .before .is-ascii .ensures in
-    passed-to (now (a .s)) (a .at) (a .at + 64) (omega arith) (e .fits (c .if1 .taken)) (e .same (c .if1 .taken))
+returns c = c .before .is-ascii .ensures (c .if1 .taken)
 
 returns-2 : tie.Need-returns-2
-returns-2 c =
-    let a = c .before .before .before .before .args in
-    not-passed (now (a .s)) (a .at) (a .at + 0) (omega arith) (omega arith)
+returns-2 c = skips-none (omega arith) (omega arith)
 
 sub-if3 : tie.Need-sub-if3
 sub-if3 c = search needs
 
 returns-3 : tie.Need-returns-3
-returns-3 c =
-    let a = c .before .before .before .before .before .args in
-    not-passed (now (a .s)) (a .at) (a .at + 0) (omega arith) (omega arith)
+returns-3 c = skips-none (omega arith) (omega arith)
 
 is-open-at-requires : tie.Need-is-open-at-requires
 is-open-at-requires c κs = search needs
 
 returns-4 : tie.Need-returns-4
-returns-4 c =
-    let a = c .before .before .before .before .before .before .before .args in
-    not-passed (now (a .s)) (a .at) (a .at + 0) (omega arith) (omega arith)
+returns-4 c = skips-none (omega arith) (omega arith)
 
 all-follow-requires : tie.Need-all-follow-requires
 all-follow-requires c κs = search needs
 
 returns-5 : tie.Need-returns-5
-returns-5 c =
-    let a = c .before .before .before .before .before .before .before .before .before .args in
-    not-passed (now (a .s)) (a .at) (a .at + 0) (omega arith) (omega arith)
+returns-5 c = skips-none (omega arith) (omega arith)
 
 add-open-len : tie.Need-add-open-len
 add-open-len c = search needs
@@ -79,15 +69,13 @@ is-open-at-requires-2 : tie.Need-is-open-at-requires-2
 is-open-at-requires-2 c κs = search needs
 
 returns-6 : tie.Need-returns-6
-returns-6 c =
-    let a = c .before .before .before .before .before .before .before .before .before .before .before .before .before .before .before .args in
-    not-passed (now (a .s)) (a .at) (a .at + 0) (omega arith) (omega arith)
+returns-6 c = skips-none (omega arith) (omega arith)
 
 returns-7 : tie.Need-returns-7
 returns-7 c =
     let a = c .before .before .before .before .before .before .before .before .before .before .before .before .before .before .before .args in
     let m = c .before .before .open-len .ensures in
-    passed-block (now (a .s)) (a .at) (a .at - 3) 64 (64 - c .before .before .open-len .result) (omega arith) (omega arith) (omega arith)
+    skips-block (now (a .s)) (a .at) (a .at - 3) 64 (64 - c .before .before .open-len .result) (omega arith) (omega arith) (omega arith)
     (sym (c .before .before .before .before .before .before .before .before .before .is-open-at .ensures) ∙ c .before .before .before .before .before .before .before .before .if4 .left)
     (c .before .before .before .before .before .before .before .all-follow .ensures (not-false _ (c .before .before .before .before .before .before .if5 .left)))
     (sym (c .before .is-open-at2 .ensures) ∙ c .if6 .left)

@@ -3,23 +3,21 @@
 use Prim.Native.Nat.{_-_}
 use mathlib.Core.Path.{refl}
 use lib.ListN.{length}
-use denote.Ref.{now}
-use Rattle.utf8.specs.Code.Passed.{Passed}
-use Rattle.utf8.proofs.Whole.{not-passed, passed-more}
+use Rattle.base.specs.Code.Skips.{SkipsTo}
+use Rattle.base.proofs.Skips.{skips-none, skips-on}
+use Rattle.utf8.specs.Code.From.{utf8From}
 use borrow.Author.Needs.{needs}
 use Rattle.utf8.proofs.blocks.Statement.{statement}
 use Rattle.utf8.proofs.blocks.Tie as tie
 
 abbrev Inv-loop : tie.InvT-loop
-Inv-loop s at i₀ i = Passed s at at i
+Inv-loop s at i₀ i = SkipsTo (utf8From s) at (length s) i
 
 abbrev μ-loop : tie.MeasureT-loop
 μ-loop s at i₀ i = length s - i
 
 loop-holds : tie.Need-loop-holds Inv-loop μ-loop
-loop-holds c =
-    let a = c .before .args in
-    not-passed (now (a .s)) (a .at) (a .at) (c .before .pre) refl
+loop-holds c = skips-none (c .before .pre) refl
 
 block-requires : tie.Need-block-requires Inv-loop μ-loop
 block-requires c κs = search needs
@@ -31,9 +29,7 @@ loop-less : tie.Need-loop-less Inv-loop μ-loop
 loop-less c = search needs
 
 loop-again : tie.Need-loop-again Inv-loop μ-loop
-loop-again c =
-    let a = c .before .before .before .before .before .args in
-    passed-more (now (a .s)) (a .at) _ _ (c .before .before .before .loop .inv) (c .before .block .ensures)
+loop-again c = skips-on (c .before .before .before .loop .inv) (c .before .block .ensures)
 
 returns : tie.Need-returns Inv-loop μ-loop
 returns c = search needs

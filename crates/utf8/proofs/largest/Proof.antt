@@ -2,22 +2,24 @@
 -- Assumes nothing.
 use Prim.Native.Nat.{_-_, _≤_}
 use mathlib.Core.Path.{_≡_}
+use native.Mathlib.Nat.{le-trans}
 use native.Mathlib.Omega.{arith}
+use lib.ListN.{getD}
 use denote.Ref.{now}
-use Rattle.utf8.specs.Code.Passed.{Bound}
-use Rattle.utf8.proofs.Laws.{none-larger, one-larger}
+use Rattle.base.specs.Code.Skips.{AllFrom}
+use Rattle.base.proofs.Skips.{all-more}
 use borrow.Author.Needs.{needs}
 use Rattle.utf8.proofs.largest.Statement.{statement}
 use Rattle.utf8.proofs.largest.Tie as tie
 
 abbrev Inv-loop : tie.InvT-loop
-Inv-loop s at n most₀ k₀ most k = (k ≤ n) × (Bound s at k most)
+Inv-loop s at n most₀ k₀ most k = (k ≤ n) × AllFrom at k (λ i. getD s i 0 ≤ most)
 
 abbrev μ-loop : tie.MeasureT-loop
 μ-loop s at n most₀ k₀ most k = n - k
 
 loop-holds : tie.Need-loop-holds Inv-loop μ-loop
-loop-holds c = let a = c .before .args in (omega arith, none-larger (now (a .s)) (a .at))
+loop-holds c = (omega arith, λ k h. absurd (omega arith))
 
 add-larger : tie.Need-add-larger Inv-loop μ-loop
 add-larger c = search needs
@@ -37,7 +39,9 @@ loop-less c = search needs
 loop-again : tie.Need-loop-again Inv-loop μ-loop
 loop-again c =
     let l = c .before .before .before in
-    let a = l .before .before .args in (omega arith, one-larger (now (a .s)) (a .at) _ _ _ (l .loop .inv .1) (c .larger .ensures .0) (c .larger .ensures .1))
+    let a = l .before .before .args in
+    let m = c .larger .ensures in
+    (omega arith, all-more (λ i. getD (now (a .s)) i 0 ≤ c .larger .result) (a .at) (l .loop .k) (λ k h. le-trans (l .loop .inv .1 k h) (m .0)) (m .1))
 
 returns : tie.Need-returns Inv-loop μ-loop
 returns c =

@@ -2,7 +2,7 @@
 -- Assumes nothing.
 use native.Mathlib.Omega.{arith}
 use denote.Ref.{now}
-use Rattle.utf8.proofs.Laws.{at-one, passed}
+use Rattle.utf8.proofs.Laws.{at-one, skipped}
 use borrow.Author.Needs.{needs}
 use Rattle.utf8.proofs.step.Statement.{statement}
 use Rattle.utf8.proofs.step.Tie as tie
@@ -16,7 +16,8 @@ is-ascii-requires c κs = search needs
 returns : tie.Need-returns
 returns c =
     let a = c .before .before .before .before .before in
-    passed (now (a .args .s)) (a .args .at) (omega arith) 8 (omega arith) (c .before .is-ascii .ensures .fits (c .if2 .taken)) (c .before .is-ascii .ensures .same (c .if2 .taken))
+    let e = c .before .is-ascii .ensures (c .if2 .taken) in
+    skipped (now (a .args .s)) (a .args .at) (omega arith) 8 (omega arith) (e .within) (e .same)
 
 returns-2 : tie.Need-returns-2
 returns-2 c =

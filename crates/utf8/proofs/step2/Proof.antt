@@ -1,11 +1,8 @@
 -- `utf8::step2` meets its contract: its alternative of UTF8-char is the only one for such a first byte.
 -- Assumes nothing.
-use Prim.Native.Nat.{_+_}
 use mathlib.Core.Path.{sym, _∙_}
 use native.Mathlib.Omega.{arith}
-use lib.ListN.{getD}
 use denote.Ref.{now}
-use Rattle.utf8.specs.Utf8.{two}
 use Rattle.utf8.proofs.Laws.{chosen, refused, at-two, short-two}
 use borrow.Author.Needs.{needs}
 use Rattle.utf8.proofs.step2.Statement.{statement}
@@ -35,7 +32,7 @@ returns-2 c =
     let a = c .before .before .before .before .before .before in
     let s = now (a .args .s) in
     let at = a .args .at in
-    chosen s at (omega arith) 2 (two (getD s at 0) (getD s (at + 1) 0)) (omega arith) (omega arith) (at-two s at (omega arith) (omega arith) (a .pre .1 .0) (a .pre .1 .1))
+    chosen s at (omega arith) 2 _ (omega arith) (omega arith) (at-two s at (omega arith) (omega arith) (a .pre .1 .0) (a .pre .1 .1))
     (sym (c .before .is-two .ensures) ∙ c .if2 .taken)
 
 returns-3 : tie.Need-returns-3
@@ -43,7 +40,7 @@ returns-3 c =
     let a = c .before .before .before .before .before .before in
     let s = now (a .args .s) in
     let at = a .args .at in
-    refused s at (omega arith) 2 (two (getD s at 0) (getD s (at + 1) 0)) (at-two s at (omega arith) (omega arith) (a .pre .1 .0) (a .pre .1 .1))
+    refused s at (omega arith) 2 _ (at-two s at (omega arith) (omega arith) (a .pre .1 .0) (a .pre .1 .1))
     (sym (c .before .is-two .ensures) ∙ c .if2 .left)
 
 pub step2-spec : {M : Type 1} → statement M

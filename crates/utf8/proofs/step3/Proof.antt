@@ -1,11 +1,8 @@
 -- `utf8::step3` meets its contract: its alternative of UTF8-char is the only one for such a first byte.
 -- Assumes nothing.
-use Prim.Native.Nat.{_+_}
 use mathlib.Core.Path.{sym, _∙_}
 use native.Mathlib.Omega.{arith}
-use lib.ListN.{getD}
 use denote.Ref.{now}
-use Rattle.utf8.specs.Utf8.{three}
 use Rattle.utf8.proofs.Laws.{chosen, refused, at-three, short-three}
 use borrow.Author.Needs.{needs}
 use Rattle.utf8.proofs.step3.Statement.{statement}
@@ -41,7 +38,7 @@ returns-2 c =
     let a = c .before .before .before .before .before .before .before in
     let s = now (a .args .s) in
     let at = a .args .at in
-    chosen s at (omega arith) 3 (three (getD s at 0) (getD s (at + 1) 0) (getD s (at + 2) 0)) (omega arith) (omega arith) (at-three s at (omega arith) (omega arith) (a .pre .1 .0) (a .pre .1 .1))
+    chosen s at (omega arith) 3 _ (omega arith) (omega arith) (at-three s at (omega arith) (omega arith) (a .pre .1 .0) (a .pre .1 .1))
     (sym (c .before .is-three .ensures) ∙ c .if2 .taken)
 
 returns-3 : tie.Need-returns-3
@@ -49,7 +46,7 @@ returns-3 c =
     let a = c .before .before .before .before .before .before .before in
     let s = now (a .args .s) in
     let at = a .args .at in
-    refused s at (omega arith) 3 (three (getD s at 0) (getD s (at + 1) 0) (getD s (at + 2) 0)) (at-three s at (omega arith) (omega arith) (a .pre .1 .0) (a .pre .1 .1))
+    refused s at (omega arith) 3 _ (at-three s at (omega arith) (omega arith) (a .pre .1 .0) (a .pre .1 .1))
     (sym (c .before .is-three .ensures) ∙ c .if2 .left)
 
 pub step3-spec : {M : Type 1} → statement M

@@ -1,11 +1,8 @@
 -- `utf8::step4` meets its contract: its alternative of UTF8-char is the only one for such a first byte.
 -- Assumes nothing.
-use Prim.Native.Nat.{_+_}
 use mathlib.Core.Path.{sym, _∙_}
 use native.Mathlib.Omega.{arith}
-use lib.ListN.{getD}
 use denote.Ref.{now}
-use Rattle.utf8.specs.Utf8.{four}
 use Rattle.utf8.proofs.Laws.{chosen, refused, at-four, short-four}
 use borrow.Author.Needs.{needs}
 use Rattle.utf8.proofs.step4.Statement.{statement}
@@ -47,7 +44,7 @@ returns-2 c =
     let a = c .before .before .before .before .before .before .before .before in
     let s = now (a .args .s) in
     let at = a .args .at in
-    chosen s at (omega arith) 4 (four (getD s at 0) (getD s (at + 1) 0) (getD s (at + 2) 0) (getD s (at + 3) 0)) (omega arith) (omega arith) (at-four s at (omega arith) (omega arith) (a .pre .1))
+    chosen s at (omega arith) 4 _ (omega arith) (omega arith) (at-four s at (omega arith) (omega arith) (a .pre .1))
     (sym (c .before .is-four .ensures) ∙ c .if2 .taken)
 
 returns-3 : tie.Need-returns-3
@@ -55,7 +52,7 @@ returns-3 c =
     let a = c .before .before .before .before .before .before .before .before in
     let s = now (a .args .s) in
     let at = a .args .at in
-    refused s at (omega arith) 4 (four (getD s at 0) (getD s (at + 1) 0) (getD s (at + 2) 0) (getD s (at + 3) 0)) (at-four s at (omega arith) (omega arith) (a .pre .1))
+    refused s at (omega arith) 4 _ (at-four s at (omega arith) (omega arith) (a .pre .1))
     (sym (c .before .is-four .ensures) ∙ c .if2 .left)
 
 pub step4-spec : {M : Type 1} → statement M

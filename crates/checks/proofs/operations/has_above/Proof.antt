@@ -1,23 +1,24 @@
 -- `operations::has_above` meets its contract: while there is no hit, the kinds passed are at most 15.
-use Prim.Native.Nat.{ℕ, _+_, _-_, _<_, _≤_}
+use Prim.Native.Nat.{_-_, _≤_}
 use mathlib.Core.Path.{_≡_, sym, _∙_}
 use mathlib.Core.Bool.{false}
 use borrow.Author.Tests.{ltb-false}
 use native.Mathlib.Omega.{arith}
 use lib.ListN.{getD}
-use Rattle.checks.proofs.Blocks.{or-left, or-right, each-next}
+use Rattle.base.specs.Code.Skips.{AllFrom}
+use Rattle.base.proofs.Skips.{either-more}
 use borrow.Author.Needs.{needs}
 use Rattle.checks.proofs.operations.has_above.Statement.{statement}
 use Rattle.checks.proofs.operations.has_above.Tie as tie
 
 abbrev Inv-loop : tie.InvT-loop
-Inv-loop kinds at n hit₀ k₀ hit k = (k ≤ n) × (hit ≡ false → (j : ℕ) → at ≤ j → j < at + k → getD kinds j 0 ≤ 15)
+Inv-loop kinds at n hit₀ k₀ hit k = (k ≤ n) × (hit ≡ false → AllFrom at k (λ i. getD kinds i 0 ≤ 15))
 
 abbrev μ-loop : tie.MeasureT-loop
 μ-loop kinds at n hit₀ k₀ hit k = n - k
 
 loop-holds : tie.Need-loop-holds Inv-loop μ-loop
-loop-holds c = (omega arith, λ e j l u. absurd (omega arith))
+loop-holds c = (omega arith, λ e k h. absurd (omega arith))
 
 add-either : tie.Need-add-either Inv-loop μ-loop
 add-either c = search needs
@@ -37,10 +38,8 @@ loop-less c = search needs
 loop-again : tie.Need-loop-again Inv-loop μ-loop
 loop-again c =
     let a = c .before .before .before .before .before .args in
-    let l = c .before .before .before .loop in (
-      omega arith,
-      λ e. let f = sym (c .either .ensures) ∙ e in each-next (λ j. getD (a .kinds .now) j 0 ≤ 15) (a .at) (l .k) (l .inv .1 (or-left (l .hit) _ f)) (ltb-false 15 _ (or-right (l .hit) _ f)),
-    )
+    let l = c .before .before .before .loop in
+    (omega arith, λ e. either-more (λ i. getD (a .kinds .now) i 0 ≤ 15) (a .at) (l .k) (l .hit) _ (l .inv .1) (λ f. ltb-false 15 _ f) (sym (c .either .ensures) ∙ e))
 
 returns : tie.Need-returns Inv-loop μ-loop
 returns c =

@@ -1,7 +1,11 @@
 -- `operations::has_far` meets its contract: known kinds with operands below the program's length pass.
+use Prim.Native.Nat.{_+_}
 use mathlib.Core.Path.{sym, _∙_}
+use native.Mathlib.Omega.{arith}
 use lib.ListN.{length, getD}
-use Rattle.checks.proofs.Blocks.{or-left, or-right, near-passes, block-passes}
+use Rattle.base.proofs.Skips.{skips-all}
+use Rattle.checks.specs.Code.Blocks.{checkFrom}
+use Rattle.checks.proofs.Blocks.{or-left, or-right, near-passes, skips-passing}
 use borrow.Author.Needs.{needs}
 use Rattle.checks.proofs.operations.has_far.Statement.{statement}
 use Rattle.checks.proofs.operations.has_far.Tie as tie
@@ -22,7 +26,10 @@ returns c e =
     let f = sym (c .either .ensures) ∙ e in
     let k = c .before .before .has-above .ensures (or-left _ _ f) in
     let v = c .before .has-from .ensures (or-right (c .before .before .has-above .result) _ f) in
-    block-passes (a .kinds .now) (a .operands .now) (a .at) (a .n) (p .0) (p .1) (λ j l u. near-passes (length (a .kinds .now)) (getD (a .kinds .now) j 0) (getD (a .operands .now) j 0) (k j l u) (v j l u))
+    let ks = a .kinds .now in
+    let vs = a .operands .now in
+    skips-all (checkFrom ks vs) (a .n) (a .at)
+    (λ j h. skips-passing ks vs (a .at + j) (p .0) (omega arith) (near-passes (length ks) (getD ks (a .at + j) 0) (getD vs (a .at + j) 0) (k j h) (v j h)))
 
 pub has-far-spec : {M : Type 1} → statement M
 has-far-spec = tie.close (tie.spec has-above-requires has-from-requires either-requires returns)

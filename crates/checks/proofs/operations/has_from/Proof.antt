@@ -1,23 +1,24 @@
 -- `operations::has_from` meets its contract: while there is no hit, the operands passed are below size.
-use Prim.Native.Nat.{ℕ, _+_, _-_, _<_, _≤_}
+use Prim.Native.Nat.{_-_, _<_, _≤_}
 use mathlib.Core.Path.{_≡_, sym, _∙_}
 use mathlib.Core.Bool.{false}
 use borrow.Author.Tests.{leb-false}
 use native.Mathlib.Omega.{arith}
 use lib.ListN.{getD}
-use Rattle.checks.proofs.Blocks.{or-left, or-right, each-next}
+use Rattle.base.specs.Code.Skips.{AllFrom}
+use Rattle.base.proofs.Skips.{either-more}
 use borrow.Author.Needs.{needs}
 use Rattle.checks.proofs.operations.has_from.Statement.{statement}
 use Rattle.checks.proofs.operations.has_from.Tie as tie
 
 abbrev Inv-loop : tie.InvT-loop
-Inv-loop operands at n size hit₀ k₀ hit k = (k ≤ n) × (hit ≡ false → (j : ℕ) → at ≤ j → j < at + k → getD operands j 0 < size)
+Inv-loop operands at n size hit₀ k₀ hit k = (k ≤ n) × (hit ≡ false → AllFrom at k (λ i. getD operands i 0 < size))
 
 abbrev μ-loop : tie.MeasureT-loop
 μ-loop operands at n size hit₀ k₀ hit k = n - k
 
 loop-holds : tie.Need-loop-holds Inv-loop μ-loop
-loop-holds c = (omega arith, λ e j l u. absurd (omega arith))
+loop-holds c = (omega arith, λ e k h. absurd (omega arith))
 
 add-either : tie.Need-add-either Inv-loop μ-loop
 add-either c = search needs
@@ -40,10 +41,8 @@ loop-less c = search needs
 loop-again : tie.Need-loop-again Inv-loop μ-loop
 loop-again c =
     let a = c .before .before .before .before .before .args in
-    let l = c .before .before .before .loop in (
-      omega arith,
-      λ e. let f = sym (c .either .ensures) ∙ e in each-next (λ j. getD (a .operands .now) j 0 < a .size) (a .at) (l .k) (l .inv .1 (or-left (l .hit) _ f)) (leb-false (a .size) _ (or-right (l .hit) _ f)),
-    )
+    let l = c .before .before .before .loop in
+    (omega arith, λ e. either-more (λ i. getD (a .operands .now) i 0 < a .size) (a .at) (l .k) (l .hit) _ (l .inv .1) (λ f. leb-false (a .size) _ f) (sym (c .either .ensures) ∙ e))
 
 returns : tie.Need-returns Inv-loop μ-loop
 returns c =

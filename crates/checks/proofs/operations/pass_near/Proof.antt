@@ -1,21 +1,23 @@
 -- `operations::pass_near` meets its contract: each block that is passed leaves the check to the rest.
 use Prim.Native.Nat.{_-_}
-use mathlib.Core.Path.{refl, _∙_}
+use mathlib.Core.Path.{refl}
 use native.Mathlib.Omega.{arith}
 use lib.ListN.{length}
-use Rattle.checks.specs.Code.Blocks.{Passes}
+use Rattle.base.specs.Code.Skips.{SkipsTo}
+use Rattle.base.proofs.Skips.{skips-none, skips-on}
+use Rattle.checks.specs.Code.Blocks.{checkFrom}
 use borrow.Author.Needs.{needs}
 use Rattle.checks.proofs.operations.pass_near.Statement.{statement}
 use Rattle.checks.proofs.operations.pass_near.Tie as tie
 
 abbrev Inv-loop : tie.InvT-loop
-Inv-loop kinds operands at₀ at = Passes kinds operands 0 at
+Inv-loop kinds operands at₀ at = SkipsTo (checkFrom kinds operands) 0 (length kinds) at
 
 abbrev μ-loop : tie.MeasureT-loop
 μ-loop kinds operands at₀ at = length kinds - at
 
 loop-holds : tie.Need-loop-holds Inv-loop μ-loop
-loop-holds c = record { within = omega arith; same = refl }
+loop-holds c = skips-none (omega arith) refl
 
 sub-loop : tie.Need-sub-loop Inv-loop μ-loop
 sub-loop c = search needs
@@ -33,7 +35,7 @@ loop-less : tie.Need-loop-less Inv-loop μ-loop
 loop-less c = search needs
 
 loop-again : tie.Need-loop-again Inv-loop μ-loop
-loop-again c = record { within = omega arith; same = c .before .before .before .loop .inv .same ∙ c .before .has-far .ensures (c .if1 .left) }
+loop-again c = skips-on (c .before .before .before .loop .inv) (record { on = omega arith; within = omega arith; same = c .before .has-far .ensures (c .if1 .left) })
 
 returns-2 : tie.Need-returns-2 Inv-loop μ-loop
 returns-2 c = search needs

@@ -1,16 +1,17 @@
 -- `operations::verify_from` meets its contract: the operations passed leave the answer to the rest of the program.
 use Prim.Native.Nat.{_-_, _≤_}
-use mathlib.Core.Path.{_≡_, refl, sym, _∙_}
+use mathlib.Core.Path.{refl, sym, _∙_}
 use native.Mathlib.Omega.{arith}
-use lib.ListN.{length, drop}
-use Rattle.checks.specs.Verify.{operationsCheck}
+use lib.ListN.{length}
+use Rattle.base.specs.Code.Skips.{Skips}
+use Rattle.checks.specs.Code.Blocks.{checkFrom}
 use Rattle.checks.proofs.Laws.{check-at, check-end}
 use borrow.Author.Needs.{needs}
 use Rattle.checks.proofs.operations.verify_from.Statement.{statement}
 use Rattle.checks.proofs.operations.verify_from.Tie as tie
 
 abbrev Inv-loop : tie.InvT-loop
-Inv-loop kinds operands from size i₀ i = (i ≤ length kinds) × (operationsCheck (length kinds) (drop from kinds) (drop from operands) ≡ operationsCheck (length kinds) (drop i kinds) (drop i operands))
+Inv-loop kinds operands from size i₀ i = (i ≤ length kinds) × Skips (checkFrom kinds operands) from i
 
 abbrev μ-loop : tie.MeasureT-loop
 μ-loop kinds operands from size i₀ i = length kinds - i
