@@ -11,10 +11,11 @@ use Rattle.numbered.specs.declared.Numbered.{Numbered}
 use Rattle.numbered.specs.Numbered.{plain, carrying}
 use Rattle.numbered.specs.Outcome.{Outcome, is, refused}
 use Rattle.source.specs.declared.function.FunctionError.the-variants.{NoFunction, NoParameters, UnclosedParameters, NoBody, UnclosedBody}
+use Rattle.source.specs.declared.vector.KeyError.the-variants.{NoKey, NoColon, NoDigit, TooLarge}
 use Rattle.expression.specs.declared.ExprError.the-variants.{InvalidCharacter, UnexpectedEnd, UnbalancedParenthesis, InvalidLiteral, UnknownIdentifier, TooDeep, UnconsumedTokens}
 use Rattle.expression.specs.Tree.{Tree, kOf, pOf}
 use Rattle.contract.specs.declared.refusal.Refusal.{Refusal}
-use Rattle.contract.specs.declared.refusal.Refusal.the-variants.{Contract, Vector, Function, NoKey, NoColon, NoDigit, TooLarge, NoEquals, Expression, TooLong, TooManyBindings, NoReturn, NoValue, NotExpected, BadStem, OutputTooLong}
+use Rattle.contract.specs.declared.refusal.Refusal.the-variants.{Contract, Vector, Function, Key, NoEquals, Expression, TooLong, TooManyBindings, NoReturn, NoValue, NotExpected, BadStem, OutputTooLong}
 use Rattle.contract.specs.Numbers.{refusalNumbered}
 use Rattle.contract.specs.Assembled.{assembledTree}
 use Rattle.contract.specs.Output.{Assembly, stemFits, output, nothing, written, named, assembled}
@@ -33,10 +34,10 @@ never-0 (Function NoParameters) = refl
 never-0 (Function UnclosedParameters) = refl
 never-0 (Function NoBody) = refl
 never-0 (Function UnclosedBody) = refl
-never-0 (NoKey place) = refl
-never-0 (NoColon place) = refl
-never-0 (NoDigit place) = refl
-never-0 (TooLarge place) = refl
+never-0 (Key NoKey place) = refl
+never-0 (Key NoColon place) = refl
+never-0 (Key NoDigit place) = refl
+never-0 (Key TooLarge place) = refl
 never-0 (NoEquals line) = refl
 never-0 (Expression InvalidCharacter line) = refl
 never-0 (Expression UnexpectedEnd line) = refl
