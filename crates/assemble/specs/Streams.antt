@@ -2,8 +2,10 @@
 use Prim.Native.Nat.{ℕ, _≤_}
 use mathlib.Core.Path.{_≡_}
 use mathlib.Core.List.{List, []}
+use lib.Dec.{eqb}
 use lib.ListN.{length, take}
-use Rattle.contract.specs.Output.{Answer, success, refusal, Assembly}
+use Rattle.base.specs.Need.{need}
+use Rattle.contract.specs.Output.{Assembly}
 use Rattle.assemble.specs.declared.say.Said.{Said}
 use Rattle.assemble.specs.declared.say.Said.the-variants.{Text, Message}
 use Rattle.assemble.specs.Message.{refusalMessage}
@@ -12,9 +14,9 @@ pub record Streams : Type 0 where
   pub output : List ℕ
   pub error : List ℕ
 
-abbrev pub answered : Answer → List ℕ → Streams
-answered (success written k p value) text = record { output = text; error = [] }
-answered (refusal r) text = record { output = []; error = refusalMessage r }
+abbrev pub answered : Assembly → Streams
+answered a =
+    need (eqb (a .answer .number) 0) (record { output = []; error = refusalMessage (a .answer) }) (record { output = a .text; error = [] })
 
 -- what the first bytes of a buffer are for
 abbrev pub said : Said → List ℕ → Streams
@@ -26,5 +28,5 @@ countOf (Text n) = n
 countOf (Message n) = n
 
 pub record Says (a : Assembly) (r : Said) (out : List ℕ) : Type 0 where
-  pub streams : said r out ≡ answered (a .answer) (a .text)
+  pub streams : said r out ≡ answered a
   pub within : countOf r ≤ length out

@@ -35,11 +35,10 @@ use Rattle.contract.specs.Assembled.{assembledTree}
 use Rattle.numbered.specs.Outcome.{Outcome, is}
 use Rattle.contract.specs.Code.Held.{LastIs, ReturnIs}
 use Rattle.contract.specs.Code.Concluded.{Accepts, ConcludesBy, Concludes}
-use Rattle.contract.specs.Output as Output
-use Rattle.contract.specs.Output.{assemblyNumbered, stemFits, header, output, named, assembled}
+use Rattle.contract.specs.Output.{stemFits, header, output, named, assembled}
 use Rattle.assembler.specs.declared.Answer.{Answer}
 use Rattle.assembler.specs.declared.Answer.the-variants.{Success, Refused}
-use Rattle.assembler.specs.Answers.{answerOf, Assembles}
+use Rattle.assembler.specs.Answers.{Assembles}
 
 pub header-length : (stem : List ℕ) (e : ℕ) → length (header stem e) ≡ 26 + length stem + length (decimal e)
 header-length stem e =
@@ -78,13 +77,10 @@ put-onto {out} {text} p = let z : 0 + length text ≡ length text = omega arith 
 pub is-going : {s vector : List ℕ} {o : Outcome (ℕ × Tree)} {a : Code.Assembly} → Concludes s vector o a → a .state .status ≡ Going → Accepts s vector o a
 is-going {s} {vector} {o} {a} c e = subst (λ (x : Status). ConcludesBy x s vector o a) e (c .by)
 
-assembles : {a : Output.Assembly} {out after : List ℕ} {r : Answer} → answerOf r ≡ a .answer → after ≡ onto (a .text) out → Assembles a out after r
-assembles e b = record { answer = e; number = ap assemblyNumbered e; buffer = b }
-
 pub is-refused : {s vector : List ℕ} {o : Outcome (ℕ × Tree)} {a : Code.Assembly} {why : Refusal} → Concludes s vector o a → a .state .status ≡ Status.Refused why → (stem out : List ℕ) → Assembles (named o stem (length out)) out out (Refused why)
 is-refused {s} {vector} {o} {a} c e stem out =
     let q = subst (λ (x : Status). ConcludesBy x s vector o a) e (c .by) .0 in
-    rw q (assembles refl refl)
+    rw q (record { answer = refl; buffer = refl })
 
 pub as-assembled : (contract vector stem : List ℕ) {out after : List ℕ} {r : Answer} → Assembles (named (assembledTree contract vector) stem (length out)) out after r → Assembles (assembled contract vector stem (length out)) out after r
 unfolding assembled
@@ -92,7 +88,7 @@ as-assembled contract vector stem x = x
 
 -- the stem does not fit
 pub stem-refused : {s vector : List ℕ} {o : Outcome (ℕ × Tree)} {a : Code.Assembly} (stem out : List ℕ) → Accepts s vector o a → stemFits stem ≡ false → Assembles (named o stem (length out)) out out (Refused BadStem)
-stem-refused stem out acc f = rw (acc .accepts) (simp f (assembles refl refl))
+stem-refused stem out acc f = rw (acc .accepts) (simp f (record { answer = refl; buffer = refl }))
 
 module _ {s vector : List ℕ} {o : Outcome (ℕ × Tree)} {a : Code.Assembly} (acc : Accepts s vector o a) {last : Last} (q : a .state .last ≡ last) where
   returned-as : LastIs s (a .state .table) (a .state .values) last (some (acc .t))
@@ -132,7 +128,7 @@ module _ {s vector : List ℕ} {o : Outcome (ℕ × Tree)} {a : Code.Assembly} (
     pub no-room : length out < length (header stem (a .expected)) + l .read .len + 5 → Assembles (named o stem (length out)) out out (Refused OutputTooLong)
     no-room h =
         let b = lt-leb (length (output stem (a .expected) (acc .t))) (length out) (omega (arith, size)) in
-        rw (acc .accepts) (simp (f, b) (assembles refl refl))
+        rw (acc .accepts) (simp (f, b) (record { answer = refl; buffer = refl }))
 
     pub written-whole : length (header stem (a .expected)) + l .read .len + 5 ≤ length out
         → {mid after : List ℕ} {n w : ℕ}
@@ -146,4 +142,4 @@ module _ {s vector : List ℕ} {o : Outcome (ℕ × Tree)} {a : Code.Assembly} (
         let e : (header stem (a .expected) ++ textOf (treeBetween s (sources (a .state .table) (a .state .values)) (l .count) (l .start) (l .end))) ++ haltLine ≡ output stem (a .expected) (acc .t) = ap (λ (t : Tree). (header stem (a .expected) ++ textOf t) ++ haltLine) same-tree ∙ sym (output-text stem (a .expected) (acc .t)) in
         let z : Put out 0 (output stem (a .expected) (acc .t)) after w = rw e at x in
         let m : w ≡ length (output stem (a .expected) (acc .t)) = omega (arith, z .next) in
-        rw (acc .accepts) (simp (f, b) (assembles (cc (m, returned .figures .k, returned .figures .p)) (put-onto z)))
+        rw (acc .accepts) (simp (f, b) (record { answer = cc (m, returned .figures .k, returned .figures .p); buffer = put-onto z }))

@@ -1,8 +1,8 @@
 // Assembly: a contract and its vector to ops text in a lent buffer.
 ghost use mathlib.Core.Path.{_≡_};
 ghost use lib.ListN.{length};
-ghost use Rattle.contract.specs.Output.{assembled, assemblyNumbered};
-ghost use Rattle.assembler.specs.Answers.{answerOf, Assembles};
+ghost use Rattle.contract.specs.Output.{assembled};
+ghost use Rattle.assembler.specs.Answers.{answerNumbered, Assembles};
 
 mod header;
 mod output;
@@ -29,7 +29,7 @@ pub enum Answer {
 
 impl Answer {
     pub fn numbered(self) -> Numbered
-        ensures { λ r. ⌜ r ≡ assemblyNumbered (answerOf self) ⌝ }
+        ensures { λ r. ⌜ r ≡ answerNumbered self ⌝ }
     {
         match self {
             Answer::Success {

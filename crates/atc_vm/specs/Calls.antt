@@ -7,13 +7,13 @@ use Rattle.numbered.specs.declared.Numbered.{Numbered}
 use Rattle.numbered.specs.Numbered.{carrying}
 use Rattle.ops.specs.Ops.{readText, answerOf, opsOf, kindsOf, operandsOf, onto, trimmedLine, trimmedPlace}
 use Rattle.ops.specs.Numbers.{parsedOpsNumbered}
-use Rattle.contract.specs.Output.{Assembly, assemblyNumbered}
+use Rattle.contract.specs.Output.{Assembly}
 use Rattle.perform.specs.Numbers.{answerNumbered}
 use Rattle.perform.specs.Run.{Result}
 use Rattle.atc_vm.specs.Words.{Tells}
 
 pub record Assembled (a : Assembly) (out outAfter words : List ℕ) (r : ℕ) : Type 0 where
-  pub tells : Tells (assemblyNumbered (a .answer)) words r
+  pub tells : Tells (a .answer) words r
   pub buffer : outAfter ≡ onto (a .text) out
 
 pub record Read (text kinds operands kindsAfter operandsAfter words : List ℕ) (r : ℕ) : Type 0 where

@@ -7,11 +7,11 @@ use lib.ListN.{length, drop, length-append}
 use Rattle.contract.specs.Output.{assembled}
 use Rattle.assembler.specs.declared.Answer as assembly
 use Rattle.assembler.specs.declared.Answer.the-variants.{Success}
-use Rattle.assembler.specs.Answers.{answerOf, Assembles}
-use Rattle.correctness.proofs.Sized.{sized-as}
+use Rattle.assembler.specs.Answers.{answerNumbered, Assembles}
+use Rattle.contract.proofs.Answers.{tells}
 
 module _ (contract vector stem out : List ℕ) where
   pub within : {o : List ℕ} {r : assembly.Answer} {n k p v : ℕ} → Assembles (assembled contract vector stem (length out)) out o r → r ≡ Success n k p v → n ≤ length o
   within a e =
       let text = assembled contract vector stem (length out) .text in
-      omega (arith, sized-as contract vector stem (length out) (ap answerOf (sym e) ∙ a .answer), ap length (a .buffer), length-append text (drop (length text) out))
+      omega (arith, tells contract vector stem (length out) (sym (a .answer) ∙ ap answerNumbered e) .size, ap length (a .buffer), length-append text (drop (length text) out))

@@ -2,9 +2,12 @@
 use Prim.Native.Nat.{ℕ}
 use native.Mathlib.Omega.{arith}
 use mathlib.Core.Path.{_≡_, refl, sym, ap, subst, _∙_}
-use mathlib.Core.List.{List}
+use mathlib.Core.List.{List, [], _∷_}
+use lib.Dec.{eqb}
 use lib.ListN.{length, take, drop}
 use lib.Seq.{take-at}
+use Rattle.numbered.specs.declared.Numbered.{Numbered}
+use Rattle.numbered.specs.Numbered.{carrying}
 use Rattle.ops.specs.Ops.{Reading, ops, refused, answerOf, opsOf, kindsOf, operandsOf, onto, Parsed}
 use Rattle.ops.specs.declared.OpsError.{OpsError}
 use Rattle.ops.specs.declared.ParsedOps.{ParsedOps}
@@ -12,14 +15,12 @@ use Rattle.ops.specs.declared.ParsedOps.the-variants as parsed
 use Rattle.perform.specs.declared.Answer.{Answer}
 use Rattle.perform.specs.Run.{Meets}
 use Rattle.contract.specs.declared.refusal.Refusal.{Refusal}
-use Rattle.contract.specs.Output as Output
-use Rattle.contract.specs.Output.{success}
+use Rattle.contract.proofs.Answers.{tells, never-0, no-text}
 use Rattle.assembler.specs.declared.Answer as assembly
 use Rattle.assembler.specs.declared.Answer.the-variants.{Success, Refused}
 use Rattle.assembler.specs.Answers.{Assembles}
 use Rattle.compile.specs.declared.Compiled.{Compiled}
 use Rattle.compile.specs.declared.Compiled.the-variants.{NotAssembled, NotRead, Ran}
-use Rattle.correctness.proofs.Sized.{sized-as}
 use Rattle.correctness.specs.Call.{Compilation, Left, assemblyOf, readingOf, transitionOn}
 use Rattle.compile.specs.Answer.{ran}
 use Rattle.compile.specs.Compile.{thenRun, thenRead, compileOf, Composes}
@@ -30,7 +31,7 @@ buffers out kinds operands stack work storage = record { out = out; kinds = kind
 module _ (x : Compilation) where
   -- a success of assembly, which leaves o in its buffer
   pub record Written (o : List ℕ) (n k p v : ℕ) : Type 0 where
-    pub answer : success n k p v ≡ assemblyOf x .answer
+    pub answer : carrying 0 (n ∷ k ∷ p ∷ v ∷ []) ≡ assemblyOf x .answer
     pub buffer : o ≡ onto (assemblyOf x .text) (x .out)
     pub text : take n o ≡ assemblyOf x .text
 
@@ -48,7 +49,7 @@ module _ (x : Compilation) where
         record {
           answer = a .answer;
           buffer = a .buffer;
-          text = ap (take n) (a .buffer) ∙ take-at text (drop (length text) (x .out)) n (sized-as (x .contract) (x .vector) (x .stem) (length (x .out)) (a .answer));
+          text = ap (take n) (a .buffer) ∙ take-at text (drop (length text) (x .out)) n (tells (x .contract) (x .vector) (x .stem) (length (x .out)) (sym (a .answer)) .size);
         }
 
     pub not-assembled : {r : assembly.Answer} {why : Refusal} → Assembles (assemblyOf x) (x .out) o r → r ≡ Refused why
@@ -56,15 +57,17 @@ module _ (x : Compilation) where
     unfolding compileOf
     not-assembled {r} {why} b e =
         let a = subst (λ (z : assembly.Answer). Assembles (assemblyOf x) (x .out) o z) e b in
-        let kept : o ≡ x .out = a .buffer ∙ ap (λ (l : List ℕ). onto l (x .out)) (sized-as (x .contract) (x .vector) (x .stem) (length (x .out)) (a .answer)) in
-        subst (λ (z : Output.Answer). Composes (thenRead x z) (NotAssembled why) (buffers o (x .run .kinds) (x .run .operands) (x .run .stack) (x .run .work) (x .run .storage))) (a .answer)
-        (record { answer = refl; number = refl; out = kept; kinds = refl; operands = refl; stack = refl; work = refl; storage = refl })
+        let zero = never-0 why in
+        let text = no-text (x .contract) (x .vector) (x .stem) (length (x .out)) (ap (λ (z : Numbered). eqb (z .number) 0) (sym (a .answer)) ∙ zero) in
+        let kept : o ≡ x .out = a .buffer ∙ ap (λ (l : List ℕ). onto l (x .out)) text in
+        subst (λ (z : Numbered). Composes (thenRead x z) (NotAssembled why) (buffers o (x .run .kinds) (x .run .operands) (x .run .stack) (x .run .work) (x .run .storage))) (a .answer)
+        (rw zero (record { answer = refl; number = refl; out = kept; kinds = refl; operands = refl; stack = refl; work = refl; storage = refl }))
 
     module _ {n k p v : ℕ} (a : Written o n k p v) where
       -- what follows the success
-      follows : {r : Compiled} {ks vs s w m : List ℕ} → Composes (thenRun x n k p v (readingOf x)) r (buffers o ks vs s w m) → Composes (compileOf x) r (buffers o ks vs s w m)
+      follows : {r : Compiled} {ks vs s w m : List ℕ} → Composes (thenRun x (carrying 0 (n ∷ k ∷ p ∷ v ∷ [])) (readingOf x)) r (buffers o ks vs s w m) → Composes (compileOf x) r (buffers o ks vs s w m)
       unfolding compileOf
-      follows {r} {ks} {vs} {s} {w} {m} c = subst (λ (z : Output.Answer). Composes (thenRead x z) r (buffers o ks vs s w m)) (a .answer) c
+      follows {r} {ks} {vs} {s} {w} {m} c = subst (λ (z : Numbered). Composes (thenRead x z) r (buffers o ks vs s w m)) (a .answer) c
 
       module _ {ks vs : List ℕ} where
         reads : {q r : ParsedOps} → Parsed (take n o) (x .run .kinds) (x .run .operands) ks vs q → q ≡ r → Reads (readingOf x) r ks vs
@@ -72,17 +75,17 @@ module _ (x : Compilation) where
             let u = subst (λ (l : List ℕ). Parsed l (x .run .kinds) (x .run .operands) ks vs q) (a .text) b in
             record { answer = sym e ∙ u .answer; kinds = u .kindsWritten; operands = u .operandsWritten }
 
-        stopped : {e : OpsError} (y : Reading) → Reads y (parsed.Refused e) ks vs → Composes (thenRun x n k p v y) (NotRead e) (buffers o ks vs (x .run .stack) (x .run .work) (x .run .storage))
+        stopped : {e : OpsError} (y : Reading) → Reads y (parsed.Refused e) ks vs → Composes (thenRun x (carrying 0 (n ∷ k ∷ p ∷ v ∷ [])) y) (NotRead e) (buffers o ks vs (x .run .stack) (x .run .work) (x .run .storage))
         stopped (ops os) r = absurd (let z : _≡_ {A = ℕ} 0 1 = cc (r .answer) in omega arith)
         stopped (refused e) r = record { answer = cc (r .answer); number = cc (r .answer); out = a .buffer; kinds = r .kinds; operands = r .operands; stack = refl; work = refl; storage = refl }
 
-        finished : {s w m : List ℕ} {j : ℕ} {t : Answer} (y : Reading) → Reads y (parsed.Read j) ks vs → Meets (transitionOn x ks vs) (x .run .state) t s w m → Composes (thenRun x n k p v y) (Ran n k p v j t) (buffers o ks vs s w m)
+        finished : {s w m : List ℕ} {j : ℕ} {t : Answer} (y : Reading) → Reads y (parsed.Read j) ks vs → Meets (transitionOn x ks vs) (x .run .state) t s w m → Composes (thenRun x (carrying 0 (n ∷ k ∷ p ∷ v ∷ [])) y) (Ran n k p v j t) (buffers o ks vs s w m)
         finished (refused e) r q = absurd (let z : _≡_ {A = ℕ} 0 1 = cc (r .answer) in omega arith)
         finished {s} {w} {m} {j} {t} (ops os) r q =
             let u = subst (λ (l : List ℕ). Meets (transitionOn x l (onto (operandsOf os) (x .run .operands))) (x .run .state) t s w m) (r .kinds) (subst (λ (l : List ℕ). Meets (transitionOn x ks l) (x .run .state) t s w m) (r .operands) q) in
             let j-is : j ≡ length os = cc (r .answer) in
             record {
-              answer = ap (λ (i : ℕ). ran n k p v i t) j-is ∙ ap (ran n k p v (length os)) (u .answer);
+              answer = ap (λ (i : ℕ). ran (carrying 0 (n ∷ k ∷ p ∷ v ∷ [])) i t) j-is ∙ ap (ran (carrying 0 (n ∷ k ∷ p ∷ v ∷ [])) (length os)) (u .answer);
               number = u .says;
               out = a .buffer;
               kinds = r .kinds;

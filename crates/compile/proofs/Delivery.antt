@@ -2,13 +2,16 @@
 use Prim.Native.Nat.{ℕ, _*_}
 use native.Mathlib.Omega.{arith}
 use mathlib.Core.Path.{_≡_, sym, ap, subst, _∙_}
+use mathlib.Core.List.{[], _∷_}
 use lib.ListN.{length}
+use Rattle.numbered.specs.Numbered.{carrying}
 use Rattle.ops.specs.declared.ParsedOps.the-variants.{Read}
 use Rattle.ops.specs.Ops.{Reading, ops, refused, answerOf, opsOf}
 use Rattle.ops.specs.Numbers.{parsedOpsNumbered}
 use Rattle.perform.specs.declared.Answer.{Answer}
 use Rattle.perform.specs.Numbers.{answerNumbered}
 use Rattle.perform.specs.Run as Run
+use Rattle.contract.proofs.Answers.{word-told}
 use Rattle.correctness.specs.Call.{Compilation, Left, readingOf, withProgram}
 use Rattle.correctness.specs.Statement.{Found, Hypotheses, Statement, foundBy, foundIn}
 use Rattle.correctness.proofs.CompileStatement.{compile-statement}
@@ -21,17 +24,25 @@ use Rattle.compile.specs.Compile.{Result, readIn, runOn, ranIn, thenRun,
 use Rattle.compile.specs.Delivery.{Delivered, Delivers}
 
 -- an answer that is a run is the code's
-ran-is : (r : Compiled) {n k p v j : ℕ} {a : Answer} → Answer.answerOf r ≡ ran n k p v j a → r ≡ Ran n k p v j a
+ran-is : (r : Compiled) {n k p v j : ℕ} {a : Answer} → Answer.answerOf r ≡ ran (carrying 0 (n ∷ k ∷ p ∷ v ∷ [])) j a → r ≡ Ran n k p v j a
 ran-is (NotAssembled why) e = absurd (let z : _≡_ {A = ℕ} 0 1 = cc in omega arith)
 ran-is (NotRead x) e = absurd (let z : _≡_ {A = ℕ} 0 1 = cc in omega arith)
-ran-is (Ran n k p v j a) e = cc
+ran-is (Ran n′ k′ p′ v′ j′ a′) {n} {k} {p} {v} {j} {a} e =
+    let q : carrying 0 (n′ ∷ k′ ∷ p′ ∷ v′ ∷ []) ≡ carrying 0 (n ∷ k ∷ p ∷ v ∷ []) = cc in
+    let n-is : n′ ≡ n = word-told 0 q in
+    let k-is : k′ ≡ k = word-told 1 q in
+    let p-is : p′ ≡ p = word-told 2 q in
+    let v-is : v′ ≡ v = word-told 3 q in
+    let j-is : j′ ≡ j = cc in
+    let a-is : a′ ≡ a = cc in
+    λ i. Ran (n-is i) (k-is i) (p-is i) (v-is i) (j-is i) (a-is i)
 
 module _ (x : Compilation) (n k p v : ℕ) where
   -- where j operations are read
   abbrev finished : ℕ → Reading → Result
-  finished j y = record { answer = ran n k p v j (runOn x (readIn x (opsOf y)) .answer); left = ranIn x (readIn x (opsOf y)) }
+  finished j y = record { answer = ran (carrying 0 (n ∷ k ∷ p ∷ v ∷ [])) j (runOn x (readIn x (opsOf y)) .answer); left = ranIn x (readIn x (opsOf y)) }
 
-  read-is : (y : Reading) (j : ℕ) → answerOf y ≡ Read j → thenRun x n k p v y ≡ finished j y
+  read-is : (y : Reading) (j : ℕ) → answerOf y ≡ Read j → thenRun x (carrying 0 (n ∷ k ∷ p ∷ v ∷ [])) y ≡ finished j y
   read-is (refused e) j q = absurd (let z : _≡_ {A = ℕ} 0 1 = cc in omega arith)
   read-is (ops os) j q = let z : length os ≡ j = cc in ap (λ (i : ℕ). finished i (ops os)) z
 

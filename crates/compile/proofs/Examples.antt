@@ -61,14 +61,14 @@ unfolding assembled output decimal assembledTree each meaning parseF scan contra
 accepted g = record { accepts = refl; kindsRoom = refl; operandsRoom = refl; passes = refl; lent = refl; used = omega arith }
 
 succeeds : compileOf (tally 7 70 6) ≡ record {
-  answer = ran 67 3 2 24 6 (Success 7 6 1 (record { used = 0 }));
+  answer = ran (carrying 0 (67 ∷ 3 ∷ 2 ∷ 24 ∷ [])) 6 (Success 7 6 1 (record { used = 0 }));
   left = record { out = text ++ 9 ∷ 9 ∷ 9 ∷ []; kinds = 0 ∷ 0 ∷ 1 ∷ 0 ∷ 3 ∷ 15 ∷ []; operands = 5 ∷ 7 ∷ 0 ∷ 2 ∷ 0 ∷ 0 ∷ []; stack = 24 ∷ replicate 4095 0; work = 0 ∷ []; storage = 8 ∷ [] };
 }
 unfolding compileOf assembled output decimal assembledTree each meaning parseF scan decode runOf whole operationsCheck contract vector
 succeeds = refl
 
 out-of-gas : compileOf (tally 6 67 6) ≡ record {
-  answer = ran 67 3 2 24 6 (Refused (OutOfGas 2 1));
+  answer = ran (carrying 0 (67 ∷ 3 ∷ 2 ∷ 24 ∷ [])) 6 (Refused (OutOfGas 2 1));
   left = record { out = text; kinds = 0 ∷ 0 ∷ 1 ∷ 0 ∷ 3 ∷ 15 ∷ []; operands = 5 ∷ 7 ∷ 0 ∷ 2 ∷ 0 ∷ 0 ∷ []; stack = replicate 4096 0; work = 0 ∷ []; storage = 8 ∷ [] };
 }
 unfolding compileOf assembled output decimal assembledTree each meaning parseF scan decode runOf whole operationsCheck contract vector
@@ -84,6 +84,6 @@ unfolding compileOf assembled output decimal assembledTree each meaning parseF s
 short-program = (refl, refl)
 
 -- room for one operation more: the transition takes all of both buffers, and the `Eq` that stands behind `Halt` is not met
-longer : compileOf (tally 7 67 7) .answer ≡ ran 67 3 2 24 6 (Success 7 6 1 (record { used = 0 }))
+longer : compileOf (tally 7 67 7) .answer ≡ ran (carrying 0 (67 ∷ 3 ∷ 2 ∷ 24 ∷ [])) 6 (Success 7 6 1 (record { used = 0 }))
 unfolding compileOf assembled output decimal assembledTree each meaning parseF scan decode runOf whole operationsCheck contract vector
 longer = refl

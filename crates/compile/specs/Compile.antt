@@ -1,13 +1,13 @@
 -- The three calls in a row: assembly, reading of exactly what it wrote, and the transition on the program buffers as reading left them.
-use Prim.Native.Nat.{ℕ}
 use mathlib.Core.Path.{_≡_}
 use mathlib.Core.List.{List}
+use lib.Dec.{eqb}
 use lib.ListN.{length}
+use Rattle.base.specs.Need.{need}
+use Rattle.numbered.specs.declared.Numbered.{Numbered}
 use Rattle.kinds.specs.Kinds.{Operation}
 use Rattle.ops.specs.Ops.{Reading, ops, refused, kindsOf, operandsOf, onto}
 use Rattle.perform.specs.Run as Run
-use Rattle.contract.specs.Output as Output
-use Rattle.contract.specs.Output.{success, refusal}
 use Rattle.correctness.specs.Call.{Compilation, Left, assemblyOf, readingOf, transitionOn}
 use Rattle.compile.specs.declared.Compiled.{Compiled}
 use Rattle.compile.specs.Answer.{Answer, notAssembled, notRead, ran, answerOf}
@@ -62,15 +62,14 @@ ranIn x b =
     let t : Run.Result = runOn x b in
     record { out = b .out; kinds = b .kinds; operands = b .operands; stack = t .stack; work = t .work; storage = t .storage }
 
--- after a reading, assembly's success being n, k, p and v
-abbrev pub thenRun : Compilation → (n k p v : ℕ) → Reading → Result
-thenRun x n k p v (refused e) = record { answer = notRead e; left = assembledIn x }
-thenRun x n k p v (ops os) = record { answer = ran n k p v (length os) (runOn x (readIn x os) .answer); left = ranIn x (readIn x os) }
+-- after an assembly's answer 0 and a reading
+abbrev pub thenRun : Compilation → Numbered → Reading → Result
+thenRun x a (refused e) = record { answer = notRead e; left = assembledIn x }
+thenRun x a (ops os) = record { answer = ran a (length os) (runOn x (readIn x os) .answer); left = ranIn x (readIn x os) }
 
--- after an assembly
-abbrev pub thenRead : Compilation → Output.Answer → Result
-thenRead x (refusal r) = record { answer = notAssembled r; left = lent x }
-thenRead x (success n k p v) = thenRun x n k p v (readingOf x)
+-- after an assembly's answer
+abbrev pub thenRead : Compilation → Numbered → Result
+thenRead x a = need (eqb (a .number) 0) (record { answer = notAssembled a; left = lent x }) (thenRun x a (readingOf x))
 
 unfoldable pub compileOf : Compilation → Result
 compileOf x = thenRead x (assemblyOf x .answer)

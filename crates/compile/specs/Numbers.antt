@@ -8,7 +8,7 @@ use Rattle.compile.specs.Answer.{Answer, notAssembled, notRead, ran, ans
 abbrev pub numbered : Answer → Numbered
 numbered (notAssembled r) = r
 numbered (notRead e) = opsErrorNumbered e
-numbered (ran written k p value operations a) = answerNumbered a
+numbered (ran assembly operations a) = answerNumbered a
 
 abbrev pub compiledNumbered : Compiled → Numbered
 compiledNumbered r = numbered (answerOf r)

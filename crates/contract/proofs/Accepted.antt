@@ -21,14 +21,17 @@ use Rattle.lines.specs.Lines.{lines}
 use Rattle.source.specs.declared.function.Places.{Places}
 use Rattle.source.specs.declared.function.Function.{Function}
 use Rattle.source.specs.declared.function.Function.the-variants as Function
+use Rattle.source.specs.declared.vector.KeyError.{KeyError}
+use Rattle.source.specs.declared.vector.KeyError.the-variants.{NoKey, NoColon, NoDigit, TooLarge}
 use Rattle.source.specs.declared.vector.KeyValue.{KeyValue}
-use Rattle.source.specs.declared.vector.KeyValue.the-variants.{Is, NoKey, NoColon, NoDigit, TooLarge}
+use Rattle.source.specs.declared.vector.KeyValue.the-variants as Key
+use Rattle.source.specs.declared.vector.KeyValue.the-variants.{Is}
 use Rattle.source.specs.Found.{foundOr}
 use Rattle.source.specs.declared.function.FunctionError.{FunctionError}
 use Rattle.source.specs.declared.function.FunctionError.the-variants.{NoFunction, NoParameters, UnclosedParameters, NoBody, UnclosedBody}
 use Rattle.source.specs.Function.{functionOf, functionErrorNumbered}
 use Rattle.source.specs.Parameters.{parameters}
-use Rattle.source.specs.Vector.{quoted, ofDigits, vectorNumber}
+use Rattle.source.specs.Vector.{quoted, ofDigits, vectorNumber, keyErrorNumbered}
 use Rattle.expression.specs.Tree.{Tree, num, valueOf, kOf}
 use Rattle.expression.specs.Parse.{meaning}
 use Rattle.contract.specs.Part.{part}
@@ -47,10 +50,7 @@ use Rattle.contract.proofs.Wrong.{WrongIn, meaning-wrong}
 -- a vector's number is below 2^64
 abbrev WordIs : KeyValue → Type 0
 WordIs (Is n) = n < 2 ^ 64
-WordIs NoKey = Unit {0}
-WordIs NoColon = Unit {0}
-WordIs NoDigit = Unit {0}
-WordIs TooLarge = Unit {0}
+WordIs (Key.Refused e) = Unit {0}
 
 digits-word : (ds : List ℕ) → WordIs (ofDigits ds)
 digits-word [] = tt
@@ -62,8 +62,8 @@ found-word Nothing y f a b = a
 
 vector-word : (s key : List ℕ) → WordIs (vectorNumber s key)
 vector-word s key =
-    found-word (firstAt (quoted key) s 0) NoKey _ tt (λ at.
-    found-word (firstAt (ascii ":") s (at + length (quoted key))) NoColon _ tt (λ colon.
+    found-word (firstAt (quoted key) s 0) (Key.Refused NoKey) _ tt (λ at.
+    found-word (firstAt (ascii ":") s (at + length (quoted key))) (Key.Refused NoColon) _ tt (λ colon.
     digits-word (digits (startTrimmed (drop (colon + 1) s)))))
 
 -- the trees of a state
@@ -102,13 +102,16 @@ unfolding each
 each-sized one h n st [] z = z
 each-sized one h n st (s ∷ rest) z = then-sized (one n st s) _ (h n st s z) (λ next y. each-sized one h (n + 1) next rest y)
 
+key-ranged : (e : KeyError) → Ranged (keyErrorNumbered e)
+key-ranged NoKey = (omega arith, omega arith)
+key-ranged NoColon = (omega arith, omega arith)
+key-ranged NoDigit = (omega arith, omega arith)
+key-ranged TooLarge = (omega arith, omega arith)
+
 -- the parameters
 bound-to-sized : (st : State) (name : List ℕ) (place : ℕ) (x : KeyValue) → WordIs x → Sized st → Leaves (andThen (keyed x place) (λ n. bound st name (num n)))
 bound-to-sized st name place (Is n) w h = bound-sized st name (num n) h w
-bound-to-sized st name place NoKey w h = (omega arith, omega arith)
-bound-to-sized st name place NoColon w h = (omega arith, omega arith)
-bound-to-sized st name place NoDigit w h = (omega arith, omega arith)
-bound-to-sized st name place TooLarge w h = (omega arith, omega arith)
+bound-to-sized st name place (Key.Refused e) w h = key-ranged e
 
 parameters-sized : (vector : List ℕ) (names : List (List ℕ)) → Leaves (each (parameterBound vector) 1 started names)
 parameters-sized vector names =
@@ -161,10 +164,7 @@ module _ (vector : List ℕ) where
 
   expected-sound : (contract : List ℕ) (p : Places) (x : KeyValue) → vectorNumber vector (ascii "expected") ≡ x → Sound vector (andThen (keyed x 0) (λ expected. concluded expected (bodyRead contract vector p)))
   expected-sound contract p (Is n) q = concluded-sound n (bodyRead contract vector p) (body-sized contract vector p) q
-  expected-sound contract p NoKey q = (omega arith, omega arith)
-  expected-sound contract p NoColon q = (omega arith, omega arith)
-  expected-sound contract p NoDigit q = (omega arith, omega arith)
-  expected-sound contract p TooLarge q = (omega arith, omega arith)
+  expected-sound contract p (Key.Refused e) q = key-ranged e
 
   error-ranged : (e : FunctionError) → Ranged (functionErrorNumbered e)
   error-ranged NoFunction = (omega arith, omega arith)

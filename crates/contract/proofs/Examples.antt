@@ -16,7 +16,7 @@ use Rattle.contract.specs.Body.{lineRead}
 use Rattle.decimal.specs.Decimal.{decimal}
 use Rattle.contract.specs.Assembled.{assembledTree}
 use Rattle.contract.specs.Code.LastReturn.{linesMet, lastReturn}
-use Rattle.contract.specs.Output.{success, nothing, output, assembled}
+use Rattle.contract.specs.Output.{nothing, output, assembled}
 
 -- document 01's bench example
 tally : List ℕ
@@ -124,7 +124,7 @@ bindings-all = refl
 
 -- E1 of document 01: the whole text
 tally-output : assembled tally tallyVector (ascii "tally") 4096 ≡ record {
-  answer = success 67 3 2 24;
+  answer = carrying 0 (67 ∷ 3 ∷ 2 ∷ 24 ∷ []);
   text = ascii "# contract: tally\n# expected: 24\nPush 5\nPush 7\nAdd\nPush 2\nMul\nHalt\n";
 }
 unfolding assembled output decimal assembledTree each meaning parseF scan tally tallyVector

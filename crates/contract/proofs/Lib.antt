@@ -14,4 +14,5 @@ pub mod Concluding
 pub mod Words
 pub mod Wrong
 pub mod Accepted
+pub mod Answers
 pub mod Meeting

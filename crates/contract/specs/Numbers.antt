@@ -2,21 +2,17 @@
 use mathlib.Core.List.{[], _∷_}
 use Rattle.numbered.specs.declared.Numbered.{Numbered}
 use Rattle.numbered.specs.Numbered.{plain, carrying, located}
-use Rattle.source.specs.declared.vector.KeyValue.the-variants as Key
 use Rattle.source.specs.Function.{functionErrorNumbered}
-use Rattle.source.specs.Vector.{keyValueNumbered}
+use Rattle.source.specs.Vector.{keyErrorNumbered}
 use Rattle.expression.specs.Answer.{exprErrorNumbered}
 use Rattle.contract.specs.declared.refusal.Refusal.{Refusal}
-use Rattle.contract.specs.declared.refusal.Refusal.the-variants.{Contract, Vector, Function, NoKey, NoColon, NoDigit, TooLarge, NoEquals, Expression, TooLong, TooManyBindings, NoReturn, NoValue, NotExpected, BadStem, OutputTooLong}
+use Rattle.contract.specs.declared.refusal.Refusal.the-variants.{Contract, Vector, Function, Key, NoEquals, Expression, TooLong, TooManyBindings, NoReturn, NoValue, NotExpected, BadStem, OutputTooLong}
 
 abbrev pub refusalNumbered : Refusal → Numbered
 refusalNumbered Contract = plain 1
 refusalNumbered Vector = plain 2
 refusalNumbered (Function e) = functionErrorNumbered e
-refusalNumbered (NoKey place) = located (keyValueNumbered Key.NoKey) place
-refusalNumbered (NoColon place) = located (keyValueNumbered Key.NoColon) place
-refusalNumbered (NoDigit place) = located (keyValueNumbered Key.NoDigit) place
-refusalNumbered (TooLarge place) = located (keyValueNumbered Key.TooLarge) place
+refusalNumbered (Key e place) = located (keyErrorNumbered e) place
 refusalNumbered (NoEquals line) = carrying 12 (line ∷ [])
 refusalNumbered (Expression e line) = located (exprErrorNumbered e) line
 refusalNumbered (TooLong line) = carrying 20 (line ∷ [])

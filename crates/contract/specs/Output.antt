@@ -32,26 +32,19 @@ operationsOf t = opsOf t ++ record { kind = 15; operand = 0 } ∷ []
 unfoldable pub output : List ℕ → ℕ → Tree → List ℕ
 output stem expected t = header stem expected ++ writtenAll (operationsOf t)
 
--- a success has the bytes written, k, p and the value; a contract is document 01's accepted where the answer is one
-pub data Answer : Type 0 where
-  success : ℕ → ℕ → ℕ → ℕ → Answer
-  refusal : Numbered → Answer
-
-abbrev pub assemblyNumbered : Answer → Numbered
-assemblyNumbered (success written k p value) = carrying 0 (written ∷ k ∷ p ∷ value ∷ [])
-assemblyNumbered (refusal r) = r
-
--- the answer, and what is written at the start of the lent buffer
+-- the answer's number and values, and what is written at the start of the lent buffer
 pub record Assembly : Type 0 where
-  pub answer : Answer
+  pub answer : Numbered
   pub text : List ℕ
 
 abbrev pub nothing : Numbered → Assembly
-nothing r = record { answer = refusal r; text = [] }
+nothing r = record { answer = r; text = [] }
 
+-- document 01's accepted: the answer is 0, with the bytes written, k, p and the value
 abbrev pub written : List ℕ → ℕ → Tree → ℕ → Assembly
 written text expected t room =
-    need (leb (length text) room) (nothing (plain 26)) (record { answer = success (length text) (kOf t) (pOf t) expected; text = text })
+    need (leb (length text) room) (nothing (plain 26))
+    (record { answer = carrying 0 (length text ∷ kOf t ∷ pOf t ∷ expected ∷ []); text = text })
 
 abbrev pub named : Outcome (ℕ × Tree) → List ℕ → ℕ → Assembly
 named (refused r) stem room = nothing r

@@ -4,18 +4,15 @@ use mathlib.Core.List.{List}
 use Rattle.numbered.specs.Numbered.{located}
 use Rattle.numbered.specs.Outcome.{Outcome, is, refused, andThen}
 use Rattle.source.specs.declared.vector.KeyValue.{KeyValue}
-use Rattle.source.specs.declared.vector.KeyValue.the-variants.{Is, NoKey, NoColon, NoDigit, TooLarge}
-use Rattle.source.specs.Vector.{vectorNumber, keyValueNumbered}
+use Rattle.source.specs.declared.vector.KeyValue.the-variants.{Is, Refused}
+use Rattle.source.specs.Vector.{vectorNumber, keyErrorNumbered}
 use Rattle.expression.specs.Tree.{num}
 use Rattle.contract.specs.State.{State, bound}
 
 -- a key's number, or the refusal with the key's place
 abbrev pub keyed : KeyValue → ℕ → Outcome ℕ
 keyed (Is n) place = is n
-keyed NoKey place = refused (located (keyValueNumbered NoKey) place)
-keyed NoColon place = refused (located (keyValueNumbered NoColon) place)
-keyed NoDigit place = refused (located (keyValueNumbered NoDigit) place)
-keyed TooLarge place = refused (located (keyValueNumbered TooLarge) place)
+keyed (Refused e) place = refused (located (keyErrorNumbered e) place)
 
 -- the parameter with a place, one more binding
 abbrev pub parameterBound : List ℕ → ℕ → State → List ℕ → Outcome State

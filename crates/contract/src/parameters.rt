@@ -115,10 +115,7 @@ pub fn number_for(vector: &[u8], key: &[u8], place: usize) -> Number
     let value = json_u64_for_key(vector, key);
     match value {
         KeyValue::Is(n) => Number::Is(n),
-        KeyValue::NoKey => Number::Refused(Refusal::NoKey(place)),
-        KeyValue::NoColon => Number::Refused(Refusal::NoColon(place)),
-        KeyValue::NoDigit => Number::Refused(Refusal::NoDigit(place)),
-        KeyValue::TooLarge => Number::Refused(Refusal::TooLarge(place)),
+        KeyValue::Refused(e) => Number::Refused(Refusal::Key(e, place)),
     }
 }
 

@@ -7,6 +7,7 @@ use numbered::carrying_one;
 use numbered::located;
 use numbered::plain;
 use source::function::FunctionError;
+use source::vector::KeyError;
 
 // A key's refusal carries its place among the parameters from 1, or 0 for the expected value; a line's the number of that line.
 // The last two are given by crate assembler alone.
@@ -14,10 +15,7 @@ pub enum Refusal {
     Contract,
     Vector,
     Function(FunctionError),
-    NoKey(usize),
-    NoColon(usize),
-    NoDigit(usize),
-    TooLarge(usize),
+    Key(KeyError, usize),
     NoEquals(usize),
     Expression(ExprError, usize),
     TooLong(usize),
@@ -37,10 +35,7 @@ impl Refusal {
             Refusal::Contract => plain(1),
             Refusal::Vector => plain(2),
             Refusal::Function(e) => e.numbered(),
-            Refusal::NoKey(place) => carrying_one(8, place as u64),
-            Refusal::NoColon(place) => carrying_one(9, place as u64),
-            Refusal::NoDigit(place) => carrying_one(10, place as u64),
-            Refusal::TooLarge(place) => carrying_one(11, place as u64),
+            Refusal::Key(e, place) => located(e.numbered(), place as u64),
             Refusal::NoEquals(line) => carrying_one(12, line as u64),
             Refusal::Expression(e, line) => located(e.numbered(), line as u64),
             Refusal::TooLong(line) => carrying_one(20, line as u64),

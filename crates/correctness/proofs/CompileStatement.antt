@@ -4,54 +4,24 @@ use native.Mathlib.Omega.{arith}
 use mathlib.Core.Path.{_≡_, sym, ap, _∙_}
 use mathlib.Core.List.{List, [], _∷_}
 use mathlib.Core.Bool.{true}
-use lib.Dec.{leb}
 use lib.ListN.{length}
-use Rattle.base.proofs.Tests.{by-bool}
 use Rattle.ops.specs.Ops.{Reading, ops, readText, answerOf, opsOf, kindsOf, operandsOf, onto}
 use Rattle.ops.specs.Numbers.{parsedOpsNumbered}
 use Rattle.checks.specs.Verify.{buffersFit}
-use Rattle.expression.specs.Tree.{Tree, kOf, pOf}
-use Rattle.numbered.specs.declared.Numbered.{Numbered}
-use Rattle.numbered.specs.Numbered.{plain, carrying}
-use Rattle.numbered.specs.Outcome.{Outcome, is, refused}
-use Rattle.contract.specs.Assembled.{assembledTree}
-use Rattle.contract.specs.Output.{stemFits, operationsOf, output, success, refusal, named, assembled}
+use Rattle.expression.specs.Tree.{kOf}
+use Rattle.numbered.specs.Numbered.{carrying}
+use Rattle.contract.specs.Output.{operationsOf}
 use Rattle.correctness.specs.Call.{Compilation, readingOf}
 use Rattle.correctness.specs.Statement.{Hypotheses, Statement, foundBy}
 use Rattle.contract.proofs.Accepted.{accepted-is}
+use Rattle.contract.proofs.Answers.{tells}
 use Rattle.correctness.proofs.Operations.{operations-length}
 use Rattle.correctness.proofs.Reading.{reads-output, onto-full}
 use Rattle.correctness.proofs.Transition.{kinds-length, operands-length, transition}
 
--- what a success of assembly says of its answer and its text
-record Written (stem : List ℕ) (x : Outcome (ℕ × Tree)) (text : List ℕ) (k p v : ℕ) : Type 0 where
-  pub tree : Tree
-  pub assembles : x ≡ is (v, tree)
-  pub k-counts : k ≡ kOf tree
-  pub p-counts : p ≡ pOf tree
-  pub stem-fits : stemFits stem ≡ true
-  pub text-is : text ≡ output stem v tree
-
-module _ (stem : List ℕ) (room n k p v : ℕ) where
-  not-success : {A : Type 0} (r : Numbered) → refusal r ≡ success n k p v → A
-  not-success r e = absurd (let z : _≡_ {A = ℕ} 0 1 = cc in omega arith)
-
-  named-is : (x : Outcome (ℕ × Tree)) → named x stem room .answer ≡ success n k p v → Written stem x (named x stem room .text) k p v
-  named-is (refused r) e = not-success r e
-  named-is (is (expected, t)) e =
-      by-bool (stemFits stem)
-      (λ a. by-bool (leb (length (output stem expected t)) room)
-      (λ b.
-      let q : success (length (output stem expected t)) (kOf t) (pOf t) expected ≡ success n k p v = simp (a, b) at e in
-      let w : expected ≡ v = cc in
-      simp (a, b) (record { tree = t; assembles = ap (λ (i : ℕ). is (i, t)) w; k-counts = cc; p-counts = cc; stem-fits = a; text-is = ap (λ (i : ℕ). output stem i t) w }))
-      (λ b. not-success (plain 26) (simp (a, b) at e)))
-      (λ a. not-success (plain 25) (simp a at e))
-
 pub compile-statement : (x : Compilation) (n k p v : ℕ) → Hypotheses x n k p v → Statement x k p v (foundBy x)
-unfolding assembled
 compile-statement x n k p v a =
-    let d = named-is (x .stem) (length (x .out)) n k p v (assembledTree (x .contract) (x .vector)) (a .accepts) in
+    let d = tells (x .contract) (x .vector) (x .stem) (length (x .out)) (a .accepts) in
     let t = d .tree in
     let acc = accepted-is (x .vector) v t (x .contract) (d .assembles) in
     let kinds = x .run .kinds in

@@ -8,5 +8,4 @@ pub mod Reading
 pub mod Transition
 pub mod CompileStatement
 pub mod Told
-pub mod Sized
 pub mod Examples

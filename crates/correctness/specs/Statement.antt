@@ -21,7 +21,7 @@ use Rattle.perform.specs.Run.{Result}
 use Rattle.expression.specs.Tree.{Tree, valueOf, kOf, pOf}
 use Rattle.numbered.specs.Outcome.{is}
 use Rattle.contract.specs.Assembled.{assembledTree}
-use Rattle.contract.specs.Output.{success, operationsOf}
+use Rattle.contract.specs.Output.{operationsOf}
 use Rattle.correctness.specs.Counting.{price, opAt, costBefore, Short, Fills}
 use Rattle.correctness.specs.Call.{Compilation, Left, assemblyOf, readingOf, transitionOn}
 
@@ -78,10 +78,10 @@ pub record Compiled (t : Tree) (v g used : ℕ) (s m : List ℕ) (r : Ending) : 
       → (i : ℕ) × (j : ℕ) × Short (operationsOf t) g i × Fills (operationsOf t) j
       × (i ≤ j → RefusedWith (outOfGasAt t g i) s r) × (j < i → RefusedWith stackFull s r)
 
--- what is assumed: the contract is document 01's accepted; both program buffers have 2k entries; the context passes;
--- the state and its buffers are admitted, neither 34 nor 43 applying
+-- what is assumed: the contract is document 01's accepted, since assembly answers 0; both program buffers have 2k entries; the context
+-- passes; the state and its buffers are admitted, neither 34 nor 43 applying
 pub record Hypotheses (x : Compilation) (n k p v : ℕ) : Type 0 where
-  pub accepts : assemblyOf x .answer ≡ success n k p v
+  pub accepts : assemblyOf x .answer ≡ carrying 0 (n ∷ k ∷ p ∷ v ∷ [])
   pub kindsRoom : length (x .run .kinds) ≡ 2 * k
   pub operandsRoom : length (x .run .operands) ≡ 2 * k
   pub passes : x .context ≡ gate.Passed

@@ -9,7 +9,7 @@ use Rattle.ops.specs.Ops.{readText, answerOf}
 use Rattle.ops.specs.Numbers.{parsedOpsNumbered}
 use Rattle.context.specs.Gate.{gateOf, gateNumbered}
 use Rattle.perform.specs.Numbers.{answerNumbered}
-use Rattle.contract.specs.Output.{Assembly, assembled, assemblyNumbered}
+use Rattle.contract.specs.Output.{Assembly, assembled}
 use Rattle.correctness.specs.Call.{Compilation}
 use Rattle.compile.specs.Numbers.{numbered}
 use Rattle.compile.specs.Compile.{compileOf}
@@ -47,7 +47,7 @@ leftToRight = ascii "fn f () {\n  return 8 / 2 / 2\n}\n"
 
 pub record Bench : Type 0 where
   -- E1: this assembly, k 3, p 2; its run with limit 1,000; and both through `compile`
-  pub e1 : assemblyNumbered (tallyAssembled .answer) ≡ carrying 0 (67 ∷ 3 ∷ 2 ∷ 24 ∷ [])
+  pub e1 : tallyAssembled .answer ≡ carrying 0 (67 ∷ 3 ∷ 2 ∷ 24 ∷ [])
   pub e1-text : tallyAssembled .text ≡ tallyOps
   pub e1-run : answerNumbered (plainly tallyOps 1000 .answer) ≡ carrying 0 (7 ∷ 6 ∷ 1 ∷ 0 ∷ [])
   pub e1-stack : plainly tallyOps 1000 .stack ≡ 24 ∷ replicate 4095 0
@@ -78,10 +78,8 @@ pub record Bench : Type 0 where
   -- E8: `Push` alone is 30
   pub e8 : parsedOpsNumbered (answerOf (readText (ascii "Push") 4096)) ≡ carrying 30 (1 ∷ 0 ∷ 4 ∷ [])
   -- E9: `7 - 2 * 3` is 1, `8 / 2 / 2` is 2
-  pub e9-precedence : assemblyNumbered (assembled precedence (ascii "{\"expected\": 1}") (ascii "f") 4096 .answer)
-      ≡ carrying 0 (62 ∷ 3 ∷ 3 ∷ 1 ∷ [])
-  pub e9-left : assemblyNumbered (assembled leftToRight (ascii "{\"expected\": 2}") (ascii "f") 4096 .answer)
-      ≡ carrying 0 (62 ∷ 3 ∷ 2 ∷ 2 ∷ [])
+  pub e9-precedence : assembled precedence (ascii "{\"expected\": 1}") (ascii "f") 4096 .answer ≡ carrying 0 (62 ∷ 3 ∷ 3 ∷ 1 ∷ [])
+  pub e9-left : assembled leftToRight (ascii "{\"expected\": 2}") (ascii "f") 4096 .answer ≡ carrying 0 (62 ∷ 3 ∷ 2 ∷ 2 ∷ [])
   -- E10: 64 `A` against 64 `a` is 40
   pub e10 : gateNumbered (gateOf (ascii "atc") (ascii "devnet") (replicate 64 65) (ascii "1") (ascii "2")
       (replicate 64 97) (ascii "1") (ascii "2")) ≡ plain 40

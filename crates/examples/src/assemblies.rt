@@ -2,9 +2,8 @@
 ghost use mathlib.Core.Path.{_≡_};
 ghost use mathlib.Core.List.{[], _∷_};
 ghost use Rattle.ops.specs.Ops.{onto};
-ghost use Rattle.assembler.specs.Answers.{answerOf};
+ghost use Rattle.assembler.specs.Answers.{answerNumbered};
 ghost use Rattle.numbered.specs.Numbered.{carrying};
-ghost use Rattle.contract.specs.Output.{assemblyNumbered};
 ghost use Rattle.examples.specs.Numbers.{Gives};
 ghost use Rattle.examples.specs.Runs.{zeros};
 ghost use Rattle.examples.specs.Bench.{tallyOps};
@@ -13,7 +12,7 @@ use assembler::assemble;
 
 pub fn tally(out: &mut [u8; 4096]) -> Answer
     requires { ⌜ now out ≡ zeros ⌝ }
-    ensures { λ a. ⌜ Gives (assemblyNumbered (answerOf a)) (carrying 0 (67 ∷ 3 ∷ 2 ∷ 24 ∷ []))
+    ensures { λ a. ⌜ Gives (answerNumbered a) (carrying 0 (67 ∷ 3 ∷ 2 ∷ 24 ∷ []))
         (now (out .exit)) (onto tallyOps zeros) ⌝ }
 {
     assemble(
@@ -25,7 +24,7 @@ pub fn tally(out: &mut [u8; 4096]) -> Answer
 }
 
 pub fn precedence() -> Answer
-    ensures { λ a. ⌜ assemblyNumbered (answerOf a) ≡ carrying 0 (62 ∷ 3 ∷ 3 ∷ 1 ∷ []) ⌝ }
+    ensures { λ a. ⌜ answerNumbered a ≡ carrying 0 (62 ∷ 3 ∷ 3 ∷ 1 ∷ []) ⌝ }
 {
     let mut out = [0u8; 4096];
     assemble(
@@ -37,7 +36,7 @@ pub fn precedence() -> Answer
 }
 
 pub fn left_to_right() -> Answer
-    ensures { λ a. ⌜ assemblyNumbered (answerOf a) ≡ carrying 0 (62 ∷ 3 ∷ 2 ∷ 2 ∷ []) ⌝ }
+    ensures { λ a. ⌜ answerNumbered a ≡ carrying 0 (62 ∷ 3 ∷ 2 ∷ 2 ∷ []) ⌝ }
 {
     let mut out = [0u8; 4096];
     assemble(

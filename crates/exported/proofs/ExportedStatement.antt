@@ -5,7 +5,7 @@ use mathlib.Core.Path.{_≡_, refl, sym, ap, subst, _∙_}
 use mathlib.Core.List.{List, [], _∷_}
 use mathlib.Core.Bool.{true}
 use borrow.Author.Tests.{eq-eqb, le-leb}
-use lib.ListN.{length, getD, take, drop}
+use lib.ListN.{length, take, drop}
 use lib.Seq.{take-at}
 use Rattle.numbered.specs.declared.Numbered.{Numbered}
 use Rattle.numbered.specs.Numbered.{carrying}
@@ -16,12 +16,10 @@ use Rattle.context.specs.Gate.{gateNumbered}
 use Rattle.ops.specs.Ops.{opsOf, kindsOf, operandsOf, onto}
 use Rattle.checks.specs.Verify.{buffersFit}
 use Rattle.perform.specs.Numbers.{answerNumbered}
-use Rattle.contract.specs.Output.{Answer, success, refusal, assemblyNumbered}
-use Rattle.assembler.proofs.Bounds.{Refuses, refuses}
+use Rattle.contract.proofs.Answers.{tells}
 use Rattle.correctness.specs.Call.{Compilation, assemblyOf, readingOf, withProgram, transitionOn}
 use Rattle.correctness.specs.Statement.{Found, Hypotheses, Statement, foundBy, foundIn, usedAfter}
 use Rattle.correctness.proofs.CompileStatement.{compile-statement}
-use Rattle.correctness.proofs.Sized.{sized-as}
 use Rattle.correctness.proofs.Told.{used-told}
 use Rattle.atc_vm.specs.Words.{Tells}
 use Rattle.atc_vm.specs.Calls.{Read, Ran}
@@ -30,17 +28,6 @@ use Rattle.exported.specs.Exports.{Given, InRow, Lends}
 -- what an export tells is a number
 tells-is : {n m : Numbered} → Tells n (m .words) (m .number) → n ≡ m
 tells-is {n} {m} t = λ i. record { number = sym (t .number) i; words = sym (t .words) i }
-
--- assembly's refusals are 1 to 26, so 0 is a success, with its four values
-success-told : (a : Answer) (n k p v : ℕ) → Refuses 26 a → assemblyNumbered a ≡ carrying 0 (n ∷ k ∷ p ∷ v ∷ []) → a ≡ success n k p v
-success-told (refusal r) n k p v h e = absurd (let z : r .number ≡ 0 = ap (λ (x : Numbered). x .number) e in omega arith)
-success-told (success n′ k′ p′ v′) n k p v h e =
-    let word : (i : ℕ) → getD (carrying 0 (n′ ∷ k′ ∷ p′ ∷ v′ ∷ []) .words) i 0 ≡ getD (carrying 0 (n ∷ k ∷ p ∷ v ∷ []) .words) i 0 = λ i. ap (λ (x : Numbered). getD (x .words) i 0) e in
-    let a : n′ ≡ n = word 0 in
-    let b : k′ ≡ k = word 1 in
-    let c : p′ ≡ p = word 2 in
-    let d : v′ ≡ v = word 3 in
-    λ i. success (a i) (b i) (c i) (d i)
 
 gate-passed : (g : Gate) → gateNumbered g .number ≡ 0 → g ≡ Passed
 gate-passed Passed e = refl
@@ -61,8 +48,8 @@ module _ (x : Compilation) (n k p v : ℕ) (y : Given) (row : InRow x n y) (lend
   abbrev vs : List ℕ
   vs = y .left .operands
 
-  accepts : assemblyOf x .answer ≡ success n k p v
-  accepts = success-told (assemblyOf x .answer) n k p v (refuses (x .contract) (x .vector) (x .stem) (length (x .out))) (tells-is (row .assembles .tells) ∙ lends .accepts)
+  accepts : assemblyOf x .answer ≡ carrying 0 (n ∷ k ∷ p ∷ v ∷ [])
+  accepts = tells-is (row .assembles .tells) ∙ lends .accepts
 
   hypotheses : Hypotheses x n k p v
   hypotheses = record {
@@ -78,7 +65,7 @@ module _ (x : Compilation) (n k p v : ℕ) (y : Given) (row : InRow x n y) (lend
   text-is : take n (y .left .out) ≡ assemblyOf x .text
   text-is =
       let text = assemblyOf x .text in
-      ap (take n) (row .assembles .buffer) ∙ take-at text (drop (length text) (x .out)) n (sized-as (x .contract) (x .vector) (x .stem) (length (x .out)) (sym accepts))
+      ap (take n) (row .assembles .buffer) ∙ take-at text (drop (length text) (x .out)) n (tells (x .contract) (x .vector) (x .stem) (length (x .out)) accepts .size)
 
   reads : Read (assemblyOf x .text) (x .run .kinds) (x .run .operands) ks vs (y .reading .words) (y .reading .number)
   reads = subst (λ (l : List ℕ). Read l (x .run .kinds) (x .run .operands) ks vs (y .reading .words) (y .reading .number)) text-is (row .reads)

@@ -5,7 +5,9 @@ use mathlib.Core.List.{List, [], _∷_}
 use Rattle.base.specs.Code.Cursor.{visited}
 use Rattle.source.specs.declared.function.FunctionError.the-variants.{NoFunction, NoParameters, UnclosedParameters, NoBody, UnclosedBody}
 use Rattle.source.specs.declared.function.Function.the-variants.{Found, Refused}
-use Rattle.source.specs.declared.vector.KeyValue.the-variants.{Is, NoKey, NoColon, NoDigit, TooLarge}
+use Rattle.source.specs.declared.vector.KeyError.the-variants.{NoKey, NoColon, NoDigit, TooLarge}
+use Rattle.source.specs.declared.vector.KeyValue.the-variants as Key
+use Rattle.source.specs.declared.vector.KeyValue.the-variants.{Is}
 use Rattle.source.specs.Function.{functionOf}
 use Rattle.source.specs.Parameters.{parameters}
 use Rattle.source.specs.Code.Cursor.{parameterAt, visit}
@@ -89,19 +91,19 @@ first-key : vectorNumber (0x22 ∷ 0x61 ∷ 0x22 ∷ 0x3A ∷ 0x31 ∷ 0x2C ∷ 
 first-key = refl
 
 -- `a":1 "a:1`, `a`
-no-key : vectorNumber (0x61 ∷ 0x22 ∷ 0x3A ∷ 0x31 ∷ 0x20 ∷ 0x22 ∷ 0x61 ∷ 0x3A ∷ 0x31 ∷ []) (0x61 ∷ []) ≡ NoKey
+no-key : vectorNumber (0x61 ∷ 0x22 ∷ 0x3A ∷ 0x31 ∷ 0x20 ∷ 0x22 ∷ 0x61 ∷ 0x3A ∷ 0x31 ∷ []) (0x61 ∷ []) ≡ Key.Refused NoKey
 no-key = refl
 
 -- `:"a"1`, `a`
-no-colon : vectorNumber (0x3A ∷ 0x22 ∷ 0x61 ∷ 0x22 ∷ 0x31 ∷ []) (0x61 ∷ []) ≡ NoColon
+no-colon : vectorNumber (0x3A ∷ 0x22 ∷ 0x61 ∷ 0x22 ∷ 0x31 ∷ []) (0x61 ∷ []) ≡ Key.Refused NoColon
 no-colon = refl
 
 -- `"a":-1`, `a`
-no-digit : vectorNumber (0x22 ∷ 0x61 ∷ 0x22 ∷ 0x3A ∷ 0x2D ∷ 0x31 ∷ []) (0x61 ∷ []) ≡ NoDigit
+no-digit : vectorNumber (0x22 ∷ 0x61 ∷ 0x22 ∷ 0x3A ∷ 0x2D ∷ 0x31 ∷ []) (0x61 ∷ []) ≡ Key.Refused NoDigit
 no-digit = refl
 
 -- `"a":18446744073709551616`, `a`
-too-large : vectorNumber (0x22 ∷ 0x61 ∷ 0x22 ∷ 0x3A ∷ 0x31 ∷ 0x38 ∷ 0x34 ∷ 0x34 ∷ 0x36 ∷ 0x37 ∷ 0x34 ∷ 0x34 ∷ 0x30 ∷ 0x37 ∷ 0x33 ∷ 0x37 ∷ 0x30 ∷ 0x39 ∷ 0x35 ∷ 0x35 ∷ 0x31 ∷ 0x36 ∷ 0x31 ∷ 0x36 ∷ []) (0x61 ∷ []) ≡ TooLarge
+too-large : vectorNumber (0x22 ∷ 0x61 ∷ 0x22 ∷ 0x3A ∷ 0x31 ∷ 0x38 ∷ 0x34 ∷ 0x34 ∷ 0x36 ∷ 0x37 ∷ 0x34 ∷ 0x34 ∷ 0x30 ∷ 0x37 ∷ 0x33 ∷ 0x37 ∷ 0x30 ∷ 0x39 ∷ 0x35 ∷ 0x35 ∷ 0x31 ∷ 0x36 ∷ 0x31 ∷ 0x36 ∷ []) (0x61 ∷ []) ≡ Key.Refused TooLarge
 too-large = refl
 
 -- the largest, behind a tab and with a zero in front

@@ -10,17 +10,18 @@ use Rattle.search.specs.First.{firstAt}
 use Rattle.trim.specs.Trim.{startTrimmed}
 use Rattle.decimal.specs.Decimal.{digits}
 use Rattle.source.specs.Vector.{quoted, ofDigits, vectorNumber}
-use Rattle.source.specs.declared.vector.KeyValue.the-variants.{NoKey, NoColon}
+use Rattle.source.specs.declared.vector.KeyError.the-variants.{NoKey, NoColon}
+use Rattle.source.specs.declared.vector.KeyValue.the-variants.{Refused}
 
 pub quoted-length : (key : List ℕ) → length (quoted key) ≡ length key + 2
 quoted-length key = simp length-append (omega arith)
 
 module _ (s key : List ℕ) where
-  pub no-key : firstAt (quoted key) s 0 ≡ Nothing → vectorNumber s key ≡ NoKey
+  pub no-key : firstAt (quoted key) s 0 ≡ Nothing → vectorNumber s key ≡ Refused NoKey
   no-key e = rw e
 
   module _ (at : ℕ) (e : firstAt (quoted key) s 0 ≡ At at) where
-    pub no-colon : firstAt (ascii ":") s (at + length (quoted key)) ≡ Nothing → vectorNumber s key ≡ NoColon
+    pub no-colon : firstAt (ascii ":") s (at + length (quoted key)) ≡ Nothing → vectorNumber s key ≡ Refused NoColon
     no-colon f = rw (e, f)
 
     pub number-behind : (colon : ℕ) → firstAt (ascii ":") s (at + length (quoted key)) ≡ At colon → vectorNumber s key ≡ ofDigits (digits (startTrimmed (drop (colon + 1) s)))

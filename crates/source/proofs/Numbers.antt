@@ -12,15 +12,16 @@ use Rattle.decimal.specs.Code.Digits.{capped}
 use Rattle.decimal.specs.declared.Value.{Value}
 use Rattle.decimal.specs.declared.Value.the-variants as Value
 use Rattle.source.specs.Vector.{ofDigits}
+use Rattle.source.specs.declared.vector.KeyError.the-variants.{NoDigit, TooLarge}
 use Rattle.source.specs.declared.vector.KeyValue.{KeyValue}
-use Rattle.source.specs.declared.vector.KeyValue.the-variants.{Is, NoDigit, TooLarge}
+use Rattle.source.specs.declared.vector.KeyValue.the-variants.{Is, Refused}
 
 -- the same answer in two types
 abbrev pub asKeyValue : Value → KeyValue
 asKeyValue (Value.Is n) = Is n
-asKeyValue Value.TooLarge = TooLarge
+asKeyValue Value.TooLarge = Refused TooLarge
 
-pub no-digit : (ds : List ℕ) → length ds ≡ 0 → ofDigits ds ≡ NoDigit
+pub no-digit : (ds : List ℕ) → length ds ≡ 0 → ofDigits ds ≡ Refused NoDigit
 no-digit [] e = refl
 no-digit (d ∷ ds) e = absurd (omega arith)
 
@@ -28,7 +29,7 @@ pub some-digits : (ds : List ℕ) → (length ds ≡ 0 → ⊥) → ofDigits ds 
 some-digits [] h = absurd (h refl)
 some-digits (d ∷ ds) h = either (value (d ∷ ds)) (ltb (value (d ∷ ds)) (2 ^ 64))
   where
-    either : (n : ℕ) (b : Bool) → cond b (Is n) TooLarge ≡ asKeyValue (cond b (Value.Is n) Value.TooLarge)
+    either : (n : ℕ) (b : Bool) → cond b (Is n) (Refused TooLarge) ≡ asKeyValue (cond b (Value.Is n) Value.TooLarge)
     either n true = refl
     either n false = refl
 

@@ -11,8 +11,10 @@ use Rattle.search.specs.First.{firstAt}
 use Rattle.trim.specs.Trim.{startTrimmed}
 use Rattle.decimal.specs.Decimal.{digits, value}
 use Rattle.source.specs.Found.{foundOr}
+use Rattle.source.specs.declared.vector.KeyError.{KeyError}
+use Rattle.source.specs.declared.vector.KeyError.the-variants.{NoKey, NoColon, NoDigit, TooLarge}
 use Rattle.source.specs.declared.vector.KeyValue.{KeyValue}
-use Rattle.source.specs.declared.vector.KeyValue.the-variants.{Is, NoKey, NoColon, NoDigit, TooLarge}
+use Rattle.source.specs.declared.vector.KeyValue.the-variants.{Is, Refused}
 
 -- a key in double quotes
 abbrev pub quoted : List ℕ → List ℕ
@@ -20,20 +22,23 @@ quoted key = ascii "\"" ++ key ++ ascii "\""
 
 -- the number that digits write, where there are any and it is below 2 ^ 64
 abbrev pub ofDigits : List ℕ → KeyValue
-ofDigits [] = NoDigit
-ofDigits (d ∷ ds) = cond (ltb (value (d ∷ ds)) (2 ^ 64)) (Is (value (d ∷ ds))) TooLarge
+ofDigits [] = Refused NoDigit
+ofDigits (d ∷ ds) = cond (ltb (value (d ∷ ds)) (2 ^ 64)) (Is (value (d ∷ ds))) (Refused TooLarge)
 
 -- the first occurrence of the key in double quotes, the first `:` after it, White_Space, digits
 abbrev pub vectorNumber : List ℕ → List ℕ → KeyValue
 vectorNumber s key =
-    foundOr (firstAt (quoted key) s 0) NoKey (λ at.
-    foundOr (firstAt (ascii ":") s (at + length (quoted key))) NoColon (λ colon.
+    foundOr (firstAt (quoted key) s 0) (Refused NoKey) (λ at.
+    foundOr (firstAt (ascii ":") s (at + length (quoted key))) (Refused NoColon) (λ colon.
     ofDigits (digits (startTrimmed (drop (colon + 1) s)))))
 
 -- document 01's number of each case; the place of the key is the caller's to add
+abbrev pub keyErrorNumbered : KeyError → Numbered
+keyErrorNumbered NoKey = plain 8
+keyErrorNumbered NoColon = plain 9
+keyErrorNumbered NoDigit = plain 10
+keyErrorNumbered TooLarge = plain 11
+
 abbrev pub keyValueNumbered : KeyValue → Numbered
 keyValueNumbered (Is n) = carrying 0 (n ∷ [])
-keyValueNumbered NoKey = plain 8
-keyValueNumbered NoColon = plain 9
-keyValueNumbered NoDigit = plain 10
-keyValueNumbered TooLarge = plain 11
+keyValueNumbered (Refused e) = keyErrorNumbered e

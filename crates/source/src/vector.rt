@@ -1,7 +1,7 @@
 // The vector's numbers.
 ghost use mathlib.Core.Path.{_≡_};
 ghost use Rattle.decimal.specs.Decimal.{digits};
-ghost use Rattle.source.specs.Vector.{ofDigits, vectorNumber, keyValueNumbered};
+ghost use Rattle.source.specs.Vector.{ofDigits, vectorNumber, keyErrorNumbered, keyValueNumbered};
 use crate::key::find_quoted;
 use decimal::Value;
 use numbered::Numbered;
@@ -9,12 +9,29 @@ use numbered::carrying_one;
 use numbered::plain;
 use search::Found;
 
-pub enum KeyValue {
-    Is(u64),
+pub enum KeyError {
     NoKey,
     NoColon,
     NoDigit,
     TooLarge,
+}
+
+impl KeyError {
+    pub fn numbered(self) -> Numbered
+        ensures { λ r. ⌜ r ≡ keyErrorNumbered self ⌝ }
+    {
+        match self {
+            KeyError::NoKey => plain(8),
+            KeyError::NoColon => plain(9),
+            KeyError::NoDigit => plain(10),
+            KeyError::TooLarge => plain(11),
+        }
+    }
+}
+
+pub enum KeyValue {
+    Is(u64),
+    Refused(KeyError),
 }
 
 impl KeyValue {
@@ -23,10 +40,7 @@ impl KeyValue {
     {
         match self {
             KeyValue::Is(n) => carrying_one(0, n),
-            KeyValue::NoKey => plain(8),
-            KeyValue::NoColon => plain(9),
-            KeyValue::NoDigit => plain(10),
-            KeyValue::TooLarge => plain(11),
+            KeyValue::Refused(e) => e.numbered(),
         }
     }
 }
@@ -37,12 +51,12 @@ pub fn json_u64_for_key(vector: &[u8], key: &[u8]) -> KeyValue
 {
     let found = find_quoted(vector, key);
     let Found::At(at) = found else {
-        return KeyValue::NoKey;
+        return KeyValue::Refused(KeyError::NoKey);
     };
     let after_key = at + (key.len() + 2);
     let colon = search::find_byte(vector, b':', after_key);
     let Found::At(colon_at) = colon else {
-        return KeyValue::NoColon;
+        return KeyValue::Refused(KeyError::NoColon);
     };
     let start = colon_at + 1;
     leading_number(trim::trim_start(&vector[start..]))
@@ -54,11 +68,11 @@ fn leading_number(text: &[u8]) -> KeyValue
 {
     let run = decimal::digits_at(text, 0);
     if run.len == 0 {
-        return KeyValue::NoDigit;
+        return KeyValue::Refused(KeyError::NoDigit);
     }
     let value = run.value;
     match value {
         Value::Is(n) => KeyValue::Is(n),
-        Value::TooLarge => KeyValue::TooLarge,
+        Value::TooLarge => KeyValue::Refused(KeyError::TooLarge),
     }
 }

@@ -1,5 +1,5 @@
 -- `atc_vm::atc_assemble` meets its contract: what the call gives is told.
-use Rattle.contract.specs.Output.{assemblyNumbered}
+use Rattle.numbered.specs.declared.Numbered.{Numbered}
 use Rattle.atc_vm.proofs.Telling.{told}
 use borrow.Author.Needs.{needs}
 use Rattle.atc_vm.proofs.atc_assemble.Statement.{statement}
@@ -20,7 +20,7 @@ same-length c = search needs
 returns : tie.Need-returns
 returns c =
     let p = c .before .before .before .before .before .assemble .ensures in
-    record { tells = told assemblyNumbered (p .answer) (c .before .numbered .ensures) (c .tell .ensures); buffer = p .buffer }
+    record { tells = told (λ (n : Numbered). n) (p .answer) (c .before .numbered .ensures) (c .tell .ensures); buffer = p .buffer }
 
 pub atc-assemble-spec : {M : Type 1} → statement M
 atc-assemble-spec =

@@ -1,10 +1,9 @@
 -- `assemble::say::say` meets its contract: the text where assembly succeeds, the message where it is refused.
 -- Assumes nothing.
 use mathlib.Core.Path.{ap}
-use lib.ListN.{length, getD}
-use denote.Ref.{now}
+use lib.ListN.{getD}
 use Rattle.numbered.specs.declared.Numbered.{Numbered}
-use Rattle.assemble.proofs.Saying.{sized, says-text, says-message}
+use Rattle.assemble.proofs.Saying.{says-text, says-message}
 use borrow.Author.Needs.{needs}
 use Rattle.assemble.proofs.say.say.Statement.{statement}
 use Rattle.assemble.proofs.say.say.Tie as tie
@@ -31,13 +30,13 @@ same-length : tie.Need-same-length
 same-length c = search needs
 
 returns : tie.Need-returns
-returns c = says-message _ (sized (now (c .before .before .before .before .before .before .before .before .before .before .before .before .before .before .before .before .before .args .contract)) (now (c .before .before .before .before .before .before .before .before .before .before .before .before .before .before .before .before .before .args .vector)) (now (c .before .before .before .before .before .before .before .before .before .before .before .before .before .before .before .before .before .args .stem)) (length (now (c .before .before .before .before .before .before .before .before .before .before .before .before .before .before .before .before .before .args .out)))) _ _ _ (c .before .before .before .before .before .before .before .before .before .before .before .assemble .ensures) _ (c .before .before .before .before .before .before .before .answer .given .1) _ _ _ _ (c .before .before .before .before .before .before .before .before .before .before .before .before .before .before .before .before .before .pre) (c .before .before .message .ensures .0) (ap (λ (n : Numbered). n .number) (c .before .before .before .before .before .numbered .ensures)) (ap (λ (n : Numbered). getD (n .words) 0 0) (c .before .before .before .before .before .numbered .ensures)) (c .before .before .message .ensures .1)
+returns c = says-message _ _ _ _ _ _ (c .before .before .before .before .before .before .before .before .before .before .before .assemble .ensures) _ (c .before .before .before .before .before .before .before .answer .given .1) _ _ _ _ (c .before .before .before .before .before .before .before .before .before .before .before .before .before .before .before .before .before .pre) (c .before .before .message .ensures .0) (ap (λ (n : Numbered). n .number) (c .before .before .before .before .before .numbered .ensures)) (ap (λ (n : Numbered). getD (n .words) 0 0) (c .before .before .before .before .before .numbered .ensures)) (c .before .before .message .ensures .1)
 
 same-length-2 : tie.Need-same-length-2
 same-length-2 c = search needs
 
 returns-2 : tie.Need-returns-2
-returns-2 c = says-text _ (sized (now (c .before .before .before .before .before .before .before .before .before .before .before .args .contract)) (now (c .before .before .before .before .before .before .before .before .before .before .before .args .vector)) (now (c .before .before .before .before .before .before .before .before .before .before .before .args .stem)) (length (now (c .before .before .before .before .before .before .before .before .before .before .before .args .out)))) _ _ _ (c .before .before .before .before .before .assemble .ensures) _ _ _ _ (c .before .answer2 .given .1)
+returns-2 c = says-text _ _ _ _ _ _ (c .before .before .before .before .before .assemble .ensures) _ _ _ _ (c .before .answer2 .given .1)
 
 pub say-spec : {M : Type 1} → statement M
 say-spec =

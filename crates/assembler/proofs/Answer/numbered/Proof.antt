@@ -1,8 +1,6 @@
 -- The number and values of each answer, case by case.
 use Rattle.numbered.proofs.Told.{told}
-use Rattle.contract.specs.Output.{assemblyNumbered}
-use Rattle.assembler.specs.declared.Answer.{Answer}
-use Rattle.assembler.specs.Answers.{answerOf}
+use Rattle.assembler.specs.Answers.{answerNumbered}
 use borrow.Author.Needs.{needs}
 use Rattle.assembler.proofs.Answer.numbered.Statement.{statement}
 use Rattle.assembler.proofs.Answer.numbered.Tie as tie
@@ -15,5 +13,5 @@ numbered-spec =
     (λ c κs. search needs)
     (λ c. search needs)
     (λ c κs. search needs)
-    (λ c. told (λ (a : Answer). assemblyNumbered (answerOf a)) (c .before .before .self .given .1) (c .carrying-four .ensures))
-    (λ c. told (λ (a : Answer). assemblyNumbered (answerOf a)) (c .before .before .self2 .given .1) (c .numbered .ensures)))
+    (λ c. told answerNumbered (c .before .before .self .given .1) (c .carrying-four .ensures))
+    (λ c. told answerNumbered (c .before .before .self2 .given .1) (c .numbered .ensures)))

@@ -13,32 +13,14 @@ json-u64-for-key-requires c κs = search needs
 enum-known-value : tie.Need-enum-known-value
 enum-known-value c = search needs
 
-enum-told : tie.Need-enum-told
-enum-told c = search needs
-
-enum-told-2 : tie.Need-enum-told-2
-enum-told-2 c = search needs
-
-enum-told-3 : tie.Need-enum-told-3
-enum-told-3 c = search needs
-
-enum-told-4 : tie.Need-enum-told-4
-enum-told-4 c = search needs
+enum-known-value-2 : tie.Need-enum-known-value-2
+enum-known-value-2 c = search needs
 
 returns : tie.Need-returns
 returns c = ap (λ (x : KeyValue). keyed x (c .before .before .before .before .before .before .args .place)) (sym (c .before .value .given .1) ∙ c .before .before .before .json-u64-for-key .ensures .0)
 
 returns-2 : tie.Need-returns-2
-returns-2 c = ap (λ (x : KeyValue). keyed x (c .before .before .before .before .before .args .place)) (sym (c .enum-told .given .1) ∙ c .before .before .json-u64-for-key .ensures .0)
-
-returns-3 : tie.Need-returns-3
-returns-3 c = ap (λ (x : KeyValue). keyed x (c .before .before .before .before .before .args .place)) (sym (c .enum-told2 .given .1) ∙ c .before .before .json-u64-for-key .ensures .0)
-
-returns-4 : tie.Need-returns-4
-returns-4 c = ap (λ (x : KeyValue). keyed x (c .before .before .before .before .before .args .place)) (sym (c .enum-told3 .given .1) ∙ c .before .before .json-u64-for-key .ensures .0)
-
-returns-5 : tie.Need-returns-5
-returns-5 c = ap (λ (x : KeyValue). keyed x (c .before .before .before .before .before .args .place)) (sym (c .enum-told4 .given .1) ∙ c .before .before .json-u64-for-key .ensures .0)
+returns-2 c = ap (λ (x : KeyValue). keyed x (c .before .before .before .before .before .before .args .place)) (sym (c .before .value2 .given .1) ∙ c .before .before .before .json-u64-for-key .ensures .0)
 
 pub number-for-spec : {M : Type 1} → statement M
 number-for-spec =
@@ -46,12 +28,6 @@ number-for-spec =
     (tie.spec
     json-u64-for-key-requires
     enum-known-value
-    enum-told
-    enum-told-2
-    enum-told-3
-    enum-told-4
+    enum-known-value-2
     returns
-    returns-2
-    returns-3
-    returns-4
-    returns-5)
+    returns-2)

@@ -1,6 +1,5 @@
 -- `left_to_right` is the second of E9: what the call ensures, and the group's figures.
-use mathlib.Core.Path.{ap, _∙_}
-use Rattle.contract.specs.Output.{assemblyNumbered}
+use mathlib.Core.Path.{_∙_}
 use Rattle.examples.proofs.Bench.{bench}
 use borrow.Author.Needs.{needs}
 use Rattle.examples.proofs.assemblies.left_to_right.Statement.{statement}
@@ -22,7 +21,7 @@ assemble-requires : tie.Need-assemble-requires
 assemble-requires c κs = search needs
 
 returns : tie.Need-returns
-returns c = ap assemblyNumbered (c .before .assemble .ensures .answer) ∙ bench .e9-left
+returns c = c .before .assemble .ensures .answer ∙ bench .e9-left
 
 pub left-to-right-spec : {M : Type 1} → statement M
 left-to-right-spec =
