@@ -1,5 +1,5 @@
 //! The inputs that are timed.
-use crate::assembler::assemble_plain;
+use original::assembler::assemble_plain;
 
 pub struct Contract {
     pub name: &'static str,

@@ -1,18 +1,15 @@
 //! The library beside the original, in one process, by turns on the same inputs: medians of the ratios, in Markdown.
-include!(concat!(env!("OUT_DIR"), "/original.rs"));
 mod inputs;
-#[path = "../../oracle/kinds.rs"]
-#[allow(dead_code)]
-mod kinds;
 mod stack;
 
-use assembler::assemble_plain;
 use atc_vm::sys::{self, Gate, Run};
-use context::{execution_gate, ChainContext};
 use inputs::{Contract, Program};
+use original::assembler::assemble_plain;
+use original::context::{execution_gate, ChainContext};
+use original::vm::Vm;
+use original::{kinds, ops};
 use std::hint::black_box;
 use std::time::Instant;
-use vm::Vm;
 
 const ROUNDS: usize = 15;
 /// Seconds that one side of a round takes at least, by repetition; a call that takes far longer has three rounds.

@@ -1,5 +1,9 @@
 // The cases of crates/replay that read a contract and its vector: what the original's `find_function` and
-// `json_u64_for_key` answer. Both are private there, so this text is compiled behind the original's, messages.rs and words.rs (oracle/make).
+// `json_u64_for_key` answer.
+use crate::words::words;
+use crate::Made;
+use original::assembler::private::{find_function, json_u64_for_key};
+use original::numbers::message_number;
 use std::fmt::Write;
 
 struct Cases {
@@ -23,7 +27,7 @@ impl Cases {
                 let names: String = names.iter().map(|n| hex(n) + " ").collect();
                 format!("0 {names}| {}", hex(&body))
             }
-            Err(message) => number(&message).to_string(),
+            Err(message) => message_number(&message).to_string(),
         };
         self.add('F', contract, "", answer);
     }
@@ -31,7 +35,7 @@ impl Cases {
     fn value(&mut self, vector: &str, key: &str) {
         let answer = match json_u64_for_key(vector, key) {
             Ok(n) => format!("0 {n}"),
-            Err(message) => number(&message).to_string(),
+            Err(message) => message_number(&message).to_string(),
         };
         self.add('V', vector, key, answer);
     }
@@ -97,11 +101,9 @@ fn value_cases(c: &mut Cases) {
     }
 }
 
-fn main() {
-    let folder = std::env::args().nth(1).expect("the folder of crates/replay");
+pub fn make() -> Made {
     let mut c = Cases { input: String::new(), output: String::new() };
     function_cases(&mut c);
     value_cases(&mut c);
-    std::fs::write(format!("{folder}/stdin"), c.input).unwrap();
-    std::fs::write(format!("{folder}/stdout"), c.output).unwrap();
+    (c.input.into(), c.output.into())
 }

@@ -2,17 +2,10 @@
 //! The answers come from the original src/ops.rs, line by line and for the whole text. Document 01's additions
 //! (27 for a text that isn't UTF-8, 32 for a full buffer, the place and length of a part) come from std's `str`; cases of 27
 //! and 32 are marked `d`.
-//! oracle/make runs it.
-#![allow(dead_code)]
-#[path = "../../shared/docs/src/src/context.rs"]
-mod context;
-mod kinds;
-#[path = "../../shared/docs/src/src/ops.rs"]
-mod ops;
-#[path = "../../shared/docs/src/src/vm.rs"]
-mod vm;
-use kinds::kind_and_operand;
-use ops::{parse_ops, OpsError};
+use crate::draw::next;
+use crate::Made;
+use original::kinds::kind_and_operand;
+use original::ops::{parse_ops, OpsError};
 use std::fmt::Write;
 
 const LENT: usize = 18;
@@ -120,15 +113,7 @@ impl Cases {
     }
 }
 
-fn next(seed: &mut u64) -> usize {
-    *seed ^= *seed << 13;
-    *seed ^= *seed >> 7;
-    *seed ^= *seed << 17;
-    (*seed >> 11) as usize
-}
-
-fn main() {
-    let folder = std::env::args().nth(1).expect("the folder of crates/ops_vectors");
+pub fn make() -> Made {
     let mut c = Cases::default();
     let takes = |w: &str| matches!(w, "Push" | "Load" | "Store" | "Jump" | "JumpIfNotZero" | "JumpIfZero");
 
@@ -207,7 +192,6 @@ fn main() {
         c.text(&t);
         c.lent(t.as_bytes(), 8, 18);
     }
-    std::fs::write(format!("{folder}/stdin"), &c.input).unwrap();
-    std::fs::write(format!("{folder}/stdout"), &c.output).unwrap();
     println!("{} cases, {} bytes in, {} bytes out", c.count, c.input.len(), c.output.len());
+    (c.input, c.output)
 }

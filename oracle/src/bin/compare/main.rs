@@ -1,12 +1,7 @@
 //! Compares the library with the original, call by call: numbers, carried values, bytes written and bytes not written.
 //! `compare [ROUNDS]`: short inputs once, drawn ones in each round. The seeds are fixed. Exit status 1 on a difference.
-include!(concat!(env!("OUT_DIR"), "/original.rs"));
 mod assemble;
 mod gate;
-#[path = "../../gate_numbers.rs"]
-mod gate_numbers;
-#[path = "../../kinds.rs"]
-mod kinds;
 mod read;
 mod run;
 mod tally;

@@ -1,7 +1,7 @@
-// The cases of crates/replay that call the text floor: what Rust's own `str`, `u64` and slices answer (oracle/make).
-mod words;
+// The cases of crates/replay that call the text floor: what Rust's own `str`, `u64` and slices answer.
+use crate::words::words;
+use crate::Made;
 use std::fmt::Write;
-use words::words;
 
 struct Cases {
     input: String,
@@ -155,8 +155,7 @@ fn number_cases(c: &mut Cases) {
     }
 }
 
-fn main() {
-    let folder = std::env::args().nth(1).expect("the folder of crates/text_vectors");
+pub fn make() -> Made {
     let mut c = Cases { input: String::new(), output: String::new() };
     utf8_cases(&mut c);
     trim_cases(&mut c);
@@ -180,6 +179,5 @@ fn main() {
             c.product(a, b);
         }
     }
-    std::fs::write(format!("{folder}/stdin"), c.input).unwrap();
-    std::fs::write(format!("{folder}/stdout"), c.output).unwrap();
+    (c.input.into(), c.output.into())
 }

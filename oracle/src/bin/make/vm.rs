@@ -3,19 +3,13 @@
 //! The answers of lines that start with `o` are the original's. The gas spent is asked of it as the least limit under which the
 //! run succeeds; the operations executed, and what becomes of lent buffers past items and used slots, can't be asked and are
 //! left open. Lines that start with `d` are copied from oracle/vm_document.txt, which is written by hand from document 01.
-//! oracle/make runs it.
-#![allow(dead_code)]
-#[path = "../../shared/docs/src/src/context.rs"]
-mod context;
-mod gate_numbers;
-mod kinds;
-#[path = "../../shared/docs/src/src/vm.rs"]
-mod vm;
-use context::ChainContext;
-use gate_numbers::context_number;
-use kinds::op;
+use crate::draw::next;
+use crate::Made;
+use original::context::ChainContext;
+use original::kinds::op;
+use original::numbers::context_number;
+use original::vm::{Vm, VmError};
 use std::collections::{BTreeMap, HashSet};
-use vm::{Vm, VmError};
 
 type Operation = (u8, u64);
 
@@ -193,10 +187,7 @@ struct Draw(u64);
 
 impl Draw {
     fn below(&mut self, n: u64) -> u64 {
-        self.0 ^= self.0 << 13;
-        self.0 ^= self.0 >> 7;
-        self.0 ^= self.0 << 17;
-        (self.0 >> 11) % n
+        next(&mut self.0) as u64 % n
     }
 
     fn value(&mut self) -> u64 {
@@ -514,10 +505,8 @@ fn transitions(c: &mut Cases, d: &mut Draw) {
     }
 }
 
-fn main() {
-    let mut words = std::env::args().skip(1);
-    let folder = words.next().expect("the folder of crates/vm_vectors");
-    let document = std::fs::read_to_string(words.next().expect("oracle/vm_document.txt")).unwrap();
+pub fn make(document: &str) -> Made {
+    let document = std::fs::read_to_string(document).unwrap();
     let (mut c, mut d) = (Cases::default(), Draw(88_172_645_463_325_252));
     verifications(&mut c, &mut d);
     kinds(&mut c);
@@ -536,11 +525,10 @@ fn main() {
     let wrong = document.lines().filter(|l| l.starts_with('w')).count();
     counts += &format!("{wrong} of {wrong} wrong on purpose differ\n0 differ\n");
     let text = format!("# Answers of the original.\n{}{document}", c.lines);
-    std::fs::write(format!("{folder}/stdin"), text).unwrap();
-    std::fs::write(format!("{folder}/stdout"), &counts).unwrap();
     print!("{counts}");
     for ((call, number), n) in &c.numbers {
         println!("{call} {number}: {n}");
     }
     println!("{} bytes of the original's, {} of document 01's", c.lines.len(), document.len());
+    (text.into(), counts.into())
 }

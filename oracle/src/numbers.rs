@@ -1,7 +1,7 @@
-// Compiled behind the original's assembler, for source_vectors.rs, assembler_vectors.rs and compare/.
+//! Document 01's numbers of what the original says.
+use crate::context::ContextError;
 
-/// Document 01's number of one of the original's messages.
-pub fn number(message: &str) -> u64 {
+pub fn message_number(message: &str) -> u64 {
     let starts = [
         ("cannot read contract: stream did not contain valid UTF-8", 1),
         ("cannot read vector: stream did not contain valid UTF-8", 2),
@@ -30,4 +30,15 @@ pub fn number(message: &str) -> u64 {
     }
     let found = starts.iter().find(|(start, _)| message.starts_with(start));
     found.unwrap_or_else(|| panic!("no refusal of document 01: {message}")).1
+}
+
+pub fn context_number(e: &ContextError) -> u64 {
+    match e {
+        ContextError::InvalidChainId => 35,
+        ContextError::InvalidNetworkId => 36,
+        ContextError::InvalidGenesisId => 37,
+        ContextError::ProtocolMismatch => 38,
+        ContextError::VmMismatch => 39,
+        ContextError::GenesisMismatch => 40,
+    }
 }

@@ -1,7 +1,8 @@
 //! `assemble`: output, figures, refusals, and the lent buffer.
-use crate::assembler::{assemble, assemble_plain, assemble_text, number, Assembled};
 use crate::tally::*;
 use atc_vm::sys::{self, Answer};
+use original::assembler::{assemble, assemble_plain, assemble_text, Assembled};
+use original::numbers::message_number;
 use std::fs;
 use std::path::PathBuf;
 
@@ -29,7 +30,7 @@ fn check(c: &Case, out: &mut Buffer<u8>) -> Result<Seen, String> {
     let (wanted, carried, front, seen) = match &original {
         Assembled::Made { .. } if made > room => (26, [0; 4], "", Seen::Added(26)),
         Assembled::Made { text, k, p, value } => (0, [made as u64, *k, *p, *value], text.as_str(), Seen::Compared(0)),
-        Assembled::Refused { message, carried } => (number(message), [*carried, 0, 0, 0], "", Seen::Compared(number(message))),
+        Assembled::Refused { message, carried } => (message_number(message), [*carried, 0, 0, 0], "", Seen::Compared(message_number(message))),
         Assembled::Added { number: 0, .. } => return Ok(Seen::Nothing),
         Assembled::Added { number, carried } => (*number, [*carried, 0, 0, 0], "", Seen::Added(*number)),
     };
@@ -84,7 +85,7 @@ impl Comparison {
         let vector = |n: &str| format!("{{{keys}\"expected\":{n}}}");
         let one = vector("1");
         if let Assembled::Refused { message, .. } = assemble_text(contract.as_bytes(), one.as_bytes(), b"t") {
-            if number(&message) == 24 {
+            if message_number(&message) == 24 {
                 self.text(contract, &vector(message.split(' ').nth(3).unwrap()));
             }
         }
@@ -320,7 +321,7 @@ impl Comparison {
             let (contract, keys) = drawn_contract(d);
             let found = assemble_text(contract.as_bytes(), format!("{{{keys}\"expected\":0}}").as_bytes(), b"t");
             let value = match found {
-                Assembled::Refused { message, .. } if number(&message) == 24 && !d.one_in(20) => message.split(' ').nth(3).unwrap().to_string(),
+                Assembled::Refused { message, .. } if message_number(&message) == 24 && !d.one_in(20) => message.split(' ').nth(3).unwrap().to_string(),
                 _ => d.of(&["0", "1", "18446744073709551615", "18446744073709551616", "x", ""]).to_string(),
             };
             let expected = format!("\"expected\":{}{value}", d.of(&["", "", " ", "\t\n", "\u{2003}", "\u{B}"]));

@@ -1,11 +1,8 @@
 // The cases of crates/replay that call the chain gate: what the original's `execution_gate` answers for eight texts, which
-// stand in one, parted by the byte FF (oracle/make).
-#[path = "../../shared/docs/src/src/context.rs"]
-#[allow(dead_code)]
-mod context;
-mod gate_numbers;
-use context::{execution_gate, ChainContext};
-use gate_numbers::context_number;
+// stand in one, parted by the byte FF.
+use crate::Made;
+use original::context::{execution_gate, ChainContext};
+use original::numbers::context_number;
 use std::fmt::Write;
 
 fn number(t: &[String; 8]) -> u64 {
@@ -33,8 +30,7 @@ fn near(good: &str) -> Vec<String> {
     all
 }
 
-fn main() {
-    let folder = std::env::args().nth(1).expect("a folder for stdin and stdout");
+pub fn make() -> Made {
     let genesis = "0123456789abcdef".repeat(4);
     let good = ["atc", "devnet", &genesis, "p1", "v1", &genesis, "p1", "v1"];
     let mut cases: Vec<[String; 8]> = Vec::new();
@@ -70,6 +66,5 @@ fn main() {
         writeln!(input, "G {hex} ").unwrap();
         writeln!(output, "{}", number(case)).unwrap();
     }
-    std::fs::write(format!("{folder}/stdin"), input).unwrap();
-    std::fs::write(format!("{folder}/stdout"), output).unwrap();
+    (input.into(), output.into())
 }

@@ -1,4 +1,18 @@
-// From here on: not the original's text. Its `assemble` without the files, and what document 01 adds beside it.
+// From here on: not the original's text. Its private functions, its `assemble` without the files, and what document 01 adds beside it.
+
+pub mod private {
+    pub fn tokenize(source: &str) -> Result<Vec<String>, String> {
+        super::tokenize(source)
+    }
+
+    pub fn find_function(source: &str) -> Result<(Vec<String>, String), String> {
+        super::find_function(source)
+    }
+
+    pub fn json_u64_for_key(json: &str, key: &str) -> Result<u64, String> {
+        super::json_u64_for_key(json, key)
+    }
+}
 
 pub enum Assembled {
     Made {

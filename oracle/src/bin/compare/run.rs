@@ -3,14 +3,14 @@
 //! The original gives neither gas spent nor operations executed. The gas spent is the least limit that suffices. Below it
 //! the original names the price and the gas left, so every operation with a price shows as one sum of gas spent
 //! before it; Halt, which is free, shows when every Halt is replaced by a jump to itself.
-use crate::assembler::{assemble_text, Assembled};
 use crate::gate::{self, Texts};
-use crate::gate_numbers::context_number;
-use crate::kinds::{kind_and_operand, op};
-use crate::ops::parse_ops;
 use crate::tally::*;
-use crate::vm::{Op, Vm, VmError};
 use atc_vm::sys::{self, Answer, Run};
+use original::assembler::{assemble_text, Assembled};
+use original::kinds::{kind_and_operand, op};
+use original::numbers::context_number;
+use original::ops::parse_ops;
+use original::vm::{Op, Vm, VmError};
 
 type Program = Vec<(u8, u64)>;
 

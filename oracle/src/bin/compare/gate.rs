@@ -1,8 +1,8 @@
 //! `execution_gate`. Contexts are UTF-8, since the original's are `String`s.
-use crate::context::{execution_gate, ChainContext};
-use crate::gate_numbers::context_number;
 use crate::tally::*;
 use atc_vm::sys;
+use original::context::{execution_gate, ChainContext};
+use original::numbers::context_number;
 
 pub type Texts = [String; 8];
 

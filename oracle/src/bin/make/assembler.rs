@@ -1,13 +1,21 @@
 // Makes the vectors that crates/assembler_vectors replays: its `stdin` (the cases) and its `stdout` (the answers).
-// The answers are those of the original's `assemble`, run on files in a folder of its own; this text is compiled behind the
-// original's and behind messages.rs (oracle/make). The original gives no number: `number` finds document 01's by the message. Nor does it give
+// The answers are those of the original's `assemble`, run on files in a folder of its own. The
+// original gives no number: `message_number` finds document 01's by the message. Nor does it give
 // a key's place, a line, k or p: the place is that of the first key that the original's `json_u64_for_key` refuses, the
 // line the least number of body lines with which `assemble` refuses so, and k and p are counted in the output.
 // What only document 01 answers stands last and is marked (`added_cases`).
 // A stem that is empty can't be made by a file, nor one of 252 to 255 bytes that is accepted (`.ops` is added to it).
-use std::collections::{BTreeMap, HashSet};
+use crate::draw::next;
+use crate::words::{words, words_of};
+use crate::Made;
+use original::assembler::assemble;
+use original::assembler::private::{find_function, json_u64_for_key, tokenize};
+use original::numbers::message_number;
+use std::collections::{BTreeMap, HashMap, HashSet};
 use std::ffi::OsStr;
+use std::fs;
 use std::os::unix::ffi::OsStrExt;
+use std::path::PathBuf;
 
 const ROOM: usize = 16384;
 
@@ -42,7 +50,7 @@ impl Cases {
     }
 
     fn refused(&self, contract: &[u8], vector: &[u8], message: &str) -> String {
-        let number = number(message);
+        let number = message_number(message);
         match number {
             8..=11 => format!("{number} {}", key_place(contract, vector, message)),
             12..=19 => format!("{number} {}", self.line(contract, vector, message)),
@@ -57,7 +65,7 @@ impl Cases {
         for n in 1..=lines.len() {
             let front = format!("fn t({}){{{}}}", names.join(","), lines[..n].concat());
             if let Err(said) = self.original(front.as_bytes(), vector, b"front") {
-                if (12..=19).contains(&crate::number(&said)) {
+                if (12..=19).contains(&message_number(&said)) {
                     assert_eq!(said, message);
                     return n;
                 }
@@ -83,7 +91,7 @@ impl Cases {
             Err(message) => {
                 let refused = self.refused(contract, vector, &message);
                 self.output.extend(format!("{refused} kept\n").bytes());
-                number(&message)
+                message_number(&message)
             }
         };
         self.input.extend(case);
@@ -106,7 +114,7 @@ impl Cases {
         let vector = |n: &str| format!("{{{keys}\"expected\":{n}}}");
         let answer = self.original(contract.as_bytes(), vector("0").as_bytes(), b"t");
         let value = match &answer {
-            Err(m) if number(m) == 24 => m.split(' ').nth(3).unwrap(),
+            Err(m) if message_number(m) == 24 => m.split(' ').nth(3).unwrap(),
             _ => "0",
         };
         self.text(contract, &vector(value));
@@ -186,12 +194,6 @@ fn check_domain(contract: &[u8], vector: &[u8], stem: &[u8]) {
     assert!(bindings <= 256);
 }
 
-// All strings of n letters over an alphabet.
-fn words(alphabet: &[&str], n: usize) -> Vec<String> {
-    let longer = |w: String| alphabet.iter().map(move |a| format!("{w}{a}"));
-    (0..n).fold(vec![String::new()], |all, _| all.into_iter().flat_map(longer).collect())
-}
-
 const TALLY: &str = "fn total (a, b) {\n  let s = a + b\n  return s * 2\n}\n";
 const TALLY_VECTOR: &str = "{\"a\": 5, \"b\": 7, \"expected\": 24}";
 const MAX: &str = "18446744073709551615";
@@ -221,7 +223,7 @@ fn document_cases(c: &mut Cases) {
     }
     // signs, digits and words as names
     for s in ["+", "-", "*", "/", "(", ")", "1", "let", "_", "0x"] {
-        for e in words(&[s, "2", "+"], 3).into_iter().chain([s.into(), format!("{s}{s}"), format!("({s})"), format!("2{s}2"), format!("{s}*2"), format!("({s}"), format!("{s}-{s}-{s}-{s}")]) {
+        for e in words_of(&[s, "2", "+"], 3).into_iter().chain([s.into(), format!("{s}{s}"), format!("({s})"), format!("2{s}2"), format!("{s}*2"), format!("({s}"), format!("{s}-{s}-{s}-{s}")]) {
             c.body(&format!("let {s}=3\nreturn {e}"));
         }
     }
@@ -240,25 +242,23 @@ fn document_cases(c: &mut Cases) {
 
 fn expression_cases(c: &mut Cases) {
     let alphabet = ["a", "2", "+", "-", "*", "/", "(", ")"];
-    for n in 0..=3 {
-        for e in words(&alphabet, n) {
-            c.expression(&e);
-        }
+    for e in words(&alphabet, 3) {
+        c.expression(&e);
     }
-    for e in words(&["a", "+", "*", "(", ")"], 3).into_iter().chain(words(&["1", "-", ")"], 4)) {
+    for e in words_of(&["a", "+", "*", "(", ")"], 3).into_iter().chain(words_of(&["1", "-", ")"], 4)) {
         c.expression(&format!("({e}"));
         c.expression(&format!("a{e}"));
     }
-    for e in words(&["a", "(", ")"], 4) {
+    for e in words_of(&["a", "(", ")"], 4) {
         c.expression(&format!("(a{e}"));
     }
     let tokens = ["a", "0", OVER, "+", "(", ")", "=", ";", "é", "\u{b}", "\u{a0}", "//", "\t"];
-    for e in words(&tokens, 2) {
+    for e in words_of(&tokens, 2) {
         c.expression(&e);
         c.body(&format!("return 1\nlet y=({e}"));
     }
     // five operands and four operators, with a pair of parentheses or none
-    for ops in words(&["+", "-", "*", "/"], 3) {
+    for ops in words_of(&["+", "-", "*", "/"], 3) {
         let o: Vec<char> = ops.chars().collect();
         c.expression(&format!("9{}4{}3{}2", o[0], o[1], o[2]));
         c.expression(&format!("9{}(4{}3){}2", o[0], o[1], o[2]));
@@ -294,11 +294,11 @@ fn expression_cases(c: &mut Cases) {
 
 fn line_cases(c: &mut Cases) {
     let lines = ["let x=2", "let x=x*3", "return x", "return a-1", "// return 9", "let y", "x", "", "let x=(1", "return x x", "let a=x"];
-    for two in words(&["0", "1", "2", "3", "4", "5", "6", "7", "8", "9", "A"], 2) {
+    for two in words_of(&["0", "1", "2", "3", "4", "5", "6", "7", "8", "9", "A"], 2) {
         let pair: Vec<&str> = two.chars().map(|d| lines[d.to_digit(16).unwrap() as usize]).collect();
         c.body(&pair.join("\n"));
     }
-    for three in words(&["0", "1", "2", "3", "A"], 3) {
+    for three in words_of(&["0", "1", "2", "3", "A"], 3) {
         let all: Vec<&str> = three.chars().map(|d| lines[d.to_digit(16).unwrap() as usize]).collect();
         c.body(&all.join("\r\n"));
     }
@@ -350,10 +350,8 @@ fn function_cases(c: &mut Cases) {
         c.text(s, vector);
         c.text(s, "");
     }
-    for n in 0..=3 {
-        for list in words(&["a", "b", ",", ":", " "], n) {
-            c.valued(&format!("fn ({list}){{return a*7}}"), "\"a\":2,\"b\":3,\"a b\":4,");
-        }
+    for list in words(&["a", "b", ",", ":", " "], 3) {
+        c.valued(&format!("fn ({list}){{return a*7}}"), "\"a\":2,\"b\":3,\"a b\":4,");
     }
 }
 
@@ -492,13 +490,6 @@ fn added_cases(c: &mut Cases) {
     c.added(&format!("fn t(a){{return a{}}}", "+a".repeat(1485)), "{\"a\":5,\"expected\":7430}", b"too_long", 26, "26", "");
 }
 
-fn next(seed: &mut u64) -> usize {
-    *seed ^= *seed << 13;
-    *seed ^= *seed >> 7;
-    *seed ^= *seed << 17;
-    (*seed >> 11) as usize
-}
-
 fn pick<'a>(seed: &mut u64, from: &[&'a str]) -> &'a str {
     from[next(seed) % from.len()]
 }
@@ -578,10 +569,9 @@ fn drawn_cases(c: &mut Cases) {
     }
 }
 
-fn main() {
-    let mut args = std::env::args().skip(1);
-    let made = args.next().expect("the folder of crates/assembler_vectors");
-    let folder = PathBuf::from(args.next().expect("an empty folder"));
+pub fn make() -> Made {
+    let folder = std::env::temp_dir().join(format!("assembler_cases_{}", std::process::id()));
+    fs::create_dir(&folder).unwrap();
     let mut c = Cases { folder, input: vec![], output: vec![], seen: HashSet::new(), counts: BTreeMap::new() };
     document_cases(&mut c);
     expression_cases(&mut c);
@@ -593,7 +583,7 @@ fn main() {
     limit_cases(&mut c);
     drawn_cases(&mut c);
     added_cases(&mut c);
-    fs::write(format!("{made}/stdin"), &c.input).unwrap();
-    fs::write(format!("{made}/stdout"), &c.output).unwrap();
+    fs::remove_dir_all(&c.folder).unwrap();
     println!("{} cases, {} bytes in, {} bytes out: {:?}", c.counts.values().sum::<usize>(), c.input.len(), c.output.len(), c.counts);
+    (c.input, c.output)
 }

@@ -1,8 +1,8 @@
 //! `parse_ops` and the trimmed lines.
-use crate::kinds::kind_and_operand;
-use crate::ops::{parse_ops, OpsError};
 use crate::tally::*;
 use atc_vm::sys::{self, Answer};
+use original::kinds::kind_and_operand;
+use original::ops::{parse_ops, OpsError};
 
 struct Wanted {
     number: u64,
