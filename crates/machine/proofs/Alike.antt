@@ -11,7 +11,7 @@ use lib.Dec.{ltb, eqb}
 use Rattle.word.specs.Apply.{Binary, add, sub, mul, div, eq, lt, apply}
 use Rattle.kinds.specs.Kinds.{Operation, operation}
 use Rattle.kinds.proofs.ByKind.{Span, end, _&_, span}
-use Rattle.machine.specs.Machine.{stackLimitExceeded, outsideStorage, Frame, Effect, moves, jumps, ends, fails, Act, over, costs, Outcome, next, done, stop, storeAt, pushOf, valueOf, twoOf, dupOf, swapOf, jumpIfZeroOf, jumpIfNotZeroOf, storeOf, effectOf, priceOf, halt, settle, pay, actOf, machine, follow, runOf, start, whole}
+use Rattle.machine.specs.Machine.{stackLimitExceeded, outsideStorage, Frame, Effect, moves, jumps, ends, fails, Act, over, costs, Outcome, next, done, stop, storeAt, pushOf, valueOf, twoOf, dupOf, swapOf, jumpIfOf, storeOf, effectOf, priceOf, halt, settle, pay, actOf, machine, follow, runOf, start, whole}
 use Rattle.machine.specs.Code.Alike.{holding, AlikeBut}
 use Rattle.machine.proofs.Program.{effect-high}
 use Rattle.machine.proofs.Runs.{unpaid, afforded}
@@ -58,13 +58,9 @@ module _ (R : List ℕ → List ℕ → Type 0) where
     same-jump : (t : ℕ) (s : List ℕ) → SameEffect (jumps t s m) (jumps t s m′)
     same-jump t s = (m′, refl, r)
 
-    same-jump-if-not-zero : (t : ℕ) (s : List ℕ) → SameEffect (jumpIfNotZeroOf t s m) (jumpIfNotZeroOf t s m′)
-    same-jump-if-not-zero t [] = refl
-    same-jump-if-not-zero t (v ∷ s) = same-cond (eqb v 0) (moves s m) (jumps t s m) (moves s m′) (jumps t s m′) (m′, refl, r) (m′, refl, r)
-
-    same-jump-if-zero : (t : ℕ) (s : List ℕ) → SameEffect (jumpIfZeroOf t s m) (jumpIfZeroOf t s m′)
-    same-jump-if-zero t [] = refl
-    same-jump-if-zero t (v ∷ s) = same-cond (eqb v 0) (jumps t s m) (moves s m) (jumps t s m′) (moves s m′) (m′, refl, r) (m′, refl, r)
+    same-jump-if : (test : ℕ → Bool) (t : ℕ) (s : List ℕ) → SameEffect (jumpIfOf test t s m) (jumpIfOf test t s m′)
+    same-jump-if test t [] = refl
+    same-jump-if test t (v ∷ s) = same-cond (test v) (jumps t s m) (moves s m) (jumps t s m′) (moves s m′) (m′, refl, r) (m′, refl, r)
 
     same-store : (room i : ℕ) (s : List ℕ) → ((v : ℕ) → R (storeAt m i v) (storeAt m′ i v)) → SameEffect (storeOf room i s m) (storeOf room i s m′)
     same-store room i [] h = refl
@@ -92,13 +88,13 @@ module _ (R : List ℕ → List ℕ → Type 0) where
             & (λ _ _. same-dup s)
             & (λ _ _. same-swap s)
             & (λ _ _. same-jump v s)
-            & (λ _ _. same-jump-if-not-zero v s)
+            & (λ _ _. same-jump-if _ v s)
             & (λ _ _. same-two eq s)
             & (λ _ _. same-two lt s)
             & (λ loads _. rw (loads refl) (same-push (getD m′ v 0) s))
             & (λ _ stores. same-store room v s (stores refl))
             & (λ _ _. same-push c s)
-            & (λ _ _. same-jump-if-zero v s)
+            & (λ _ _. same-jump-if _ v s)
             & end
 
         go : Dec (o .kind < 15) → SameEffect (effectOf c room o s m) (effectOf c room o s m′)

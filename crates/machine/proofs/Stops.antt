@@ -10,7 +10,7 @@ use lib.Dec.{ltb, eqb}
 use Rattle.word.specs.Apply.{Binary, add, sub, mul, div, eq, lt, apply}
 use Rattle.kinds.specs.Kinds.{Operation, operation}
 use Rattle.kinds.proofs.ByKind.{Span, end, _&_, span}
-use Rattle.machine.specs.Machine.{Fault, outOfGas, stackUnderflow, stackLimitExceeded, divisionByZero, storageLimitExceeded, outsideStorage, Frame, Effect, moves, jumps, ends, fails, over, costs, Outcome, next, done, stop, storeAt, pushOf, valueOf, twoOf, dupOf, swapOf, jumpIfZeroOf, jumpIfNotZeroOf, loadOf, storeOf, requested, effectOf, priceOf, halt, settle, pay, actOf, machine, follow, runOf, start, whole}
+use Rattle.machine.specs.Machine.{Fault, outOfGas, stackUnderflow, stackLimitExceeded, divisionByZero, storageLimitExceeded, outsideStorage, Frame, Effect, moves, jumps, ends, fails, over, costs, Outcome, next, done, stop, storeAt, pushOf, valueOf, twoOf, dupOf, swapOf, jumpIfOf, loadOf, storeOf, requested, effectOf, priceOf, halt, settle, pay, actOf, machine, follow, runOf, start, whole}
 use Rattle.machine.proofs.Program.{effect-high}
 use Rattle.machine.proofs.Runs.{unpaid, afforded}
 
@@ -51,13 +51,9 @@ other-swap [] m = tt
 other-swap (b ∷ []) m = tt
 other-swap (b ∷ a ∷ s) m = tt
 
-other-jump-if-not-zero : (t : ℕ) (s m : List ℕ) → Other (jumpIfNotZeroOf t s m)
-other-jump-if-not-zero t [] m = tt
-other-jump-if-not-zero t (v ∷ s) m = other-cond (eqb v 0) (moves s m) (jumps t s m) tt tt
-
-other-jump-if-zero : (t : ℕ) (s m : List ℕ) → Other (jumpIfZeroOf t s m)
-other-jump-if-zero t [] m = tt
-other-jump-if-zero t (v ∷ s) m = other-cond (eqb v 0) (jumps t s m) (moves s m) tt tt
+other-jump-if : (test : ℕ → Bool) (t : ℕ) (s m : List ℕ) → Other (jumpIfOf test t s m)
+other-jump-if test t [] m = tt
+other-jump-if test t (v ∷ s) m = other-cond (test v) (jumps t s m) (moves s m) tt tt
 
 other-store : (room i : ℕ) (s m : List ℕ) → Other (storeOf room i s m)
 other-store room i [] m = tt
@@ -80,13 +76,13 @@ other-effect c room o s m = go (decLt (o .kind) 15)
         & other-dup s m
         & other-swap s m
         & tt
-        & other-jump-if-not-zero v s m
+        & other-jump-if _ v s m
         & other-two eq s m
         & other-two lt s m
         & other-push (getD m v 0) s m
         & other-store room v s m
         & other-push c s m
-        & other-jump-if-zero v s m
+        & other-jump-if _ v s m
         & end
 
     go : Dec (o .kind < 15) → Other (effectOf c room o s m)

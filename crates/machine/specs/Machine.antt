@@ -2,7 +2,7 @@
 -- Gas stands beside the frame, so that nothing an operation does can look at it.
 use Prim.Native.Nat.{ℕ, zero, suc, _+_, _-_}
 use mathlib.Core.List.{List, [], _∷_, _++_}
-use mathlib.Core.Bool.{cond}
+use mathlib.Core.Bool.{Bool, cond, not}
 use mathlib.Core.Option.{Option, some, none}
 use lib.ListN.{length, getD, set, replicate}
 use lib.Dec.{ltb, eqb}
@@ -75,13 +75,10 @@ swapOf [] m = fails stackUnderflow
 swapOf (b ∷ []) m = fails stackUnderflow
 swapOf (b ∷ a ∷ s) m = moves (a ∷ b ∷ s) m
 
-abbrev pub jumpIfZeroOf : ℕ → List ℕ → List ℕ → Effect
-jumpIfZeroOf t [] m = fails stackUnderflow
-jumpIfZeroOf t (v ∷ s) m = cond (eqb v 0) (jumps t s m) (moves s m)
-
-abbrev pub jumpIfNotZeroOf : ℕ → List ℕ → List ℕ → Effect
-jumpIfNotZeroOf t [] m = fails stackUnderflow
-jumpIfNotZeroOf t (v ∷ s) m = cond (eqb v 0) (moves s m) (jumps t s m)
+-- a conditional jump pops, and jumps where the test of the item holds
+abbrev pub jumpIfOf : (ℕ → Bool) → ℕ → List ℕ → List ℕ → Effect
+jumpIfOf test t [] m = fails stackUnderflow
+jumpIfOf test t (v ∷ s) m = cond (test v) (jumps t s m) (moves s m)
 
 -- a slot past the used ones reads 0
 abbrev pub loadOf : ℕ → List ℕ → List ℕ → Effect
@@ -106,7 +103,7 @@ haltOf s m = ends
 abbrev pub effects : (c room v : ℕ) → List (List ℕ → List ℕ → Effect)
 effects c room v =
     pushOf v ∷ twoOf add ∷ twoOf sub ∷ twoOf mul ∷ twoOf div ∷ dupOf ∷ swapOf ∷ jumps v
-    ∷ jumpIfNotZeroOf v ∷ twoOf eq ∷ twoOf lt ∷ loadOf v ∷ storeOf room v ∷ pushOf c ∷ jumpIfZeroOf v ∷ haltOf ∷ []
+    ∷ jumpIfOf (λ x. not (eqb x 0)) v ∷ twoOf eq ∷ twoOf lt ∷ loadOf v ∷ storeOf room v ∷ pushOf c ∷ jumpIfOf (λ x. eqb x 0) v ∷ haltOf ∷ []
 
 -- a kind above 15 is taken for Halt
 abbrev pub effectOf : (c room : ℕ) → Operation → List ℕ → List ℕ → Effect

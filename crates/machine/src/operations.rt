@@ -1,12 +1,14 @@
 // What each operation does once its price is taken. The loop of crate `metered` calls these, and its registers
 // are always ready for one operation more. What a contract leaves free is named at `Did`.
 ghost use mathlib.Core.Path.{_≡_};
+ghost use mathlib.Core.Bool.{not};
 ghost use mathlib.Core.List.{List, _++_};
 ghost use mathlib.Core.Option.{some};
 ghost use Prim.Native.Nat.{ℕ, _+_, _-_, _≤_, _<_, _^_};
+ghost use lib.Dec.{eqb};
 ghost use lib.ListN.{length, take, drop, replicate};
 ghost use Rattle.word.specs.Apply.{apply as applyOf};
-ghost use Rattle.machine.specs.Machine.{jumps, pushOf, twoOf, dupOf, swapOf, jumpIfZeroOf, jumpIfNotZeroOf, loadOf, storeOf, requested as requestedOf};
+ghost use Rattle.machine.specs.Machine.{jumps, pushOf, twoOf, dupOf, swapOf, jumpIfOf, loadOf, storeOf, requested as requestedOf};
 ghost use Rattle.machine.specs.Code.Registers.{Ready, Did, DidAny, binaryOf, goneOn};
 use super::Regs;
 use super::registers;
@@ -96,7 +98,7 @@ pub fn jump(r: Regs, t: u64) -> Regs
 
 pub fn jump_if_zero(stack: &[u64], r: Regs, t: u64) -> Regs
     requires { ⌜ Ready r (length (now stack)) ⌝ }
-    ensures { λ q. ⌜ DidAny 0 (jumpIfZeroOf t) r q (now (stack .entry)) (now (stack .entry)) ⌝ }
+    ensures { λ q. ⌜ DidAny 0 (jumpIfOf (λ x. eqb x 0) t) r q (now (stack .entry)) (now (stack .entry)) ⌝ }
 {
     let n = r.items;
     if n < 1 {
@@ -110,7 +112,7 @@ pub fn jump_if_zero(stack: &[u64], r: Regs, t: u64) -> Regs
 
 pub fn jump_if_not_zero(stack: &[u64], r: Regs, t: u64) -> Regs
     requires { ⌜ Ready r (length (now stack)) ⌝ }
-    ensures { λ q. ⌜ DidAny 0 (jumpIfNotZeroOf t) r q (now (stack .entry)) (now (stack .entry)) ⌝ }
+    ensures { λ q. ⌜ DidAny 0 (jumpIfOf (λ x. not (eqb x 0)) t) r q (now (stack .entry)) (now (stack .entry)) ⌝ }
 {
     let n = r.items;
     if n < 1 {

@@ -16,7 +16,7 @@ use Rattle.kinds.specs.Kinds.{Operation, operation}
 use Rattle.kinds.proofs.ByKind.{Span, end, _&_, span, priced, unpriced}
 use Rattle.context.specs.declared.Gate.{Gate}
 use Rattle.context.specs.declared.Gate.the-variants as gate
-use Rattle.machine.specs.Machine.{Fault, outOfGas, stackLimitExceeded, storageLimitExceeded, outsideStorage, Frame, Effect, moves, jumps, ends, fails, over, costs, Outcome, next, done, stop, storeAt, pushOf, valueOf, twoOf, dupOf, swapOf, jumpIfZeroOf, jumpIfNotZeroOf, storeOf, requested, effectOf, priceOf, settle, pay, actOf, decode, halt, machine, follow, runOf, start, whole}
+use Rattle.machine.specs.Machine.{Fault, outOfGas, stackLimitExceeded, storageLimitExceeded, outsideStorage, Frame, Effect, moves, jumps, ends, fails, over, costs, Outcome, next, done, stop, storeAt, pushOf, valueOf, twoOf, dupOf, swapOf, jumpIfOf, storeOf, requested, effectOf, priceOf, settle, pay, actOf, decode, halt, machine, follow, runOf, start, whole}
 use Rattle.machine.proofs.Program.{effect-high}
 use Rattle.machine.proofs.Runs.{unpaid, afforded, Ended, whole-ends}
 use Rattle.ops.specs.Written as Written
@@ -159,13 +159,9 @@ module _ (P : ℕ → Type 0) where
     swap-fails (y ∷ []) m = r .underflow
     swap-fails (y ∷ x ∷ s) m = tt
 
-    jump-if-not-zero-fails : (t : ℕ) (s m : List ℕ) → Fails (jumpIfNotZeroOf t s m)
-    jump-if-not-zero-fails t [] m = r .underflow
-    jump-if-not-zero-fails t (v ∷ s) m = cond-fails (eqb v 0) (moves s m) (jumps t s m) (λ e. tt) (λ e. tt)
-
-    jump-if-zero-fails : (t : ℕ) (s m : List ℕ) → Fails (jumpIfZeroOf t s m)
-    jump-if-zero-fails t [] m = r .underflow
-    jump-if-zero-fails t (v ∷ s) m = cond-fails (eqb v 0) (jumps t s m) (moves s m) (λ e. tt) (λ e. tt)
+    jump-if-fails : (test : ℕ → Bool) (t : ℕ) (s m : List ℕ) → Fails (jumpIfOf test t s m)
+    jump-if-fails test t [] m = r .underflow
+    jump-if-fails test t (v ∷ s) m = cond-fails (test v) (jumps t s m) (moves s m) (λ e. tt) (λ e. tt)
 
     store-fails : (room i : ℕ) (s m : List ℕ) → (i < 65536 → room ≤ i → P 51) → Fails (storeOf room i s m)
     store-fails room i [] m o = r .underflow
@@ -190,13 +186,13 @@ module _ (P : ℕ → Type 0) where
             & (λ _. dup-fails s m)
             & (λ _. swap-fails s m)
             & (λ _. tt)
-            & (λ _. jump-if-not-zero-fails v s m)
+            & (λ _. jump-if-fails _ v s m)
             & (λ _. two-fails eq s m)
             & (λ _. two-fails lt s m)
             & (λ _. push-fails (getD m v 0) s m)
             & (λ q. store-fails room v s m (q refl))
             & (λ _. push-fails c s m)
-            & (λ _. jump-if-zero-fails v s m)
+            & (λ _. jump-if-fails _ v s m)
             & end
 
         go : Dec (o .kind < 15) → Fails (effectOf c room o s m)

@@ -12,7 +12,7 @@ use borrow.Author.Tests.{ltb-true}
 use Rattle.word.specs.Apply.{Binary, add, sub, mul, div, eq, lt, apply}
 use Rattle.kinds.specs.Kinds.{Operation, operation}
 use Rattle.kinds.proofs.ByKind.{Span, end, _&_, span}
-use Rattle.machine.specs.Machine.{outOfGas, stackLimitExceeded, storageLimitExceeded, outsideStorage, Frame, Effect, moves, jumps, ends, fails, over, costs, Outcome, next, done, stop, storeAt, pushOf, valueOf, twoOf, dupOf, swapOf, jumpIfZeroOf, jumpIfNotZeroOf, storeOf, requested, effectOf, priceOf, settle, pay, actOf, decode, halt, machine, follow, runOf, start, whole}
+use Rattle.machine.specs.Machine.{outOfGas, stackLimitExceeded, storageLimitExceeded, outsideStorage, Frame, Effect, moves, jumps, ends, fails, over, costs, Outcome, next, done, stop, storeAt, pushOf, valueOf, twoOf, dupOf, swapOf, jumpIfOf, storeOf, requested, effectOf, priceOf, settle, pay, actOf, decode, halt, machine, follow, runOf, start, whole}
 use Rattle.machine.proofs.Program.{effect-high}
 use Rattle.machine.proofs.Slots.{store-length}
 use Rattle.checks.specs.declared.Refusal.{Refusal}
@@ -77,17 +77,11 @@ module _ (room : ℕ) where
   jump-leaves : (t : ℕ) (s m : List ℕ) → length s ≤ 4096 → length m ≤ room → Leaves (jumps t s m)
   jump-leaves t s m l h = record { stack = l; storage = h }
 
-  jump-if-not-zero-leaves : (t : ℕ) (s m : List ℕ) → length s ≤ 4096 → length m ≤ room → Leaves (jumpIfNotZeroOf t s m)
-  jump-if-not-zero-leaves t [] m l h = tt
-  jump-if-not-zero-leaves t (v ∷ s) m l h =
+  jump-if-leaves : (test : ℕ → Bool) (t : ℕ) (s m : List ℕ) → length s ≤ 4096 → length m ≤ room → Leaves (jumpIfOf test t s m)
+  jump-if-leaves test t [] m l h = tt
+  jump-if-leaves test t (v ∷ s) m l h =
       let i : Inside s m = record { stack = omega arith; storage = h } in
-      cond-leaves (eqb v 0) (moves s m) (jumps t s m) (λ e. i) (λ e. i)
-
-  jump-if-zero-leaves : (t : ℕ) (s m : List ℕ) → length s ≤ 4096 → length m ≤ room → Leaves (jumpIfZeroOf t s m)
-  jump-if-zero-leaves t [] m l h = tt
-  jump-if-zero-leaves t (v ∷ s) m l h =
-      let i : Inside s m = record { stack = omega arith; storage = h } in
-      cond-leaves (eqb v 0) (jumps t s m) (moves s m) (λ e. i) (λ e. i)
+      cond-leaves (test v) (jumps t s m) (moves s m) (λ e. i) (λ e. i)
 
   store-leaves : (i : ℕ) (s m : List ℕ) → length s ≤ 4096 → length m ≤ room → Leaves (storeOf room i s m)
   store-leaves i [] m l h = tt
@@ -112,13 +106,13 @@ module _ (room : ℕ) where
           & dup-leaves s m h
           & swap-leaves s m l h
           & jump-leaves v s m l h
-          & jump-if-not-zero-leaves v s m l h
+          & jump-if-leaves _ v s m l h
           & two-leaves eq s m l h
           & two-leaves lt s m l h
           & push-leaves (getD m v 0) s m h
           & store-leaves v s m l h
           & push-leaves c s m h
-          & jump-if-zero-leaves v s m l h
+          & jump-if-leaves _ v s m l h
           & end
 
       go : Dec (o .kind < 15) → Leaves (effectOf c room o s m)

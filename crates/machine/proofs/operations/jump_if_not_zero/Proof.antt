@@ -1,10 +1,12 @@
 -- `operations::jump_if_not_zero` meets its contract: no item, and the top item 0 or not.
 use Prim.Native.Nat.{ℕ, _-_}
+use mathlib.Core.Bool.{not}
 use mathlib.Core.List.{List}
 use native.Mathlib.Omega.{arith}
+use lib.Dec.{eqb}
 use lib.ListN.{take}
 use borrow.Author.Tests.{eq-eqb, ne-eqb}
-use Rattle.machine.specs.Machine.{jumpIfNotZeroOf}
+use Rattle.machine.specs.Machine.{jumpIfOf}
 use Rattle.machine.proofs.Stack.{no-item, down-pop}
 use Rattle.machine.proofs.Effects.{fails-by, moves-by, jumps-by}
 use borrow.Author.Needs.{needs}
@@ -19,7 +21,7 @@ returns c =
     let a = c .before .before .before .args in
     λ w h.
     fails-by 47 0 (c .stop .ensures) (omega arith) (omega arith) (omega arith) h
-    (no-item (λ (s : List ℕ). jumpIfNotZeroOf (a .t) s (take (a .r .used) w)) (a .r .items) (a .stack .now) (c .before .if1 .taken))
+    (no-item (λ (s : List ℕ). jumpIfOf (λ x. not (eqb x 0)) (a .t) s (take (a .r .used) w)) (a .r .items) (a .stack .now) (c .before .if1 .taken))
 
 mul-if2 : tie.Need-mul-if2
 mul-if2 c = search needs

@@ -2,9 +2,10 @@
 use Prim.Native.Nat.{ℕ, _-_}
 use mathlib.Core.List.{List}
 use native.Mathlib.Omega.{arith}
+use lib.Dec.{eqb}
 use lib.ListN.{take}
 use borrow.Author.Tests.{eq-eqb, ne-eqb}
-use Rattle.machine.specs.Machine.{jumpIfZeroOf}
+use Rattle.machine.specs.Machine.{jumpIfOf}
 use Rattle.machine.proofs.Stack.{no-item, down-pop}
 use Rattle.machine.proofs.Effects.{fails-by, moves-by, jumps-by}
 use borrow.Author.Needs.{needs}
@@ -19,7 +20,7 @@ returns c =
     let a = c .before .before .before .args in
     λ w h.
     fails-by 47 0 (c .stop .ensures) (omega arith) (omega arith) (omega arith) h
-    (no-item (λ (s : List ℕ). jumpIfZeroOf (a .t) s (take (a .r .used) w)) (a .r .items) (a .stack .now) (c .before .if1 .taken))
+    (no-item (λ (s : List ℕ). jumpIfOf (λ x. eqb x 0) (a .t) s (take (a .r .used) w)) (a .r .items) (a .stack .now) (c .before .if1 .taken))
 
 mul-if2 : tie.Need-mul-if2
 mul-if2 c = search needs
