@@ -2,7 +2,7 @@
 use Prim.Native.Nat.{ℕ}
 use mathlib.Core.Path.{_≡_}
 use mathlib.Core.List.{List}
-use Rattle.ops.specs.Ops.{onto}
+use Rattle.base.specs.Overwrite.{overwrite}
 use Rattle.contract.specs.Numbers.{refusalNumbered}
 use Rattle.contract.specs.Output as Output
 use Rattle.contract.specs.Output.{success, refusal, assemblyNumbered}
@@ -18,4 +18,4 @@ answerOf (Refused why) = refusal (refusalNumbered why)
 pub record Assembles (a : Output.Assembly) (out after : List ℕ) (r : Answer) : Type 0 where
   pub answer : answerOf r ≡ a .answer
   pub number : assemblyNumbered (answerOf r) ≡ assemblyNumbered (a .answer)
-  pub buffer : after ≡ onto (a .text) out
+  pub buffer : after ≡ overwrite 0 (a .text) out

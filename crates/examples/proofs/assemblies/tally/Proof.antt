@@ -2,7 +2,7 @@
 use mathlib.Core.Path.{ap, _∙_}
 use mathlib.Core.List.{List}
 use Prim.Native.Nat.{ℕ}
-use Rattle.ops.specs.Ops.{onto}
+use Rattle.base.specs.Overwrite.{overwrite}
 use Rattle.contract.specs.Output.{assemblyNumbered}
 use Rattle.examples.specs.Runs.{zeros}
 use Rattle.examples.proofs.Bench.{bench}
@@ -26,7 +26,7 @@ assemble-requires c κs = search needs
 returns : tie.Need-returns
 returns c =
     let h = assembles _ _ _ _ _ _ (c .before .before .before .before .before .pre) (c .assemble .ensures) in
-    record { answer = ap assemblyNumbered (h .answer) ∙ bench .e1; buffer = h .buffer ∙ ap (λ (t : List ℕ). onto t zeros) (bench .e1-text) }
+    record { answer = ap assemblyNumbered (h .answer) ∙ bench .e1; buffer = h .buffer ∙ ap (λ (t : List ℕ). overwrite 0 t zeros) (bench .e1-text) }
 
 pub tally-spec : {M : Type 1} → statement M
 tally-spec =
