@@ -10,7 +10,7 @@ use lib.ListN.{length, take, drop, length-append}
 use Rattle.base.proofs.Parts.{middle}
 use Rattle.decimal.specs.Decimal.{decimal}
 use Rattle.base.specs.Ascii.{ascii}
-use Rattle.ops.specs.Ops.{onto}
+use Rattle.base.specs.Overwrite.{overwrite}
 use Rattle.expression.specs.Tree.{Tree}
 use Rattle.expression.specs.Code.Lengths.{lenOf}
 use Rattle.expression.specs.Parse.{meaning}
@@ -18,8 +18,8 @@ use Rattle.expression.specs.Code.Source.{sources, treeIn, envOf}
 use Rattle.expression.specs.Written.{opsOf}
 use Rattle.expression.specs.Code.Texts.{textOf}
 use Rattle.expression.proofs.Written.{written-append, text-length}
-use Rattle.writer.specs.Code.Pieces.{Put}
-use Rattle.writer.proofs.Pieces.{put-then}
+use Rattle.writer.specs.Code.Overwrites.{Overwrites}
+use Rattle.writer.proofs.Pieces.{overwrites-then}
 use Rattle.emission.specs.Code.Emitted.{treeBetween, Means}
 use Rattle.contract.specs.declared.assembly.Assembly as Code
 use Rattle.contract.specs.declared.state.Last.{Last}
@@ -48,7 +48,7 @@ header-length stem e =
 
 -- its five pieces
 module _ (stem : List ℕ) (e : ℕ) {out a b c d after : List ℕ} {i j k l r : ℕ} (h : length (header stem e) ≤ length out) where
-  pub header-put : Put out 0 (ascii "# contract: ") a i → Put a i stem b j → Put b j (10 ∷ ascii "# expected: ") c k → Put c k (decimal e) d l → Put d l (10 ∷ []) after r → Put out 0 (header stem e) after r
+  pub header-put : Overwrites out 0 (ascii "# contract: ") a i → Overwrites a i stem b j → Overwrites b j (10 ∷ ascii "# expected: ") c k → Overwrites c k (decimal e) d l → Overwrites d l (10 ∷ []) after r → Overwrites out 0 (header stem e) after r
   header-put p q s t u =
       let x : List ℕ = ascii "# contract: " in
       let y : List ℕ = 10 ∷ ascii "# expected: " in
@@ -56,7 +56,7 @@ module _ (stem : List ℕ) (e : ℕ) {out a b c d after : List ℕ} {i j k l r :
       let one = length-append x stem in
       let two = length-append (x ++ stem) y in
       let three = length-append (x ++ stem ++ y) (decimal e) in
-      put-then (put-then (put-then (put-then p (omega arith) q) (omega arith) s) (omega arith) t) (omega arith) u
+      overwrites-then (overwrites-then (overwrites-then (overwrites-then p (omega arith) q) (omega arith) s) (omega arith) t) (omega arith) u
 
 abbrev pub haltLine : List ℕ
 haltLine = ascii "Halt\n"
@@ -69,9 +69,6 @@ output-text stem e t =
 
 pub output-length : (stem : List ℕ) (e : ℕ) (t : Tree) → length (output stem e t) ≡ length (header stem e) + lenOf t + 5
 output-length stem e t = omega (arith, ap length (output-text stem e t), length-append (header stem e ++ textOf t) haltLine, length-append (header stem e) (textOf t), text-length t)
-
-put-onto : {out text after : List ℕ} {r : ℕ} → Put out 0 text after r → after ≡ onto text out
-put-onto {out} {text} p = let z : 0 + length text ≡ length text = omega arith in p .is ∙ ap (λ (n : ℕ). text ++ drop n out) z
 
 -- what is concluded of the contract, by the status
 pub is-going : {s vector : List ℕ} {o : Outcome (ℕ × Tree)} {a : Code.Assembly} → Concludes s vector o a → a .state .status ≡ Going → Accepts s vector o a
@@ -132,14 +129,14 @@ module _ {s vector : List ℕ} {o : Outcome (ℕ × Tree)} {a : Code.Assembly} (
 
     pub written-whole : length (header stem (a .expected)) + l .read .len + 5 ≤ length out
         → {mid after : List ℕ} {n w : ℕ}
-        → Put out 0 (header stem (a .expected) ++ textOf (treeBetween s (sources (a .state .table) (a .state .values)) (l .count) (l .start) (l .end))) mid n
-        → Put mid n haltLine after w
+        → Overwrites out 0 (header stem (a .expected) ++ textOf (treeBetween s (sources (a .state .table) (a .state .values)) (l .count) (l .start) (l .end))) mid n
+        → Overwrites mid n haltLine after w
         → Assembles (named o stem (length out)) out after (Success w (l .read .k) (l .read .p) (a .expected))
     written-whole h {mid} {after} {n} {w} p r =
         let b = le-leb (length (output stem (a .expected) (acc .t))) (length out) (omega (arith, size)) in
         let y = length-append (header stem (a .expected)) (textOf (treeBetween s (sources (a .state .table) (a .state .values)) (l .count) (l .start) (l .end))) in
-        let x = put-then p (omega (arith, y, text-size)) r in
+        let x = overwrites-then p (omega (arith, y, text-size)) r in
         let e : (header stem (a .expected) ++ textOf (treeBetween s (sources (a .state .table) (a .state .values)) (l .count) (l .start) (l .end))) ++ haltLine ≡ output stem (a .expected) (acc .t) = ap (λ (t : Tree). (header stem (a .expected) ++ textOf t) ++ haltLine) same-tree ∙ sym (output-text stem (a .expected) (acc .t)) in
-        let z : Put out 0 (output stem (a .expected) (acc .t)) after w = rw e at x in
+        let z : Overwrites out 0 (output stem (a .expected) (acc .t)) after w = rw e at x in
         let m : w ≡ length (output stem (a .expected) (acc .t)) = omega (arith, z .next) in
-        rw (acc .accepts) (simp (f, b) (record { answer = cc (m, returned .figures .k, returned .figures .p); buffer = put-onto z }))
+        rw (acc .accepts) (simp (f, b) (record { answer = cc (m, returned .figures .k, returned .figures .p); buffer = z .is }))

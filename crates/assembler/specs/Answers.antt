@@ -4,7 +4,7 @@ use mathlib.Core.Path.{_≡_}
 use mathlib.Core.List.{List, [], _∷_}
 use Rattle.numbered.specs.declared.Numbered.{Numbered}
 use Rattle.numbered.specs.Numbered.{carrying}
-use Rattle.ops.specs.Ops.{onto}
+use Rattle.base.specs.Overwrite.{overwrite}
 use Rattle.contract.specs.Numbers.{refusalNumbered}
 use Rattle.contract.specs.Output.{Assembly}
 use Rattle.assembler.specs.declared.Answer.{Answer}
@@ -18,4 +18,4 @@ answerNumbered (Refused why) = refusalNumbered why
 -- the answer and the buffer are those of an assembly: its text stands at the start of the buffer, all else is as before
 pub record Assembles (a : Assembly) (out after : List ℕ) (r : Answer) : Type 0 where
   pub answer : answerNumbered r ≡ a .answer
-  pub buffer : after ≡ onto (a .text) out
+  pub buffer : after ≡ overwrite 0 (a .text) out

@@ -3,7 +3,7 @@ ghost use mathlib.Core.Path.{_≡_};
 ghost use Prim.Native.Nat.{_≤_};
 ghost use lib.ListN.{length};
 ghost use Rattle.contract.specs.Output.{header};
-ghost use Rattle.writer.specs.Code.Pieces.{Put};
+ghost use Rattle.writer.specs.Code.Overwrites.{Overwrites};
 use decimal::decimal_len;
 use writer::put_bytes;
 use writer::put_decimal;
@@ -19,7 +19,7 @@ pub fn header_len(stem: &[u8], expected: u64) -> usize
 // `write_output` calls it where the whole output has room (26).
 pub fn put_header(out: &mut [u8], stem: &[u8], expected: u64) -> usize
     requires { ⌜ length (header (now stem) expected) ≤ length (now out) ⌝ }
-    ensures { λ r. ⌜ Put (now (out .entry)) 0 (header (now (stem .entry)) expected) (now (out .exit)) r ⌝ }
+    ensures { λ r. ⌜ Overwrites (now (out .entry)) 0 (header (now (stem .entry)) expected) (now (out .exit)) r ⌝ }
 {
     let name = put_bytes(out, 0, b"# contract: ");
     let line = put_bytes(out, name, stem);

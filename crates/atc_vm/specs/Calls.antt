@@ -3,9 +3,10 @@ use Prim.Native.Nat.{ℕ, min}
 use mathlib.Core.Path.{_≡_}
 use mathlib.Core.List.{List, [], _∷_}
 use lib.ListN.{length}
+use Rattle.base.specs.Overwrite.{overwrite}
 use Rattle.numbered.specs.declared.Numbered.{Numbered}
 use Rattle.numbered.specs.Numbered.{carrying}
-use Rattle.ops.specs.Ops.{readText, answerOf, opsOf, kindsOf, operandsOf, onto, trimmedLine, trimmedPlace}
+use Rattle.ops.specs.Ops.{readText, answerOf, opsOf, kindsOf, operandsOf, trimmedLine, trimmedPlace}
 use Rattle.ops.specs.Numbers.{parsedOpsNumbered}
 use Rattle.contract.specs.Output.{Assembly}
 use Rattle.perform.specs.Numbers.{answerNumbered}
@@ -14,12 +15,12 @@ use Rattle.atc_vm.specs.Words.{Tells}
 
 pub record Assembled (a : Assembly) (out outAfter words : List ℕ) (r : ℕ) : Type 0 where
   pub tells : Tells (a .answer) words r
-  pub buffer : outAfter ≡ onto (a .text) out
+  pub buffer : outAfter ≡ overwrite 0 (a .text) out
 
 pub record Read (text kinds operands kindsAfter operandsAfter words : List ℕ) (r : ℕ) : Type 0 where
   pub tells : Tells (parsedOpsNumbered (answerOf (readText text (min (length kinds) (length operands))))) words r
-  pub kindsWritten : kindsAfter ≡ onto (kindsOf (opsOf (readText text (min (length kinds) (length operands))))) kinds
-  pub operandsWritten : operandsAfter ≡ onto (operandsOf (opsOf (readText text (min (length kinds) (length operands))))) operands
+  pub kindsWritten : kindsAfter ≡ overwrite 0 (kindsOf (opsOf (readText text (min (length kinds) (length operands))))) kinds
+  pub operandsWritten : operandsAfter ≡ overwrite 0 (operandsOf (opsOf (readText text (min (length kinds) (length operands))))) operands
 
 -- the place and the length of a line's trimmed text; 0 and 0 where there is no such line
 abbrev pub placeNumbered : List ℕ → ℕ → Numbered

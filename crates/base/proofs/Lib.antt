@@ -3,3 +3,4 @@ pub mod Parts
 pub mod Skips
 pub mod Cursor
 pub mod Bytes
+pub mod Overwrite

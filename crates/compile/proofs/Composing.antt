@@ -8,7 +8,8 @@ use lib.ListN.{length, take, drop}
 use lib.Seq.{take-at}
 use Rattle.numbered.specs.declared.Numbered.{Numbered}
 use Rattle.numbered.specs.Numbered.{carrying}
-use Rattle.ops.specs.Ops.{Reading, ops, refused, answerOf, opsOf, kindsOf, operandsOf, onto, Parsed}
+use Rattle.base.specs.Overwrite.{overwrite}
+use Rattle.ops.specs.Ops.{Reading, ops, refused, answerOf, opsOf, kindsOf, operandsOf, Parsed}
 use Rattle.ops.specs.declared.OpsError.{OpsError}
 use Rattle.ops.specs.declared.ParsedOps.{ParsedOps}
 use Rattle.ops.specs.declared.ParsedOps.the-variants as parsed
@@ -32,14 +33,14 @@ module _ (x : Compilation) where
   -- a success of assembly, which leaves o in its buffer
   pub record Written (o : List ℕ) (n k p v : ℕ) : Type 0 where
     pub answer : carrying 0 (n ∷ k ∷ p ∷ v ∷ []) ≡ assemblyOf x .answer
-    pub buffer : o ≡ onto (assemblyOf x .text) (x .out)
+    pub buffer : o ≡ overwrite 0 (assemblyOf x .text) (x .out)
     pub text : take n o ≡ assemblyOf x .text
 
   -- a reading y that answers r and leaves ks and vs in its buffers
   record Reads (y : Reading) (r : ParsedOps) (ks vs : List ℕ) : Type 0 where
     pub answer : r ≡ answerOf y
-    pub kinds : ks ≡ onto (kindsOf (opsOf y)) (x .run .kinds)
-    pub operands : vs ≡ onto (operandsOf (opsOf y)) (x .run .operands)
+    pub kinds : ks ≡ overwrite 0 (kindsOf (opsOf y)) (x .run .kinds)
+    pub operands : vs ≡ overwrite 0 (operandsOf (opsOf y)) (x .run .operands)
 
   module _ {o : List ℕ} where
     pub is-written : {r : assembly.Answer} {n k p v : ℕ} → Assembles (assemblyOf x) (x .out) o r → r ≡ Success n k p v → Written o n k p v
@@ -59,7 +60,7 @@ module _ (x : Compilation) where
         let a = subst (λ (z : assembly.Answer). Assembles (assemblyOf x) (x .out) o z) e b in
         let zero = never-0 why in
         let text = no-text (x .contract) (x .vector) (x .stem) (length (x .out)) (ap (λ (z : Numbered). eqb (z .number) 0) (sym (a .answer)) ∙ zero) in
-        let kept : o ≡ x .out = a .buffer ∙ ap (λ (l : List ℕ). onto l (x .out)) text in
+        let kept : o ≡ x .out = a .buffer ∙ ap (λ (l : List ℕ). overwrite 0 l (x .out)) text in
         subst (λ (z : Numbered). Composes (thenRead x z) (NotAssembled why) (buffers o (x .run .kinds) (x .run .operands) (x .run .stack) (x .run .work) (x .run .storage))) (a .answer)
         (rw zero (record { answer = refl; number = refl; out = kept; kinds = refl; operands = refl; stack = refl; work = refl; storage = refl }))
 
@@ -82,7 +83,7 @@ module _ (x : Compilation) where
         finished : {s w m : List ℕ} {j : ℕ} {t : Answer} (y : Reading) → Reads y (parsed.Read j) ks vs → Meets (transitionOn x ks vs) (x .run .state) t s w m → Composes (thenRun x (carrying 0 (n ∷ k ∷ p ∷ v ∷ [])) y) (Ran n k p v j t) (buffers o ks vs s w m)
         finished (refused e) r q = absurd (let z : _≡_ {A = ℕ} 0 1 = cc (r .answer) in omega arith)
         finished {s} {w} {m} {j} {t} (ops os) r q =
-            let u = subst (λ (l : List ℕ). Meets (transitionOn x l (onto (operandsOf os) (x .run .operands))) (x .run .state) t s w m) (r .kinds) (subst (λ (l : List ℕ). Meets (transitionOn x ks l) (x .run .state) t s w m) (r .operands) q) in
+            let u = subst (λ (l : List ℕ). Meets (transitionOn x l (overwrite 0 (operandsOf os) (x .run .operands))) (x .run .state) t s w m) (r .kinds) (subst (λ (l : List ℕ). Meets (transitionOn x ks l) (x .run .state) t s w m) (r .operands) q) in
             let j-is : j ≡ length os = cc (r .answer) in
             record {
               answer = ap (λ (i : ℕ). ran (carrying 0 (n ∷ k ∷ p ∷ v ∷ [])) i t) j-is ∙ ap (ran (carrying 0 (n ∷ k ∷ p ∷ v ∷ [])) (length os)) (u .answer);

@@ -3,10 +3,11 @@ use mathlib.Core.Path.{_≡_}
 use mathlib.Core.List.{List}
 use lib.Dec.{eqb}
 use lib.ListN.{length}
+use Rattle.base.specs.Overwrite.{overwrite}
 use Rattle.base.specs.Need.{need}
 use Rattle.numbered.specs.declared.Numbered.{Numbered}
 use Rattle.kinds.specs.Kinds.{Operation}
-use Rattle.ops.specs.Ops.{Reading, ops, refused, kindsOf, operandsOf, onto}
+use Rattle.ops.specs.Ops.{Reading, ops, refused, kindsOf, operandsOf}
 use Rattle.perform.specs.Run as Run
 use Rattle.correctness.specs.Call.{Compilation, Left, assemblyOf, readingOf, transitionOn}
 use Rattle.compile.specs.declared.Compiled.{Compiled}
@@ -33,7 +34,7 @@ abbrev pub assembledIn : Compilation → Left
 assembledIn x =
     let b : Left = lent x in
     record {
-      out = onto (assemblyOf x .text) (b .out);
+      out = overwrite 0 (assemblyOf x .text) (b .out);
       kinds = b .kinds;
       operands = b .operands;
       stack = b .stack;
@@ -46,8 +47,8 @@ readIn x os =
     let b : Left = assembledIn x in
     record {
       out = b .out;
-      kinds = onto (kindsOf os) (b .kinds);
-      operands = onto (operandsOf os) (b .operands);
+      kinds = overwrite 0 (kindsOf os) (b .kinds);
+      operands = overwrite 0 (operandsOf os) (b .operands);
       stack = b .stack;
       work = b .work;
       storage = b .storage;

@@ -5,7 +5,9 @@ use mathlib.Core.Path.{_≡_, sym, ap, _∙_}
 use mathlib.Core.List.{List, [], _∷_}
 use mathlib.Core.Bool.{true}
 use lib.ListN.{length}
-use Rattle.ops.specs.Ops.{Reading, ops, readText, answerOf, opsOf, kindsOf, operandsOf, onto}
+use Rattle.base.specs.Overwrite.{overwrite}
+use Rattle.ops.specs.Ops.{Reading, ops, readText, answerOf, opsOf, kindsOf, operandsOf}
+use Rattle.base.proofs.Overwrite.{overwrite-all}
 use Rattle.ops.specs.Numbers.{parsedOpsNumbered}
 use Rattle.checks.specs.Verify.{buffersFit}
 use Rattle.expression.specs.Tree.{kOf}
@@ -16,7 +18,7 @@ use Rattle.correctness.specs.Statement.{Hypotheses, Statement, foundBy}
 use Rattle.contract.proofs.Accepted.{accepted-is}
 use Rattle.contract.proofs.Answers.{tells}
 use Rattle.correctness.proofs.Operations.{operations-length}
-use Rattle.correctness.proofs.Reading.{reads-output, onto-full}
+use Rattle.correctness.proofs.Reading.{reads-output}
 use Rattle.correctness.proofs.Transition.{kinds-length, operands-length, transition}
 
 pub compile-statement : (x : Compilation) (n k p v : ℕ) → Hypotheses x n k p v → Statement x k p v (foundBy x)
@@ -33,10 +35,10 @@ compile-statement x n k p v a =
     let vs-length = operands-length t in
     let reading : readingOf x ≡ ops (operationsOf t) =
     ap (λ (text : List ℕ). readText text (min (length kinds) (length operands))) (d .text-is) ∙ reads-output (x .stem) v t (d .stem-fits) (acc .fits .0) (min (length kinds) (length operands)) (omega arith) in
-    let ks-full : onto (kindsOf (opsOf (readingOf x))) kinds ≡ kindsOf (operationsOf t) =
-    ap (λ (r : Reading). onto (kindsOf (opsOf r)) kinds) reading ∙ onto-full (kindsOf (operationsOf t)) kinds (omega arith) in
-    let vs-full : onto (operandsOf (opsOf (readingOf x))) operands ≡ operandsOf (operationsOf t) =
-    ap (λ (r : Reading). onto (operandsOf (opsOf r)) operands) reading ∙ onto-full (operandsOf (operationsOf t)) operands (omega arith) in
+    let ks-full : overwrite 0 (kindsOf (opsOf (readingOf x))) kinds ≡ kindsOf (operationsOf t) =
+    ap (λ (r : Reading). overwrite 0 (kindsOf (opsOf r)) kinds) reading ∙ overwrite-all (kindsOf (operationsOf t)) kinds (omega arith) in
+    let vs-full : overwrite 0 (operandsOf (opsOf (readingOf x))) operands ≡ operandsOf (operationsOf t) =
+    ap (λ (r : Reading). overwrite 0 (operandsOf (opsOf r)) operands) reading ∙ overwrite-all (operandsOf (operationsOf t)) operands (omega arith) in
     let count : length (operationsOf t) ≡ 2 * k = operations-length t ∙ ap (λ (i : ℕ). 2 * i) (sym k-is) in
     let ks-is : length kinds ≡ 2 * kOf t = omega arith in
     let vs-is : length operands ≡ 2 * kOf t = omega arith in

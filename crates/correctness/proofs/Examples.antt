@@ -6,12 +6,13 @@ use mathlib.Core.List.{List, [], _∷_}
 use mathlib.Core.Option.{some}
 use lib.ListN.{replicate}
 use Rattle.base.specs.Ascii.{ascii}
+use Rattle.base.specs.Overwrite.{overwrite}
 use Rattle.word.specs.Apply.{add}
 use Rattle.numbered.specs.declared.Numbered.{Numbered}
 use Rattle.numbered.specs.Numbered.{carrying, plain}
 use Rattle.decimal.specs.Decimal.{decimal}
 use Rattle.token.specs.Token.{scan}
-use Rattle.ops.specs.Ops.{Reading, opsOf, kindsOf, operandsOf, onto}
+use Rattle.ops.specs.Ops.{Reading, opsOf, kindsOf, operandsOf}
 use Rattle.context.specs.declared.Gate.the-variants as gate
 use Rattle.machine.specs.Machine.{outOfGas, stackLimitExceeded, whole}
 use Rattle.perform.specs.declared.State.{State}
@@ -79,7 +80,7 @@ module _ (caller g : ℕ) (h : 7 ≤ g) where
   abbrev reading : Reading
   reading = readingOf (call caller g)
 
-  tally-answers : transitionOn (call caller g) (onto (kindsOf (opsOf reading)) (replicate 6 9)) (onto (operandsOf (opsOf reading)) (replicate 6 9)) .answer ≡ Success 7 6 1 unused
+  tally-answers : transitionOn (call caller g) (overwrite 0 (kindsOf (opsOf reading)) (replicate 6 9)) (overwrite 0 (operandsOf (opsOf reading)) (replicate 6 9)) .answer ≡ Success 7 6 1 unused
   tally-answers = told (tally-runs .0)
 
 -- n sums

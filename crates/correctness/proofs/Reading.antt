@@ -5,7 +5,7 @@ use mathlib.Core.Path.{_≡_, refl, ap, _∙_}
 use mathlib.Core.List.{List, [], _∷_, _++_, append-assoc, append-nil}
 use mathlib.Core.Bool.{true, _&&_}
 use lib.Dec.{leb, ltb}
-use lib.ListN.{length, drop-of-length-le}
+use lib.ListN.{length}
 use Rattle.base.specs.Ascii.{ascii}
 use Rattle.base.proofs.Tests.{and-left, and-right, between}
 use Rattle.utf8.specs.Utf8.{utf8}
@@ -15,7 +15,7 @@ use Rattle.lines.specs.Lines.{feedFree}
 use Rattle.lines.proofs.Written.{free-cons, free-append}
 use Rattle.decimal.specs.Decimal.{digit, allDigits, decimal}
 use Rattle.decimal.proofs.Laws.{allDigits-decimal}
-use Rattle.ops.specs.Ops.{ops, readText, onto}
+use Rattle.ops.specs.Ops.{ops, readText}
 use Rattle.ops.specs.Written.{writtenAll, remarks, IsRemark, Each, none, one}
 use Rattle.ops.proofs.Written.{reads-written}
 use Rattle.expression.specs.Tree.{Tree, kOf}
@@ -65,7 +65,3 @@ reads-output stem v t e h room k =
     ap (λ (x : List ℕ). readText (x ++ writtenAll (operationsOf t)) room) (header-remarks stem v)
     ∙ reads-written (titles-remarks stem v e) (all-writable f) (omega (arith, operations-length t, k-positive t)) room (omega (arith, operations-length t))
     ∙ ap ops (all-same f)
-
--- a buffer of that length is filled
-pub onto-full : (xs buffer : List ℕ) → length buffer ≡ length xs → onto xs buffer ≡ xs
-onto-full xs buffer e = let h : length buffer ≤ length xs = omega arith in ap (λ (l : List ℕ). xs ++ l) (drop-of-length-le buffer h) ∙ append-nil xs

@@ -8,11 +8,12 @@ use mathlib.Core.Option.{some}
 use lib.Dec.{eqb}
 use lib.ListN.{length, getD, replicate}
 use Rattle.base.specs.Ascii.{ascii}
+use Rattle.base.specs.Overwrite.{overwrite}
 use Rattle.numbered.specs.declared.Numbered.{Numbered}
 use Rattle.numbered.specs.Numbered.{carrying, plain}
 use Rattle.source.specs.Vector.{vectorNumber}
 use Rattle.source.specs.declared.vector.KeyValue.the-variants as key
-use Rattle.ops.specs.Ops.{answerOf, opsOf, kindsOf, operandsOf, onto}
+use Rattle.ops.specs.Ops.{answerOf, opsOf, kindsOf, operandsOf}
 use Rattle.ops.specs.Numbers.{parsedOpsNumbered}
 use Rattle.context.specs.declared.Gate.the-variants as gate
 use Rattle.checks.specs.Verify.{buffersFit}
@@ -112,8 +113,8 @@ endingOf r = record { numbered = answerNumbered (r .answer); used = r .state .us
 
 abbrev pub foundBy : Compilation → Found
 foundBy x =
-    let kinds = onto (kindsOf (opsOf (readingOf x))) (x .run .kinds) in
-    let operands = onto (operandsOf (opsOf (readingOf x))) (x .run .operands) in
+    let kinds = overwrite 0 (kindsOf (opsOf (readingOf x))) (x .run .kinds) in
+    let operands = overwrite 0 (operandsOf (opsOf (readingOf x))) (x .run .operands) in
     record {
       reading = parsedOpsNumbered (answerOf (readingOf x));
       kinds = kinds;

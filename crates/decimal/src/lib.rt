@@ -3,10 +3,11 @@ ghost use mathlib.Core.Path.{_≡_};
 ghost use Prim.Native.Nat.{_+_, _*_, _^_, _<_, _≤_};
 ghost use lib.Dec.{ltb};
 ghost use lib.ListN.{length, getD, drop};
+ghost use Rattle.base.specs.Overwrite.{overwrite};
 ghost use Rattle.decimal.specs.Decimal.{digit, digits, withoutPlus, numberOf};
 ghost use Rattle.decimal.specs.Code.Digits.{digitsAt};
 ghost use Rattle.decimal.specs.Decimal.{decimal};
-ghost use Rattle.decimal.specs.Code.Digits.{put, writtenAt, bufferAfter};
+ghost use Rattle.decimal.specs.Code.Digits.{writtenAt, bufferAfter};
 ghost use Rattle.decimal.specs.Code.Zeros.{ZerosTo, ZerosAt};
 use base::both;
 use base::in_range;
@@ -238,7 +239,7 @@ fn short_len(n: u64) -> usize
 // The len digits of a number, from the last to the first, two in a turn.
 fn write_digits(n: u64, out: &mut [u8], at: usize, len: usize)
     requires { ⌜ (len ≡ length (decimal n)) × (at + len ≤ length (now out)) ⌝ }
-    ensures { λ r. ⌜ now (out .exit) ≡ put at (decimal n) (now (out .entry)) ⌝ }
+    ensures { λ r. ⌜ now (out .exit) ≡ overwrite at (decimal n) (now (out .entry)) ⌝ }
 {
     let mut rest = n;
     let mut i = at + len - 1;

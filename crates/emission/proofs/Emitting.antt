@@ -16,8 +16,9 @@ use Rattle.expression.specs.Grammar.{levels}
 use Rattle.expression.specs.Parse.{meaning}
 use Rattle.expression.specs.Code.Source.{Sources, treeIn, expressionOf, envOf, treeOf, AllStand}
 use Rattle.expression.specs.Code.Texts.{textOf}
-use Rattle.writer.specs.Code.Pieces.{Put, pushText, operatorsText}
-use Rattle.writer.proofs.Pieces.{put-none, put-then, put-length}
+use Rattle.writer.specs.Code.Overwrites.{Overwrites}
+use Rattle.emission.specs.Code.Lines.{pushText, operatorsText}
+use Rattle.writer.proofs.Pieces.{overwrites-none, overwrites-then, overwrites-length}
 use Rattle.emission.specs.declared.factor.Factor.{Factor}
 use Rattle.emission.specs.declared.factor.Factor.the-variants.{Open, Literal, Name, Nothing}
 use Rattle.emission.specs.declared.factor.FactorAt.{FactorAt}
@@ -36,7 +37,7 @@ module _ (s : List ℕ) (c : Sources) (count end : ℕ) (whole out₀ : List ℕ
     pub o : List ℕ
     pub rest : List ℕ
     pub all : o ++ rest ≡ whole
-    pub put : Put out₀ at o out to
+    pub put : Overwrites out₀ at o out to
     pub few : n ≤ most
     pub full : length waiting ≡ most
     pub walks : Walks (envOf s c count) due (stackOf waiting n) (tokens (drop i (take end s))) rest
@@ -67,7 +68,7 @@ going-starts {s} {c} {count} {start} {end} {out} {at} m f = record {
   o = [];
   rest = textOf (treeBetween s c count start end);
   all = refl;
-  put = put-none out at;
+  put = overwrites-none out at;
   few = omega arith;
   full = f;
   walks = postfix (envOf s c count) (drop start (take end s)) (treeBetween s c count start end) (m .is);
@@ -82,7 +83,7 @@ module _ {s : List ℕ} {c : Sources} {count end : ℕ} {whole out₀ : List ℕ
     written = sym (length-append (g .o) (g .rest)) ∙ ap length (g .all)
 
     pub going-length : length out ≡ length out₀
-    going-length = put-length (g .put) (omega (arith, written, x .room))
+    going-length = overwrites-length (g .put) (omega (arith, written, x .room))
 
     -- a piece of the rest
     module _ (piece more : List ℕ) (e : g .rest ≡ piece ++ more) where
@@ -92,12 +93,12 @@ module _ {s : List ℕ} {c : Sources} {count end : ℕ} {whole out₀ : List ℕ
       pub fits : to + length piece ≤ length out
       fits = omega (arith, going-length, g .put .next, x .room, part)
 
-      goes : {new : List ℕ} {r : ℕ} → Put out to piece new r → {waiting' : List ℕ} {n' i' : ℕ} {due' : Bool} → n' ≤ most → length waiting' ≡ most → Walks (envOf s c count) due' (stackOf waiting' n') (tokens (drop i' (take end s))) more → Going s c count end whole out₀ at new r waiting' n' i' due'
+      goes : {new : List ℕ} {r : ℕ} → Overwrites out to piece new r → {waiting' : List ℕ} {n' i' : ℕ} {due' : Bool} → n' ≤ most → length waiting' ≡ most → Walks (envOf s c count) due' (stackOf waiting' n') (tokens (drop i' (take end s))) more → Going s c count end whole out₀ at new r waiting' n' i' due'
       goes {new} {r} p f l w = record {
         o = g .o ++ piece;
         rest = more;
         all = append-assoc (g .o) piece more ∙ ap (λ (y : List ℕ). g .o ++ y) (sym e) ∙ g .all;
-        put = put-then (g .put) (omega (arith, x .room, part)) p;
+        put = overwrites-then (g .put) (omega (arith, x .room, part)) p;
         few = f;
         full = l;
         walks = w;
@@ -140,7 +141,7 @@ module _ {s : List ℕ} {c : Sources} {count end : ℕ} {whole out₀ : List ℕ
       pub literal-fits : to + length (pushText v) ≤ length out
       literal-fits = let w = step (Literal v) q in fits g (pushText v) (w .0) (w .1 .0)
 
-      pub literal-goes : {new : List ℕ} {r : ℕ} → Put out to (pushText v) new r → Going s c count end whole out₀ at new r waiting n (next .end) false
+      pub literal-goes : {new : List ℕ} {r : ℕ} → Overwrites out to (pushText v) new r → Going s c count end whole out₀ at new r waiting n (next .end) false
       literal-goes p = let w = step (Literal v) q in goes g (pushText v) (w .0) (w .1 .0) p (g .few) (g .full) (there false (stackOf waiting n) (w .0) (w .1 .1))
 
     module _ (b : ℕ) (q : next .factor ≡ Name b) where
@@ -153,7 +154,7 @@ module _ {s : List ℕ} {c : Sources} {count end : ℕ} {whole out₀ : List ℕ
       pub name-fits : to + length (textOf (treeOf s c b)) ≤ length out
       name-fits = let w = step (Name b) q .1 in fits g (textOf (treeOf s c b)) (w .0) (w .1 .0)
 
-      pub name-goes : {new : List ℕ} {r : ℕ} → Put out to (textOf (treeOf s c b)) new r → Going s c count end whole out₀ at new r waiting n (next .end) false
+      pub name-goes : {new : List ℕ} {r : ℕ} → Overwrites out to (textOf (treeOf s c b)) new r → Going s c count end whole out₀ at new r waiting n (next .end) false
       name-goes p = let w = step (Name b) q .1 in goes g (textOf (treeOf s c b)) (w .0) (w .1 .0) p (g .few) (g .full) (there false (stackOf waiting n) (w .0) (w .1 .1))
 
   -- an operator
@@ -188,10 +189,10 @@ module _ {s : List ℕ} {c : Sources} {count end : ℕ} {whole out₀ : List ℕ
     pub end-fits : to + length (operatorsText (popped levels (stackOf waiting n))) ≤ length out
     end-fits = fits g (operatorsText (popped levels (stackOf waiting n))) [] (last due refl)
 
-    pub end-put : {new : List ℕ} {r : ℕ} → Put out to (operatorsText (popped levels (stackOf waiting n))) new r → Put out₀ at whole new r
+    pub end-put : {new : List ℕ} {r : ℕ} → Overwrites out to (operatorsText (popped levels (stackOf waiting n))) new r → Overwrites out₀ at whole new r
     end-put p =
         let e = last due refl in
-        let q = put-then (g .put) (omega (arith, x .room, part g (operatorsText (popped levels (stackOf waiting n))) [] e)) p in
+        let q = overwrites-then (g .put) (omega (arith, x .room, part g (operatorsText (popped levels (stackOf waiting n))) [] e)) p in
         let a : g .o ++ operatorsText (popped levels (stackOf waiting n)) ≡ whole = ap (λ (y : List ℕ). g .o ++ y) (sym (e ∙ append-nil (operatorsText (popped levels (stackOf waiting n))))) ∙ g .all in
         rw (← a) q
 

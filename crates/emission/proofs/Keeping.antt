@@ -8,21 +8,21 @@ use lib.Seq.{slice, length-slice, getD-set-same, getD-set-other}
 use Rattle.base.proofs.Tests.{by-eqb}
 use Rattle.expression.specs.Code.Source.{Sources, treeOf}
 use Rattle.expression.specs.Code.Texts.{textOf}
-use Rattle.writer.specs.Code.Pieces.{Put}
-use Rattle.writer.proofs.Pieces.{put-slice, put-there}
+use Rattle.writer.specs.Code.Overwrites.{Overwrites}
+use Rattle.writer.proofs.Pieces.{overwrites-slice, overwrites-there}
 use Rattle.emission.specs.Code.Emitted.{Kept}
 
 module _ {s : List ℕ} {c : Sources} where
-  pub kept-put : {out : List ℕ} {to : ℕ} {places lengths bytes after : List ℕ} {r : ℕ} → Kept s c out to places lengths → Put out to bytes after r → to + length bytes ≤ length out → Kept s c after r places lengths
+  pub kept-put : {out : List ℕ} {to : ℕ} {places lengths bytes after : List ℕ} {r : ℕ} → Kept s c out to places lengths → Overwrites out to bytes after r → to + length bytes ≤ length out → Kept s c after r places lengths
   kept-put {out} {to} {places} {lengths} k p h = record {
     places-full = k .places-full;
     lengths-full = k .lengths-full;
     before = λ i z. omega (arith, k .before i z, p .next);
-    holds = λ i z. put-slice p h (getD places i 0) (getD places i 0 + getD lengths i 0) (k .before i z) ∙ k .holds i z;
+    holds = λ i z. overwrites-slice p h (getD places i 0) (getD places i 0 + getD lengths i 0) (k .before i z) ∙ k .holds i z;
   }
 
   -- binding b, written from a place on
-  module _ (b : ℕ) {before : List ℕ} {at : ℕ} {out : List ℕ} {to : ℕ} {places lengths : List ℕ} (k : Kept s c out to places lengths) (p : Put before at (textOf (treeOf s c b)) out to) (h : at + length (textOf (treeOf s c b)) ≤ length before) (few : b < 256) where
+  module _ (b : ℕ) {before : List ℕ} {at : ℕ} {out : List ℕ} {to : ℕ} {places lengths : List ℕ} (k : Kept s c out to places lengths) (p : Overwrites before at (textOf (treeOf s c b)) out to) (h : at + length (textOf (treeOf s c b)) ≤ length before) (few : b < 256) where
     pub kept-mark : Kept s c out to (set places b at) (set lengths b (to - at))
     kept-mark = record {
       places-full = simp length-set (k .places-full);
@@ -36,7 +36,7 @@ module _ {s : List ℕ} {c : Sources} where
             by-eqb i b
             (λ e.
             let n : at + (to - at) ≡ to = omega (arith, p .next) in
-            rw (e, getD-set-same places b at 0 (omega (arith, k .places-full)), getD-set-same lengths b (to - at) 0 (omega (arith, k .lengths-full)), n) (omega arith, put-there p h))
+            rw (e, getD-set-same places b at 0 (omega (arith, k .places-full)), getD-set-same lengths b (to - at) 0 (omega (arith, k .lengths-full)), n) (omega arith, overwrites-there p h))
             (λ e.
             let q = getD-set-other places b i at 0 e in
             let l = getD-set-other lengths b i (to - at) 0 e in
@@ -51,7 +51,7 @@ module _ {s : List ℕ} {c : Sources} where
     pub again-fits : (getD places b 0 + getD lengths b 0 ≤ at) × (at + getD lengths b 0 ≤ length out)
     again-fits = (k .before b some, omega (arith, size))
 
-    pub again-put : {after : List ℕ} {r : ℕ} → Put out at (slice (getD places b 0) (getD places b 0 + getD lengths b 0) out) after r → Put out at (textOf (treeOf s c b)) after r
+    pub again-put : {after : List ℕ} {r : ℕ} → Overwrites out at (slice (getD places b 0) (getD places b 0 + getD lengths b 0) out) after r → Overwrites out at (textOf (treeOf s c b)) after r
     again-put p = rw (k .holds b some) at p
 
 zeros : (n i : ℕ) → _≡_ {A = ℕ} (getD (replicate n 0) i 0) 0

@@ -1,3 +1,4 @@
+pub mod Again
 pub mod Stack
 pub mod Walk
 pub mod Postfix

@@ -4,15 +4,16 @@ use mathlib.Core.Path.{_≡_, refl, sym, ap, _∙_}
 use mathlib.Core.List.{List, [], _∷_, _++_, append-nil, append-assoc}
 use native.Mathlib.Omega.{arith}
 use lib.ListN.{length, getD, length-append}
-use Rattle.writer.specs.Code.Pieces.{Put, operatorText, operatorsText}
-use Rattle.writer.proofs.Pieces.{put-none, put-then, put-length}
+use Rattle.writer.specs.Code.Overwrites.{Overwrites}
+use Rattle.emission.specs.Code.Lines.{operatorText, operatorsText}
+use Rattle.writer.proofs.Pieces.{overwrites-none, overwrites-then, overwrites-length}
 use Rattle.emission.specs.Code.Waiting.{levelOf, most, popped, left, stackOf, Pops}
 use Rattle.emission.proofs.Stack.{left-one, left-none, stack-top, popped-empty, popped-shut, popped-more}
 
 -- o is written so far, and k of n operators wait
 pub record Popping (A : List ℕ) (level n : ℕ) (out₀ : List ℕ) (at : ℕ) (out : List ℕ) (to k : ℕ) : Type 0 where
   pub o : List ℕ
-  pub put : Put out₀ at o out to
+  pub put : Overwrites out₀ at o out to
   pub all : o ++ operatorsText (popped level (stackOf A k)) ≡ operatorsText (popped level (stackOf A n))
   pub room : at + length (operatorsText (popped level (stackOf A n))) ≤ length out₀
   pub same : left level (stackOf A k) ≡ left level (stackOf A n)
@@ -20,7 +21,7 @@ pub record Popping (A : List ℕ) (level n : ℕ) (out₀ : List ℕ) (at : ℕ)
   pub few : n ≤ most
 
 pub popping-starts : (A : List ℕ) (level n : ℕ) (out : List ℕ) (at : ℕ) → n ≤ most → at + length (operatorsText (popped level (stackOf A n))) ≤ length out → Popping A level n out at out at n
-popping-starts A level n out at h r = record { o = []; put = put-none out at; all = refl; room = r; same = refl; fewer = omega arith; few = h }
+popping-starts A level n out at h r = record { o = []; put = overwrites-none out at; all = refl; room = r; same = refl; fewer = omega arith; few = h }
 
 left-empty : (A : List ℕ) (level k : ℕ) → k ≤ 0 → stackOf A k ≡ left level (stackOf A k)
 unfolding stackOf left
@@ -31,7 +32,7 @@ module _ {A : List ℕ} {level n : ℕ} {out₀ : List ℕ} {at : ℕ} {out : Li
   written = sym (length-append (p .o) (operatorsText (popped level (stackOf A k)))) ∙ ap length (p .all)
 
   pub popping-length : length out ≡ length out₀
-  popping-length = put-length (p .put) (omega (arith, written, p .room))
+  popping-length = overwrites-length (p .put) (omega (arith, written, p .room))
 
   pops : popped level (stackOf A k) ≡ [] → stackOf A k ≡ left level (stackOf A k) → Pops out₀ at A n level out (record { to = to; left = k })
   pops e l =
@@ -58,10 +59,10 @@ module _ {A : List ℕ} {level n : ℕ} {out₀ : List ℕ} {at : ℕ} {out : Li
       pub popping-fits : to + length (operatorText (getD A (k - 1) 0)) ≤ length out
       popping-fits = omega (arith, popping-length, p .put .next, p .room, long)
 
-      pub popping-more : {new : List ℕ} {r : ℕ} → Put out to (operatorText (getD A (k - 1) 0)) new r → Popping A level n out₀ at new r (k - 1)
+      pub popping-more : {new : List ℕ} {r : ℕ} → Overwrites out to (operatorText (getD A (k - 1) 0)) new r → Popping A level n out₀ at new r (k - 1)
       popping-more {new} {r} q = record {
         o = p .o ++ operatorText (getD A (k - 1) 0);
-        put = put-then (p .put) (omega (arith, p .room, long)) q;
+        put = overwrites-then (p .put) (omega (arith, p .room, long)) q;
         all = append-assoc (p .o) (operatorText (getD A (k - 1) 0)) (operatorsText (popped level (stackOf A (k - 1)))) ∙ ap (λ (x : List ℕ). p .o ++ x) (sym more) ∙ p .all;
         room = p .room;
         same = sym (left-one level (getD A (k - 1) 0) (stackOf A (k - 1)) l) ∙ ap (left level) (sym top) ∙ p .same;

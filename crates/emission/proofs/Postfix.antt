@@ -15,7 +15,7 @@ use Rattle.expression.specs.Code.Texts.{textOf}
 use Rattle.expression.proofs.Steps.{lone-is}
 use Rattle.expression.proofs.Grammar.{operator-is, digits-no-parenthesis, meaning-derives}
 use Rattle.expression.proofs.Written.{text-bin}
-use Rattle.writer.specs.Code.Pieces.{operatorText, operatorsText}
+use Rattle.emission.specs.Code.Lines.{operatorText, operatorsText}
 use Rattle.emission.specs.Code.Waiting.{levelOf, most, popped, left}
 use Rattle.emission.proofs.Stack.{joins-level, popped-one, popped-none, left-one, left-none, operators-append}
 use Rattle.emission.proofs.Walk.{opens, closes, waits, Walks}

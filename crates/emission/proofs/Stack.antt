@@ -13,7 +13,7 @@ use Rattle.expression.specs.Parse.{joins}
 use Rattle.expression.specs.Tree.{num}
 use Rattle.expression.specs.Code.Texts.{textOf}
 use Rattle.expression.proofs.Steps.{looser}
-use Rattle.writer.specs.Code.Pieces.{pushText, operatorText, operatorsText}
+use Rattle.emission.specs.Code.Lines.{pushText, operatorText, operatorsText}
 use Rattle.emission.specs.Code.Waiting.{levelOf, popped, left, stackOf}
 
 -- an operator's level is the one that it joins to

@@ -21,7 +21,7 @@ use Rattle.expression.specs.Parse.{lookup, lone}
 use Rattle.expression.specs.Code.Source.{Sources, envOf, treeOf, AllStand}
 use Rattle.expression.specs.Code.Table.{found}
 use Rattle.expression.specs.Code.Texts.{textOf}
-use Rattle.writer.specs.Code.Pieces.{pushText, operatorsText}
+use Rattle.emission.specs.Code.Lines.{pushText, operatorsText}
 use Rattle.emission.specs.declared.factor.Factor.{Factor}
 use Rattle.emission.specs.declared.factor.Factor.the-variants.{Open, Literal, Name, Nothing}
 use Rattle.emission.specs.Code.Factor.{namedBy, factorOf}

@@ -10,7 +10,7 @@ use lib.ListN.{length, set, take, drop, length-set}
 use Rattle.base.proofs.Tests.{by-eqb}
 use Rattle.token.specs.Code.Places.{tokenAt}
 use Rattle.expression.specs.Grammar.{levels}
-use Rattle.writer.specs.Code.Pieces.{operatorsText}
+use Rattle.emission.specs.Code.Lines.{operatorsText}
 use Rattle.emission.specs.declared.waiting.Popped.{Popped}
 use Rattle.emission.specs.Code.Waiting.{levelOf, most, popped, left, stackOf, Pops}
 use Rattle.emission.specs.Code.Turn.{signAt, downTo, Ready, Turns}

@@ -10,7 +10,7 @@ use Rattle.expression.specs.Tree.{Tree, num}
 use Rattle.expression.specs.Grammar.{levels}
 use Rattle.expression.specs.Parse.{Env, lookup, lone}
 use Rattle.expression.specs.Code.Texts.{textOf}
-use Rattle.writer.specs.Code.Pieces.{operatorsText}
+use Rattle.emission.specs.Code.Lines.{operatorsText}
 use Rattle.emission.specs.Code.Waiting.{levelOf, most, popped, left}
 
 -- The token w where a factor is due: `(` is marked on the stack, a number and a name are written.

@@ -2,9 +2,10 @@
 // expression; what a binding wrote once is copied from the output.
 ghost use Prim.Native.Nat.{_+_, _<_, _≤_};
 ghost use lib.ListN.{length};
+ghost use lib.Seq.{slice};
 ghost use Rattle.expression.specs.Code.Source.{sourcesOf, sources, treeOf, AllStand};
 ghost use Rattle.expression.specs.Code.Texts.{textOf};
-ghost use Rattle.writer.specs.Code.Pieces.{Put};
+ghost use Rattle.writer.specs.Code.Overwrites.{Overwrites};
 ghost use Rattle.emission.specs.Code.Emitted.{treeBetween, Means, Kept};
 
 mod factor;
@@ -20,7 +21,6 @@ use operator::operate;
 use waiting::LEVELS;
 use waiting::WAITING;
 use waiting::pop;
-use writer::put_again;
 use writer::put_push;
 
 // Writes the expression from start to end of the text at a place of the output, where there is room for it. Its names mean the first
@@ -38,7 +38,7 @@ pub fn emit(
 ) -> usize
     requires { ⌜ Means (now text) (sources table values) count start end ⌝ }
     requires { ⌜ at + length (textOf (treeBetween (now text) (sources table values) count start end)) ≤ length (now out) ⌝ }
-    ensures { λ r. ⌜ Put (now (out .entry)) at (textOf (treeBetween (now (text .entry)) (sources table values) count start end))
+    ensures { λ r. ⌜ Overwrites (now (out .entry)) at (textOf (treeBetween (now (text .entry)) (sources table values) count start end))
         (now (out .exit)) r ⌝ }
 {
     let mut places = [0usize; 256];
@@ -86,7 +86,7 @@ fn expression<'a>(
     requires { ⌜ Kept (now text)
         (sourcesOf (now names) (now lens) (now tags) (now starts) (now sizes) (now values))
         (now out) at (now places) (now lengths) ⌝ }
-    ensures wrote { λ r. ⌜ Put (now (out .entry)) at (textOf (treeBetween (now (text .entry))
+    ensures wrote { λ r. ⌜ Overwrites (now (out .entry)) at (textOf (treeBetween (now (text .entry))
         (sourcesOf (now (names .entry)) (now (lens .entry)) (now (tags .entry))
         (now (starts .entry)) (now (sizes .entry)) (now (values .entry)))
         count start end)) (now (out .exit)) r ⌝ }
@@ -170,7 +170,7 @@ fn binding<'a>(
     requires { ⌜ Kept (now text)
         (sourcesOf (now names) (now lens) (now tags) (now starts) (now sizes) (now values))
         (now out) at (now places) (now lengths) ⌝ }
-    ensures wrote { λ r. ⌜ Put (now (out .entry)) at (textOf (treeOf (now (text .entry))
+    ensures wrote { λ r. ⌜ Overwrites (now (out .entry)) at (textOf (treeOf (now (text .entry))
         (sourcesOf (now (names .entry)) (now (lens .entry)) (now (tags .entry))
         (now (starts .entry)) (now (sizes .entry)) (now (values .entry)))
         b)) (now (out .exit)) r ⌝ }
@@ -207,4 +207,18 @@ fn binding<'a>(
     places[b] = at;
     lengths[b] = behind - at;
     behind
+}
+
+// Bytes that stand before a place, once more at that place.
+fn put_again(out: &mut [u8], at: usize, from: usize, len: usize) -> usize
+    requires { ⌜ (from + len ≤ at) × (at + len ≤ length (now out)) ⌝ }
+    ensures { λ r. ⌜ Overwrites (now (out .entry)) at (slice from (from + len) (now (out .entry))) (now (out .exit)) r ⌝ }
+{
+    let mut j: usize = 0;
+    while j < len {
+        let b = out[from + j];
+        out[at + j] = b;
+        j += 1;
+    }
+    at + len
 }

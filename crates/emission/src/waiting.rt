@@ -2,12 +2,15 @@
 ghost use mathlib.Core.Path.{_≡_};
 ghost use Prim.Native.Nat.{_+_, _≤_};
 ghost use lib.ListN.{length};
-ghost use Rattle.writer.specs.Code.Pieces.{operatorsText};
+ghost use Rattle.expression.specs.Parse.{operator};
+ghost use Rattle.expression.specs.Written.{kindNumber};
+ghost use Rattle.writer.specs.Code.Overwrites.{Overwrites};
+ghost use Rattle.emission.specs.Code.Lines.{operatorText, operatorsText};
 ghost use Rattle.emission.specs.Code.Waiting.{levelOf, most, popped, stackOf, Pops};
 use expression::DEPTH;
 use expression::parts::is_product;
 use expression::parts::is_sum;
-use writer::put_operator;
+use writer::put_operation;
 
 // So many levels of operators: 1 for * and /, 2 for + and -.
 pub const LEVELS: u8 = 2;
@@ -53,4 +56,24 @@ pub fn pop(out: &mut [u8], at: usize, waiting: &[u8; WAITING], n: usize, level: 
         left -= 1;
     }
     Popped { to, left }
+}
+
+// The line of the operator that a sign means.
+fn put_operator(out: &mut [u8], at: usize, sign: u8) -> usize
+    requires { ⌜ at + length (operatorText sign) ≤ length (now out) ⌝ }
+    ensures { λ r. ⌜ Overwrites (now (out .entry)) at (operatorText sign) (now (out .exit)) r ⌝ }
+{
+    put_operation(out, at, operator_kind(sign), 0)
+}
+
+// The number of that operator's kind.
+fn operator_kind(sign: u8) -> u8
+    ensures { λ r. ⌜ r ≡ kindNumber (operator sign) ⌝ }
+{
+    match sign {
+        b'+' => 1,
+        b'-' => 2,
+        b'*' => 3,
+        _ => 4,
+    }
 }

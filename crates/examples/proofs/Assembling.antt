@@ -3,7 +3,7 @@ use mathlib.Core.Path.{_≡_, ap, subst}
 use mathlib.Core.List.{List}
 use Prim.Native.Nat.{ℕ}
 use lib.ListN.{length}
-use Rattle.ops.specs.Ops.{onto}
+use Rattle.base.specs.Overwrite.{overwrite}
 use Rattle.contract.specs.Output.{assembled}
 use Rattle.assembler.specs.declared.Answer.{Answer}
 use Rattle.assembler.specs.Answers.{Assembles}
@@ -13,5 +13,5 @@ use Rattle.examples.specs.Bench.{tallyOps}
 pub assembles : (contract vector stem out after : List ℕ) (r : Answer) → out ≡ zeros → Assembles (assembled contract vector stem (length out)) out after r → Assembles (assembled contract vector stem 4096) zeros after r
 assembles contract vector stem out after r e h = subst (λ (o : List ℕ). Assembles (assembled contract vector stem (length o)) o after r) e h
 
-pub sized : {after : List ℕ} → after ≡ onto tallyOps zeros → length after ≡ 4096
+pub sized : {after : List ℕ} → after ≡ overwrite 0 tallyOps zeros → length after ≡ 4096
 sized e = ap length e

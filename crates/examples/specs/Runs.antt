@@ -3,8 +3,9 @@ use Prim.Native.Nat.{ℕ}
 use mathlib.Core.Path.{_≡_}
 use mathlib.Core.List.{List}
 use lib.ListN.{replicate}
+use Rattle.base.specs.Overwrite.{overwrite}
 use Rattle.kinds.specs.Kinds.{Operation}
-use Rattle.ops.specs.Ops.{readText, answerOf, opsOf, kindsOf, operandsOf, onto}
+use Rattle.ops.specs.Ops.{readText, answerOf, opsOf, kindsOf, operandsOf}
 use Rattle.ops.specs.declared.ParsedOps.{ParsedOps}
 use Rattle.ops.specs.declared.ParsedOps.the-variants.{Read, Refused}
 use Rattle.perform.specs.declared.Answer.{Answer}
@@ -66,5 +67,5 @@ nines = replicate 4096 9
 -- a reading of a text into 4,096 such kinds and 4,096 zeros: its answer, and what it leaves in both
 pub record Fills (text : List ℕ) (r : ParsedOps) (ks vs : List ℕ) : Type 0 where
   pub answer : r ≡ answerOf (readText text 4096)
-  pub kinds : ks ≡ onto (kindsOf (operations text)) nines
-  pub operands : vs ≡ onto (operandsOf (operations text)) zeros
+  pub kinds : ks ≡ overwrite 0 (kindsOf (operations text)) nines
+  pub operands : vs ≡ overwrite 0 (operandsOf (operations text)) zeros

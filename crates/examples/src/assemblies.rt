@@ -1,7 +1,7 @@
 // E1 and E9: assemblies into a buffer of 4,096 bytes.
 ghost use mathlib.Core.Path.{_≡_};
 ghost use mathlib.Core.List.{[], _∷_};
-ghost use Rattle.ops.specs.Ops.{onto};
+ghost use Rattle.base.specs.Overwrite.{overwrite};
 ghost use Rattle.assembler.specs.Answers.{answerNumbered};
 ghost use Rattle.numbered.specs.Numbered.{carrying};
 ghost use Rattle.examples.specs.Numbers.{Gives};
@@ -13,7 +13,7 @@ use assembler::assemble;
 pub fn tally(out: &mut [u8; 4096]) -> Answer
     requires { ⌜ now out ≡ zeros ⌝ }
     ensures { λ a. ⌜ Gives (answerNumbered a) (carrying 0 (67 ∷ 3 ∷ 2 ∷ 24 ∷ []))
-        (now (out .exit)) (onto tallyOps zeros) ⌝ }
+        (now (out .exit)) (overwrite 0 tallyOps zeros) ⌝ }
 {
     assemble(
         b"fn total (a, b) {\n  let s = a + b\n  return s * 2\n}\n",

@@ -7,13 +7,14 @@ use mathlib.Core.Bool.{true}
 use borrow.Author.Tests.{eq-eqb, le-leb}
 use lib.ListN.{length, take, drop}
 use lib.Seq.{take-at}
+use Rattle.base.specs.Overwrite.{overwrite}
 use Rattle.numbered.specs.declared.Numbered.{Numbered}
 use Rattle.numbered.specs.Numbered.{carrying}
 use Rattle.context.specs.declared.ContextError.the-variants.{InvalidChainId, InvalidNetworkId, InvalidGenesisId, ProtocolMismatch, VmMismatch, GenesisMismatch}
 use Rattle.context.specs.declared.Gate.{Gate}
 use Rattle.context.specs.declared.Gate.the-variants.{Passed, Refused}
 use Rattle.context.specs.Gate.{gateNumbered}
-use Rattle.ops.specs.Ops.{opsOf, kindsOf, operandsOf, onto}
+use Rattle.ops.specs.Ops.{opsOf, kindsOf, operandsOf}
 use Rattle.checks.specs.Verify.{buffersFit}
 use Rattle.perform.specs.Numbers.{answerNumbered}
 use Rattle.contract.proofs.Answers.{tells}
@@ -71,10 +72,10 @@ module _ (x : Compilation) (n k p v : ℕ) (y : Given) (row : InRow x n y) (lend
   reads = subst (λ (l : List ℕ). Read l (x .run .kinds) (x .run .operands) ks vs (y .reading .words) (y .reading .number)) text-is (row .reads)
 
   abbrev readKinds : List ℕ
-  readKinds = onto (kindsOf (opsOf (readingOf x))) (x .run .kinds)
+  readKinds = overwrite 0 (kindsOf (opsOf (readingOf x))) (x .run .kinds)
 
   abbrev readOperands : List ℕ
-  readOperands = onto (operandsOf (opsOf (readingOf x))) (x .run .operands)
+  readOperands = overwrite 0 (operandsOf (opsOf (readingOf x))) (x .run .operands)
 
   abbrev RanOn : List ℕ → List ℕ → Type 0
   RanOn l m = Ran (transitionOn x l m) (y .left .stack) (y .left .work) (y .left .storage) (y .transition .words) (y .transition .number)

@@ -4,12 +4,12 @@ use mathlib.Core.Path.{_≡_, refl, sym, ap, _∙_}
 use mathlib.Core.List.{List, [], _∷_, _++_, append-nil, append-assoc}
 use native.Mathlib.Omega.{arith}
 use lib.ListN.{length, length-append}
-use Rattle.word.specs.Apply.{Binary, add, sub, mul, div, eq, lt}
+use Rattle.word.specs.Apply.{Binary}
 use Rattle.decimal.specs.Decimal.{decimal}
 use Rattle.kinds.specs.Kinds.{Operation}
 use Rattle.ops.specs.Written.{written, writtenAll}
 use Rattle.expression.specs.Tree.{Tree, num, bin, kOf}
-use Rattle.expression.specs.Code.Lengths.{lineOf, lenOf}
+use Rattle.expression.specs.Code.Lengths.{lenOf}
 use Rattle.expression.specs.Written.{operatorOf, opsOf}
 use Rattle.expression.specs.Code.Texts.{textOf}
 
@@ -23,20 +23,11 @@ text-bin op l r =
     ∙ ap (λ (t : List ℕ). t ++ writtenAll (operatorOf op ∷ [])) (written-append (opsOf l) (opsOf r))
     ∙ ap (λ (t : List ℕ). textOf l ++ textOf r ++ t) (append-nil (written (operatorOf op)))
 
-line-length : (op : Binary) → length (written (operatorOf op)) ≡ lineOf op
-line-length add = refl
-line-length sub = refl
-line-length mul = refl
-line-length div = refl
-line-length eq = refl
-line-length lt = refl
-
 pub text-length : (t : Tree) → length (textOf t) ≡ lenOf t
 text-length (num n) = omega (arith, length-append (decimal n) (10 ∷ []), ap length (append-nil (written (record { kind = 0; operand = n }))))
 text-length (bin op l r) =
     let a = text-length l in
     let b = text-length r in
-    let c = line-length op in
     let e = ap length (text-bin op l r) in
     let f = length-append (textOf l ++ textOf r) (written (operatorOf op)) in
     let g = length-append (textOf l) (textOf r) in

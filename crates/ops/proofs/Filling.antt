@@ -1,17 +1,17 @@
 -- One line more of the second pass.
 use Prim.Native.Nat.{ℕ, suc, _+_, _-_, _<_, _≤_, min}
 use mathlib.Core.Path.{_≡_, refl, sym, ap, _∙_}
-use mathlib.Core.List.{List, [], _∷_, _++_, append-assoc}
+use mathlib.Core.List.{List, [], _∷_}
 use native.Mathlib.Omega.{arith}
 use native.Mathlib.Nat.{min-le-left, min-le-right}
-use native.Mathlib.Numerals.{add-one}
-use lib.ListN.{length, take, drop, set, length-set, take-append-drop}
-use lib.Seq.{drop-drop, drop-set-lt, take-suc-set}
+use lib.ListN.{length, drop, set, length-set}
+use Rattle.base.specs.Overwrite.{overwrite}
 use Rattle.base.proofs.Tests.{by-leb}
+use Rattle.base.proofs.Overwrite.{overwrite-none, overwrite-one, overwrite-then}
 use Rattle.lines.specs.Lines.{lines}
 use Rattle.kinds.specs.Kinds.{Operation, operation}
 use Rattle.ops.specs.Line.{Rule}
-use Rattle.ops.specs.Ops.{Reading, ops, refused, followedBy, thenRead, readLines, opsOf, kindsOf, operandsOf, onto}
+use Rattle.ops.specs.Ops.{Reading, ops, refused, followedBy, thenRead, readLines, opsOf, kindsOf, operandsOf}
 use Rattle.ops.specs.Code.Passes.{lineReadAt, readInto, Good, Filled}
 use Rattle.ops.specs.declared.OpsError.{OpsError}
 use Rattle.ops.specs.declared.line.LineRead.{LineRead}
@@ -21,23 +21,14 @@ use Rattle.ops.proofs.Reading.{Stands, at-first, ended, moved, read-on}
 
 -- a buffer that holds n of what is to be written, with the rest before it
 abbrev Half : List ℕ → List ℕ → ℕ → List ℕ → Type 0
-Half whole out n rest = whole ≡ take n out ++ onto rest (drop n out)
+Half whole out n rest = whole ≡ overwrite n rest out
 
 half-more : (whole out rest : List ℕ) (n v : ℕ) → n < length out → Half whole out n (v ∷ rest) → Half whole (set out n v) (n + 1) rest
 half-more whole out rest n v h e =
-    let t : take (n + 1) (set out n v) ≡ take n out ++ (v ∷ []) = rw add-one (take-suc-set out n v h) in
-    let d : drop (n + 1) (set out n v) ≡ drop (n + 1) out = drop-set-lt (n + 1) out n v (omega arith) in
-    let m : n + suc (length rest) ≡ n + 1 + length rest = omega arith in
-    let k : drop (suc (length rest)) (drop n out) ≡ drop (length rest) (drop (n + 1) out) =
-    drop-drop (suc (length rest)) n out ∙ ap (λ (i : ℕ). drop i out) m ∙ sym (drop-drop (length rest) (n + 1) out) in
-    e
-    ∙ ap (λ (s : List ℕ). take n out ++ (v ∷ (rest ++ s))) k
-    ∙ sym (append-assoc (take n out) (v ∷ []) (rest ++ drop (length rest) (drop (n + 1) out)))
-    ∙ ap (λ (s : List ℕ). s ++ (rest ++ drop (length rest) (drop (n + 1) out))) (sym t)
-    ∙ ap (λ (s : List ℕ). take (n + 1) (set out n v) ++ onto rest s) (sym d)
+    e ∙ sym (overwrite-then n (v ∷ []) out (omega arith) rest) ∙ ap (overwrite (n + 1) rest) (overwrite-one n v out h)
 
 half-all : (whole out : List ℕ) (n : ℕ) → Half whole out n [] → out ≡ whole
-half-all whole out n e = sym (e ∙ take-append-drop n out)
+half-all whole out n e = sym (e ∙ overwrite-none n out)
 
 -- the buffers hold n operations, and the lines from here on hold the rest
 pub record Filling (rule : Rule) (text kinds₀ operands₀ kinds operands : List ℕ) (at line n : ℕ) : Type 0 where
@@ -46,8 +37,8 @@ pub record Filling (rule : Rule) (text kinds₀ operands₀ kinds operands : Lis
   pub sameOperands : length operands ≡ length operands₀
   pub rest : List Operation
   pub is : readLines rule text line (lines (drop at text)) (min (length kinds₀) (length operands₀) - n) ≡ ops rest
-  pub inKinds : Half (onto (kindsOf (opsOf (readInto rule text kinds₀ operands₀))) kinds₀) kinds n (kindsOf rest)
-  pub inOperands : Half (onto (operandsOf (opsOf (readInto rule text kinds₀ operands₀))) operands₀) operands n (operandsOf rest)
+  pub inKinds : Half (overwrite 0 (kindsOf (opsOf (readInto rule text kinds₀ operands₀))) kinds₀) kinds n (kindsOf rest)
+  pub inOperands : Half (overwrite 0 (operandsOf (opsOf (readInto rule text kinds₀ operands₀))) operands₀) operands n (operandsOf rest)
 
 pub fill-first : (rule : Rule) (text kinds operands : List ℕ) → Good rule text kinds operands → Filling rule text kinds operands kinds operands 0 0 0
 fill-first rule text kinds operands g =
@@ -60,8 +51,8 @@ fill-first rule text kinds operands g =
       sameOperands = refl;
       rest = g .read;
       is = ap (readLines rule text 0 (lines text)) z ∙ g .is;
-      inKinds = ap (λ (os : List Operation). onto (kindsOf os) kinds) o;
-      inOperands = ap (λ (os : List Operation). onto (operandsOf os) operands) o;
+      inKinds = ap (λ (os : List Operation). overwrite 0 (kindsOf os) kinds) o;
+      inOperands = ap (λ (os : List Operation). overwrite 0 (operandsOf os) operands) o;
     }
 
 module _ {rule : Rule} {text kinds₀ operands₀ kinds operands : List ℕ} {at line n : ℕ} (p : Filling rule text kinds₀ operands₀ kinds operands at line n) where
@@ -70,8 +61,8 @@ module _ {rule : Rule} {text kinds₀ operands₀ kinds operands : List ℕ} {at
   filled h =
       let z : p .rest ≡ [] = nothing (sym (p .is) ∙ ended (p .stands) rule _ h) in
       record {
-        inKinds = half-all _ kinds n (p .inKinds ∙ ap (λ (os : List Operation). take n kinds ++ onto (kindsOf os) (drop n kinds)) z);
-        inOperands = half-all _ operands n (p .inOperands ∙ ap (λ (os : List Operation). take n operands ++ onto (operandsOf os) (drop n operands)) z);
+        inKinds = half-all _ kinds n (p .inKinds ∙ ap (λ (os : List Operation). overwrite n (kindsOf os) kinds) z);
+        inOperands = half-all _ operands n (p .inOperands ∙ ap (λ (os : List Operation). overwrite n (operandsOf os) operands) z);
       }
     where
       nothing : ops (p .rest) ≡ ops [] → p .rest ≡ []
@@ -146,7 +137,7 @@ module _ {rule : Rule} {text kinds₀ operands₀ kinds operands : List ℕ} {at
                 rest = os;
                 is = y;
                 inKinds = half-more _ kinds (kindsOf os) n k room-kinds
-                    (p .inKinds ∙ ap (λ (os : List Operation). take n kinds ++ onto (kindsOf os) (drop n kinds)) z);
+                    (p .inKinds ∙ ap (λ (os : List Operation). overwrite n (kindsOf os) kinds) z);
                 inOperands = half-more _ operands (operandsOf os) n v room-operands
-                    (p .inOperands ∙ ap (λ (os : List Operation). take n operands ++ onto (operandsOf os) (drop n operands)) z);
+                    (p .inOperands ∙ ap (λ (os : List Operation). overwrite n (operandsOf os) operands) z);
               }

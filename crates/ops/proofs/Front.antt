@@ -5,8 +5,9 @@ use mathlib.Core.List.{List, [], _∷_, map}
 use native.Mathlib.Omega.{arith}
 use lib.ListN.{length, take, drop, length-append}
 use lib.Seq.{take-at}
+use Rattle.base.specs.Overwrite.{overwrite}
 use Rattle.kinds.specs.Kinds.{Operation}
-use Rattle.ops.specs.Ops.{Reading, ops, refused, readText, answerOf, opsOf, kindsOf, operandsOf, onto, Parsed}
+use Rattle.ops.specs.Ops.{Reading, ops, refused, readText, answerOf, opsOf, kindsOf, operandsOf, Parsed}
 use Rattle.ops.specs.declared.ParsedOps.{ParsedOps}
 use Rattle.ops.specs.declared.ParsedOps.the-variants.{Read}
 
@@ -22,7 +23,7 @@ length-each f [] = refl
 length-each f (o ∷ os) = ap suc (length-each f os)
 
 -- one number of each operation, written over a buffer's start
-module _ (f : Operation → ℕ) (os : List Operation) (buffer after : List ℕ) (n : ℕ) (e : after ≡ onto (map f os) buffer) (k : n ≡ length os) where
+module _ (f : Operation → ℕ) (os : List Operation) (buffer after : List ℕ) (n : ℕ) (e : after ≡ overwrite 0 (map f os) buffer) (k : n ≡ length os) where
   fits : n ≤ length after
   fits = omega (arith, ap length e, length-append (map f os) (drop (length (map f os)) buffer), length-each f os)
 

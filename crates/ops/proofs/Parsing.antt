@@ -5,10 +5,11 @@ use mathlib.Core.List.{List, [], _∷_}
 use mathlib.Core.Bool.{true, false}
 use native.Mathlib.Omega.{arith}
 use lib.ListN.{length}
+use Rattle.base.specs.Overwrite.{overwrite}
 use Rattle.utf8.specs.Utf8.{utf8}
 use Rattle.kinds.specs.Kinds.{Operation}
 use Rattle.ops.specs.Line.{fromStr}
-use Rattle.ops.specs.Ops.{Reading, ops, refused, someRead, readText, answerOf, opsOf, kindsOf, operandsOf, onto, Parsed}
+use Rattle.ops.specs.Ops.{Reading, ops, refused, someRead, readText, answerOf, opsOf, kindsOf, operandsOf, Parsed}
 use Rattle.ops.specs.Numbers.{parsedOpsNumbered}
 use Rattle.ops.specs.Code.Passes.{readInto, Good, Passed}
 use Rattle.ops.specs.declared.OpsError.{OpsError}
@@ -28,7 +29,7 @@ refused-is (refused x) e p = let z : x ≡ e = cc in ap refused z
 
 module _ (text kinds operands : List ℕ) where
   parsed : (x : Reading) (r : ParsedOps) (kindsAfter operandsAfter : List ℕ) → readText text (min (length kinds) (length operands)) ≡ x → r ≡ answerOf x
-      → kindsAfter ≡ onto (kindsOf (opsOf x)) kinds → operandsAfter ≡ onto (operandsOf (opsOf x)) operands → Parsed text kinds operands kindsAfter operandsAfter r
+      → kindsAfter ≡ overwrite 0 (kindsOf (opsOf x)) kinds → operandsAfter ≡ overwrite 0 (operandsOf (opsOf x)) operands → Parsed text kinds operands kindsAfter operandsAfter r
   parsed x r kindsAfter operandsAfter e p q s =
       let a : r ≡ answerOf (readText text (min (length kinds) (length operands))) = rw e p in
       record { answer = a; says = ap parsedOpsNumbered a; kindsWritten = rw e q; operandsWritten = rw e s }

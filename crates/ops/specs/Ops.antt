@@ -1,11 +1,12 @@
 -- The operations of a text, and the refusals by document 01's numbers.
 use Prim.Native.Nat.{ℕ, zero, suc, _+_, _-_, min}
 use mathlib.Core.Path.{_≡_}
-use mathlib.Core.List.{List, [], _∷_, _++_, map}
+use mathlib.Core.List.{List, [], _∷_, map}
 use mathlib.Core.Bool.{cond, _&&_}
 use lib.Dec.{leb}
 use lib.ListN.{length, getD, drop}
 pub use Rattle.kinds.specs.Kinds.{Operation}
+use Rattle.base.specs.Overwrite.{overwrite}
 use Rattle.utf8.specs.Utf8.{utf8}
 use Rattle.lines.specs.Lines.{lines}
 use Rattle.lines.specs.Cursor.{span}
@@ -79,16 +80,12 @@ kindsOf os = map (λ o. o .kind) os
 abbrev pub operandsOf : List Operation → List ℕ
 operandsOf os = map (λ o. o .operand) os
 
--- a buffer with these written over its start
-abbrev pub onto : List ℕ → List ℕ → List ℕ
-onto xs buffer = xs ++ drop (length xs) buffer
-
 -- what reading gives: the answer, document 01's number and values of it, and the buffers
 pub record Parsed (text kinds operands kindsAfter operandsAfter : List ℕ) (r : ParsedOps) : Type 0 where
   pub answer : r ≡ answerOf (readText text (min (length kinds) (length operands)))
   pub says : parsedOpsNumbered r ≡ parsedOpsNumbered (answerOf (readText text (min (length kinds) (length operands))))
-  pub kindsWritten : kindsAfter ≡ onto (kindsOf (opsOf (readText text (min (length kinds) (length operands))))) kinds
-  pub operandsWritten : operandsAfter ≡ onto (operandsOf (opsOf (readText text (min (length kinds) (length operands))))) operands
+  pub kindsWritten : kindsAfter ≡ overwrite 0 (kindsOf (opsOf (readText text (min (length kinds) (length operands))))) kinds
+  pub operandsWritten : operandsAfter ≡ overwrite 0 (operandsOf (opsOf (readText text (min (length kinds) (length operands))))) operands
 
 -- the line of a number from 1
 abbrev pub nthLine : ℕ → List (List ℕ) → List ℕ

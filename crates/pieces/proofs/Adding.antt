@@ -1,32 +1,22 @@
 -- Laws of pieces added one after the other.
 use Prim.Native.Nat.{ℕ, zero, suc, _+_, _-_, _<_, _≤_}
 use mathlib.Core.Path.{_≡_, refl, sym, ap, ap₂, subst, _∙_}
-use mathlib.Core.List.{List, [], _∷_, _++_, append-nil, append-assoc}
+use mathlib.Core.List.{List, [], _∷_, _++_, append-assoc}
 use native.Mathlib.Omega.{arith}
 use lib.ListN.{length, take, drop, length-append, length-take, length-drop}
-use lib.Seq.{take-at, take-all, take-append-add, drop-append-add, drop-drop, length-take-le}
+use lib.Seq.{take-at, take-all, take-append-add, drop-drop, length-take-le}
 use native.Mathlib.Nat.{zero-add}
+use Rattle.base.specs.Overwrite.{overwrite}
+use Rattle.base.proofs.Overwrite.{overwrite-all, overwrite-again}
 use Rattle.decimal.specs.Decimal.{decimal}
-use Rattle.ops.specs.Ops.{onto}
-use Rattle.writer.specs.Code.Pieces.{Put}
-use Rattle.writer.proofs.Pieces.{put-length}
+use Rattle.writer.specs.Code.Overwrites.{Overwrites}
+use Rattle.writer.proofs.Pieces.{overwrites-length}
 use Rattle.pieces.specs.Code.Added.{extended, Added}
 
 cut-twice : (n : ℕ) (a b : List ℕ) → take n (take n a ++ b) ≡ take n (a ++ b)
 cut-twice zero a b = refl
 cut-twice (suc n) [] b = refl
 cut-twice (suc n) (x ∷ a) b = ap (λ (l : List ℕ). x ∷ l) (cut-twice n a b)
-
--- what is written over the start again is longer
-over-again : (t u o : List ℕ) → length t ≤ length u → onto u (onto t o) ≡ onto u o
-over-again t u o h =
-    let k : length u ≡ length t + (length u - length t) = omega arith in
-    let m : length t + (length u - length t) ≡ length u = omega arith in
-    ap (λ (l : List ℕ). u ++ l)
-    (ap (λ (n : ℕ). drop n (t ++ drop (length t) o)) k
-    ∙ drop-append-add t (drop (length t) o) (length u - length t)
-    ∙ drop-drop (length u - length t) (length t) o
-    ∙ ap (λ (n : ℕ). drop n o) m)
 
 module _ (o : List ℕ) (l : ℕ) (x : List ℕ) where
   extended-length : length (extended o l x) ≤ length o
@@ -52,7 +42,7 @@ module _ {o : List ℕ} {l : ℕ} {x m : List ℕ} {r : ℕ} (a : Added o l x m 
       ∙ cut-twice (length o) (take l o ++ x) y
       ∙ ap (take (length o)) (append-assoc (take l o) x y) in
       record {
-        is = b .is ∙ ap₂ onto t (a .is) ∙ over-again (extended o l x) (extended o l (x ++ y)) o (extended-more o l x y);
+        is = b .is ∙ ap₂ (overwrite 0) t (a .is) ∙ overwrite-again (extended o l x) (extended o l (x ++ y)) o (extended-more o l x y);
         next = b .next ∙ ap length t;
       }
 
@@ -63,26 +53,22 @@ added-same {o} {l} {x} {y} {m} {r} e a = subst (λ (u : List ℕ). Added o l u m
 pub add-none : (o : List ℕ) (l : ℕ) (x : List ℕ) → length o < l → Added o l x o (length o)
 add-none o l x h =
     let t : extended o l x ≡ o = ap (λ (u : List ℕ). take (length o) (u ++ x)) (take-all l o (omega arith)) ∙ take-at o x (length o) refl in
-    record { is = sym (ap (λ (u : List ℕ). onto u o) t ∙ ap (λ (u : List ℕ). o ++ u) (drop-all o) ∙ append-nil o); next = sym (ap length t) }
-  where
-    drop-all : (s : List ℕ) → drop (length s) s ≡ []
-    drop-all [] = refl
-    drop-all (a ∷ s) = drop-all s
+    record { is = sym (ap (λ (u : List ℕ). overwrite 0 u o) t ∙ overwrite-all o o (omega arith)); next = sym (ap length t) }
 
 -- a piece that was put, where it is what the text is extended by
-put-added : (o : List ℕ) (l : ℕ) (x y m : List ℕ) (r : ℕ) → l + length y ≤ length o → extended o l x ≡ take l o ++ y → Put o l y m r → Added o l x m r
+put-added : (o : List ℕ) (l : ℕ) (x y m : List ℕ) (r : ℕ) → l + length y ≤ length o → extended o l x ≡ take l o ++ y → Overwrites o l y m r → Added o l x m r
 put-added o l x y m r h e p =
     let n : length (take l o ++ y) ≡ l + length y = length-append (take l o) y ∙ ap (λ (k : ℕ). k + length y) (length-take-le l o (omega arith)) in
     record {
-      is = p .is ∙ ap (λ (k : ℕ). (take l o ++ y) ++ drop k o) (sym n) ∙ ap (λ (u : List ℕ). onto u o) (sym e);
+      is = p .is ∙ ap (λ (u : List ℕ). (take l o ++ y) ++ u) (drop-drop (length y) l o ∙ ap (λ (k : ℕ). drop k o) (sym n)) ∙ ap (λ (u : List ℕ). overwrite 0 u o) (sym e);
       next = p .next ∙ sym n ∙ ap length (sym e);
     }
 
-pub add-all : (o : List ℕ) (l : ℕ) (x m : List ℕ) (r : ℕ) → l + length x ≤ length o → Put o l x m r → Added o l x m r
+pub add-all : (o : List ℕ) (l : ℕ) (x m : List ℕ) (r : ℕ) → l + length x ≤ length o → Overwrites o l x m r → Added o l x m r
 add-all o l x m r h p =
     put-added o l x x m r h (take-all (length o) (take l o ++ x) (omega (arith, length-append (take l o) x, length-take-le l o (omega arith)))) p
 
-pub add-some : (o : List ℕ) (l : ℕ) (x m : List ℕ) (r : ℕ) → l ≤ length o → length o - l ≤ length x → Put o l (take (length o - l) x) m r → Added o l x m r
+pub add-some : (o : List ℕ) (l : ℕ) (x m : List ℕ) (r : ℕ) → l ≤ length o → length o - l ≤ length x → Overwrites o l (take (length o - l) x) m r → Added o l x m r
 add-some o l x m r h k p =
     let i : length o ≡ length (take l o) + (length o - l) = omega (arith, length-take-le l o h) in
     put-added o l x (take (length o - l) x) m r (omega (arith, length-take-le (length o - l) x k))
@@ -93,9 +79,9 @@ pub whole : {o x m : List ℕ} {r : ℕ} → Added o 0 x m r → length x ≤ le
 whole {o} {x} {m} {r} a h = added-text a ∙ take-all (length o) x h
 
 -- the digits of a number, put at the start of twenty bytes
-module _ (n : ℕ) (o m : List ℕ) (r : ℕ) (h : length (decimal n) ≤ length o) (p : Put o 0 (decimal n) m r) where
+module _ (n : ℕ) (o m : List ℕ) (r : ℕ) (h : length (decimal n) ≤ length o) (p : Overwrites o 0 (decimal n) m r) where
   pub digits-fit : r ≤ length m
-  digits-fit = omega (arith, p .next, put-length p (omega arith))
+  digits-fit = omega (arith, p .next, overwrites-length p (omega arith))
 
   pub digits-are : take r m ≡ decimal n
-  digits-are = ap (take r) (p .is) ∙ take-at (decimal n) (drop (0 + length (decimal n)) o) r (sym (p .next ∙ zero-add (length (decimal n))))
+  digits-are = ap (take r) (p .is) ∙ take-at (decimal n) (drop (length (decimal n)) o) r (sym (p .next ∙ zero-add (length (decimal n))))

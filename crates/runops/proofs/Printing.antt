@@ -6,9 +6,9 @@ use native.Mathlib.Omega.{arith}
 use lib.ListN.{length, drop, length-append}
 use lib.Seq.{take-all}
 use Rattle.base.specs.Ascii.{ascii}
+use Rattle.base.specs.Overwrite.{overwrite}
 use Rattle.decimal.specs.Decimal.{decimal}
 use Rattle.decimal.proofs.Laws.{length-word}
-use Rattle.ops.specs.Ops.{onto}
 use Rattle.pieces.specs.Code.Added.{Added}
 use Rattle.runops.specs.declared.report.Report.{Report}
 use Rattle.runops.specs.Report.{spaced, printed, Prints}
@@ -16,7 +16,7 @@ use Rattle.runops.specs.Report.{spaced, printed, Prints}
 pub prints : {o m : List ℕ} {r : ℕ} (report : Report) → Added o 0 (printed report) m r → length (printed report) ≤ length o → Prints report o m r
 prints {o} {m} {r} report a h =
     let e = take-all (length o) (printed report) h in
-    record { is = a .is ∙ ap (λ (t : List ℕ). onto t o) e; len = a .next ∙ ap length e }
+    record { is = a .is ∙ ap (λ (t : List ℕ). overwrite 0 t o) e; len = a .next ∙ ap length e }
 
 pub prints-fit : {report : Report} {o m : List ℕ} {r : ℕ} → Prints report o m r → r ≤ length m
 prints-fit {report} {o} {m} {r} p = omega (arith, ap length (p .is), length-append (printed report) (drop (length (printed report)) o), p .len)

@@ -6,8 +6,9 @@ use mathlib.Core.Bool.{cond}
 use lib.Dec.{ltb}
 use lib.ListN.{length, getD, replicate}
 use Rattle.base.specs.Ascii.{ascii}
+use Rattle.base.specs.Overwrite.{overwrite}
 use Rattle.decimal.specs.Decimal.{decimal}
-use Rattle.ops.specs.Ops.{Reading, ops, refused, readText, onto, kindsOf, operandsOf}
+use Rattle.ops.specs.Ops.{Reading, ops, refused, readText, kindsOf, operandsOf}
 use Rattle.ops.specs.Numbers.{opsErrorNumbered}
 use Rattle.perform.specs.declared.Answer.{Answer}
 use Rattle.perform.specs.declared.Answer.the-variants.{Success, Refused}
@@ -90,5 +91,5 @@ printed r =
 
 -- they stand at the start of a buffer, all else is as before, and r is how long they are
 pub record Prints (report : Report) (before after : List ℕ) (r : ℕ) : Type 0 where
-  pub is : after ≡ onto (printed report) before
+  pub is : after ≡ overwrite 0 (printed report) before
   pub len : r ≡ length (printed report)

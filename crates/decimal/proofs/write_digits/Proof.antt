@@ -2,16 +2,16 @@
 use mathlib.Core.Path.{_≡_, refl, sym, _∙_}
 use native.Mathlib.Omega.{arith}
 use lib.ListN.{length, length-set}
+use Rattle.base.specs.Overwrite.{overwrite}
 use Rattle.decimal.specs.Decimal.{decimal}
-use Rattle.decimal.specs.Code.Digits.{put}
 use Rattle.decimal.proofs.Laws.{length-positive}
-use Rattle.decimal.proofs.Buffer.{Ends, left-one, left-two, put-one, put-more, ends-more, put-two, ends-two}
+use Rattle.decimal.proofs.Buffer.{Ends, left-one, left-two, writes-one, writes-more, ends-more, writes-two, ends-two}
 use borrow.Author.Needs.{needs}
 use Rattle.decimal.proofs.write_digits.Statement.{statement}
 use Rattle.decimal.proofs.write_digits.Tie as tie
 
 abbrev Inv-loop : tie.InvT-loop
-Inv-loop n out₀ at len rest₀ i₀ out rest i = (length out ≡ length out₀) × Ends at rest i out × (put at (decimal rest) out ≡ put at (decimal n) out₀)
+Inv-loop n out₀ at len rest₀ i₀ out rest i = (length out ≡ length out₀) × Ends at rest i out × (overwrite at (decimal rest) out ≡ overwrite at (decimal n) out₀)
 
 abbrev μ-loop : tie.MeasureT-loop
 μ-loop n out₀ at len rest₀ i₀ out rest i = rest
@@ -54,7 +54,7 @@ loop-again c =
     let d = c .to-ascii2 .result in (
       simp length-set (l .inv .0),
       ends-two (l .inv .1) m b d,
-      sym (put-two (l .inv .1) m b d (c .before .to-ascii .ensures) (c .to-ascii2 .ensures)) ∙ l .inv .2,
+      sym (writes-two (l .inv .1) m b d (c .before .to-ascii .ensures) (c .to-ascii2 .ensures)) ∙ l .inv .2,
     )
 
 to-ascii-requires-3 : tie.Need-to-ascii-requires-3 Inv-loop μ-loop
@@ -69,7 +69,7 @@ same-length c = search needs
 returns : tie.Need-returns Inv-loop μ-loop
 returns c =
     let l = c .before .before .before .loop in
-    sym (put-one (l .inv .1) (c .before .if1 .taken) _ (c .to-ascii3 .ensures)) ∙ l .inv .2
+    sym (writes-one (l .inv .1) (c .before .if1 .taken) _ (c .to-ascii3 .ensures)) ∙ l .inv .2
 
 to-ascii-requires-4 : tie.Need-to-ascii-requires-4 Inv-loop μ-loop
 to-ascii-requires-4 c κs = search needs
@@ -94,7 +94,7 @@ returns-2 c =
     let l = c .before .before .before .before .loop in
     let m = c .before .before .if1 .left in
     let b = c .before .to-ascii4 .result in
-    sym (put-more (l .inv .1) m b (c .before .to-ascii4 .ensures) ∙ put-one (ends-more (l .inv .1) m b) (omega arith) _ (c .to-ascii5 .ensures))
+    sym (writes-more (l .inv .1) m b (c .before .to-ascii4 .ensures) ∙ writes-one (ends-more (l .inv .1) m b) (omega arith) _ (c .to-ascii5 .ensures))
     ∙ l .inv .2
 
 pub write-digits-spec : {M : Type 1} → statement M

@@ -1,9 +1,10 @@
 -- Digits at a place of a text, and a decimal written into a buffer.
 use Prim.Native.Nat.{ℕ, _+_, _^_}
-use mathlib.Core.List.{List, _++_}
+use mathlib.Core.List.{List}
 use mathlib.Core.Bool.{Bool, cond}
 use lib.Dec.{leb, ltb}
-use lib.ListN.{length, take, drop}
+use lib.ListN.{length, drop}
+use Rattle.base.specs.Overwrite.{overwrite}
 use Rattle.decimal.specs.declared.Value.{Value}
 use Rattle.decimal.specs.declared.Value.the-variants as Value
 use Rattle.decimal.specs.declared.Digits.{Digits}
@@ -19,10 +20,6 @@ capped n = cond (ltb n (2 ^ 64)) (Value.Is n) Value.TooLarge
 abbrev pub digitsAt : List ℕ → ℕ → Digits
 digitsAt s at = record { len = length (digits (drop at s)); value = capped (value (digits (drop at s))) }
 
--- a buffer with bytes written over it from a place on
-abbrev pub put : ℕ → List ℕ → List ℕ → List ℕ
-put at bytes out = take at out ++ bytes ++ drop (at + length bytes) out
-
 -- whether a number written at a place ends within a buffer's length
 abbrev pub fitsAt : ℕ → ℕ → ℕ → Bool
 fitsAt n at room = leb (at + length (decimal n)) room
@@ -31,4 +28,4 @@ abbrev pub writtenAt : ℕ → ℕ → ℕ → Written
 writtenAt n at room = cond (fitsAt n at room) (To (at + length (decimal n))) NoRoom
 
 abbrev pub bufferAfter : ℕ → ℕ → List ℕ → List ℕ
-bufferAfter n at out = cond (fitsAt n at (length out)) (put at (decimal n) out) out
+bufferAfter n at out = cond (fitsAt n at (length out)) (overwrite at (decimal n) out) out

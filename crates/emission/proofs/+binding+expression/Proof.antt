@@ -3,7 +3,7 @@ use Prim.Native.Nat.{_+_, _-_, _*_}
 use mathlib.Core.Path.{refl, sym, ap, _∙_}
 use native.Mathlib.Omega.{arith}
 use Rattle.expression.specs.Code.Source.{sourcesOf}
-use Rattle.writer.proofs.Pieces.{put-length}
+use Rattle.writer.proofs.Pieces.{overwrites-length}
 use Rattle.emission.proofs.Keeping.{kept-put, kept-mark, again-fits, again-put}
 use Rattle.emission.proofs.Emitting.{Running, running-starts, running-as, factor-past, no-factor, open-room, opened, literal-fits, literal-goes, name-below, name-stands, name-fits, name-goes, turn-ready, turn-room, turn-past, turn-goes, end-fits, end-put, parameter-text, binding-means, binding-text}
 use borrow.Author.Needs.{needs}
@@ -20,7 +20,7 @@ use Rattle.emission.proofs.factor.factor_at.Reads as factor-at-reads
 use Rattle.emission.proofs.operator.operate.Reads as operate-reads
 use Rattle.emission.proofs.waiting.pop.Reads as pop-reads
 use Rattle.expression.proofs.names.wide.Reads as wide-reads
-use Rattle.writer.proofs.put_again.Reads as put-again-reads
+use Rattle.emission.proofs.put_again.Reads as put-again-reads
 use Rattle.writer.proofs.put_push.Reads as put-push-reads
 use Rattle.emission.proofs.+binding+expression.{statement}
 use Rattle.emission.proofs.+binding+expression.Tie.{close}
@@ -274,7 +274,7 @@ expression-pop-requires t c κs =
 expression-same-length-2 : (t : ℕ) → expression-lts.Need-same-length-2 (E t) (expression-at t) expression.Post expression-Inv-loop expression-μ-loop
 expression-same-length-2 t c =
     let v = c .before .before .before .before .before .before .loop .inv in
-    put-length (end-put (v .fixed) (v .going) (c .before .before .before .before .before .loop-test .left) (c .before .before .pop .ensures .put)) (v .fixed .room)
+    overwrites-length (end-put (v .fixed) (v .going) (c .before .before .before .before .before .loop-test .left) (c .before .before .pop .ensures .put)) (v .fixed .room)
 
 expression-returns-2 : (t : ℕ) → expression-lts.Need-returns-2 (E t) (expression-at t) expression.Post expression-Inv-loop expression-μ-loop
 expression-returns-2 t c =

@@ -9,7 +9,8 @@ use Rattle.token.specs.Token.{tokens}
 use Rattle.token.specs.Code.Places.{tokenAt, first}
 use Rattle.expression.specs.Grammar.{levels}
 use Rattle.expression.specs.Parse.{lone}
-use Rattle.writer.specs.Code.Pieces.{Put, operatorsText}
+use Rattle.writer.specs.Code.Overwrites.{Overwrites}
+use Rattle.emission.specs.Code.Lines.{operatorsText}
 use Rattle.emission.specs.declared.operator.Turn.{Turn}
 use Rattle.emission.specs.Code.Waiting.{levelOf, most, popped, left, stackOf}
 
@@ -35,7 +36,7 @@ pub record Ready (s : List ℕ) (end at : ℕ) (out : List ℕ) (to : ℕ) (wait
   pub mark : signAt s end at ≡ 41 → 0 < length (left (downTo (signAt s end at)) (stackOf waiting n))
 
 pub record Turns (s : List ℕ) (end at : ℕ) (out : List ℕ) (to : ℕ) (waiting : List ℕ) (n : ℕ) (outAfter waitingAfter : List ℕ) (r : Turn) : Type 0 where
-  pub put : Put out to (operatorsText (popped (downTo (signAt s end at)) (stackOf waiting n))) outAfter (r .to)
+  pub put : Overwrites out to (operatorsText (popped (downTo (signAt s end at)) (stackOf waiting n))) outAfter (r .to)
   pub next : r .at ≡ tokenAt (take end s) at .end
   pub stack : stackOf waitingAfter (r .waiting) ≡ stackAfter (signAt s end at) (left (downTo (signAt s end at)) (stackOf waiting n))
   pub few : r .waiting ≤ most

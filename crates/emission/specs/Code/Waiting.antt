@@ -7,7 +7,8 @@ use lib.Dec.{leb}
 use lib.ListN.{getD}
 use Rattle.expression.specs.Grammar.{levels, term, expression, depth}
 use Rattle.expression.specs.Parse.{joins}
-use Rattle.writer.specs.Code.Pieces.{Put, operatorsText}
+use Rattle.writer.specs.Code.Overwrites.{Overwrites}
+use Rattle.emission.specs.Code.Lines.{operatorsText}
 use Rattle.emission.specs.declared.waiting.Popped.{Popped}
 
 -- the level that an operator joins to; for every other byte, the mark among them, one above all levels
@@ -34,6 +35,6 @@ stackOf A (suc n) = getD A n 0 ∷ stackOf A n
 
 -- the operators of a level on top of n elements of an array are written, and so many are left
 pub record Pops (out : List ℕ) (at : ℕ) (A : List ℕ) (n level : ℕ) (after : List ℕ) (r : Popped) : Type 0 where
-  pub put : Put out at (operatorsText (popped level (stackOf A n))) after (r .to)
+  pub put : Overwrites out at (operatorsText (popped level (stackOf A n))) after (r .to)
   pub rest : stackOf A (r .left) ≡ left level (stackOf A n)
   pub fewer : r .left ≤ n

@@ -4,6 +4,7 @@ use mathlib.Core.Path.{_≡_}
 use mathlib.Core.List.{List, [], _∷_, _++_}
 use mathlib.Core.Bool.{Bool, true, false, cond}
 use lib.ListN.{length, drop}
+use Rattle.base.specs.Overwrite.{overwrite}
 use Rattle.search.specs.First.{prefixOf}
 use Rattle.decimal.specs.Decimal.{allDigits, numberOf}
 use Rattle.decimal.specs.declared.Number.the-variants.{Is}
@@ -13,7 +14,7 @@ use Rattle.trim.specs.Code.Blank.{blanksEnd}
 use Rattle.kinds.specs.Kinds.{kindOf, Operation}
 use Rattle.ops.specs.Kinds.{follows, lineWith}
 use Rattle.ops.specs.Line.{Rule, ReadsDigits, lineOf}
-use Rattle.ops.specs.Ops.{Reading, ops, readLines, someRead, answerOf, opsOf, kindsOf, operandsOf, onto}
+use Rattle.ops.specs.Ops.{Reading, ops, readLines, someRead, answerOf, opsOf, kindsOf, operandsOf}
 use Rattle.ops.specs.declared.ParsedOps.{ParsedOps}
 use Rattle.ops.specs.declared.line.LineRead.the-variants as LineRead
 use Rattle.ops.specs.declared.line.Reached.{Reached}
@@ -76,8 +77,8 @@ pub record Good (rule : Rule) (text kinds operands : List ℕ) : Type 0 where
 
 -- the operations are written
 pub record Filled (rule : Rule) (text kinds operands kindsAfter operandsAfter : List ℕ) : Type 0 where
-  pub inKinds : kindsAfter ≡ onto (kindsOf (opsOf (readInto rule text kinds operands))) kinds
-  pub inOperands : operandsAfter ≡ onto (operandsOf (opsOf (readInto rule text kinds operands))) operands
+  pub inKinds : kindsAfter ≡ overwrite 0 (kindsOf (opsOf (readInto rule text kinds operands))) kinds
+  pub inOperands : operandsAfter ≡ overwrite 0 (operandsOf (opsOf (readInto rule text kinds operands))) operands
 
 -- one pass: the answer, and the buffers by whether it writes
 pub record Passed (rule : Rule) (text kinds operands kindsAfter operandsAfter : List ℕ) (writing : Bool) (r : ParsedOps) : Type 0 where

@@ -1,7 +1,7 @@
 -- `assembler::header::put_header` meets its contract: its five pieces.
 use native.Mathlib.Omega.{arith}
 use denote.Ref.{now}
-use Rattle.writer.proofs.Pieces.{put-length}
+use Rattle.writer.proofs.Pieces.{overwrites-length}
 use Rattle.assembler.proofs.Outputs.{header-length, header-put}
 use borrow.Author.Needs.{needs}
 use Rattle.assembler.proofs.header.put_header.Statement.{statement}
@@ -18,7 +18,7 @@ put-bytes-requires-2 c κs =
     let h = c .before .before .before .before .before .before .before .before .pre in
     let n = header-length (now (c .before .before .before .before .before .before .before .before .args .stem)) (c .before .before .before .before .before .before .before .before .args .expected) in
     let w0 = c .before .before .before .put-bytes .ensures in
-    let l0 = put-length w0 (omega (arith, h, n)) in
+    let l0 = overwrites-length w0 (omega (arith, h, n)) in
     let x0 = w0 .next in
     omega (arith, h, n, l0, x0)
 
@@ -30,10 +30,10 @@ put-bytes-requires-3 c κs =
     let h = c .before .before .before .before .before .before .before .before .before .before .before .before .before .pre in
     let n = header-length (now (c .before .before .before .before .before .before .before .before .before .before .before .before .before .args .stem)) (c .before .before .before .before .before .before .before .before .before .before .before .before .before .args .expected) in
     let w0 = c .before .before .before .before .before .before .before .before .put-bytes .ensures in
-    let l0 = put-length w0 (omega (arith, h, n)) in
+    let l0 = overwrites-length w0 (omega (arith, h, n)) in
     let x0 = w0 .next in
     let w1 = c .before .before .before .before .put-bytes2 .ensures in
-    let l1 = put-length w1 (omega (arith, h, n, l0, x0)) in
+    let l1 = overwrites-length w1 (omega (arith, h, n, l0, x0)) in
     let x1 = w1 .next in
     omega (arith, h, n, l0, x0, l1, x1)
 
@@ -42,13 +42,13 @@ put-decimal-requires c κs =
     let h = c .before .before .before .before .before .before .before .before .before .before .before .before .before .before .before .before .before .pre in
     let n = header-length (now (c .before .before .before .before .before .before .before .before .before .before .before .before .before .before .before .before .before .args .stem)) (c .before .before .before .before .before .before .before .before .before .before .before .before .before .before .before .before .before .args .expected) in
     let w0 = c .before .before .before .before .before .before .before .before .before .before .before .before .put-bytes .ensures in
-    let l0 = put-length w0 (omega (arith, h, n)) in
+    let l0 = overwrites-length w0 (omega (arith, h, n)) in
     let x0 = w0 .next in
     let w1 = c .before .before .before .before .before .before .before .before .put-bytes2 .ensures in
-    let l1 = put-length w1 (omega (arith, h, n, l0, x0)) in
+    let l1 = overwrites-length w1 (omega (arith, h, n, l0, x0)) in
     let x1 = w1 .next in
     let w2 = c .before .before .before .put-bytes3 .ensures in
-    let l2 = put-length w2 (omega (arith, h, n, l0, x0, l1, x1)) in
+    let l2 = overwrites-length w2 (omega (arith, h, n, l0, x0, l1, x1)) in
     let x2 = w2 .next in
     omega (arith, h, n, l0, x0, l1, x1, l2, x2)
 
@@ -60,16 +60,16 @@ put-bytes-requires-4 c κs =
     let h = c .before .before .before .before .before .before .before .before .before .before .before .before .before .before .before .before .before .before .before .before .before .before .pre in
     let n = header-length (now (c .before .before .before .before .before .before .before .before .before .before .before .before .before .before .before .before .before .before .before .before .before .before .args .stem)) (c .before .before .before .before .before .before .before .before .before .before .before .before .before .before .before .before .before .before .before .before .before .before .args .expected) in
     let w0 = c .before .before .before .before .before .before .before .before .before .before .before .before .before .before .before .before .before .put-bytes .ensures in
-    let l0 = put-length w0 (omega (arith, h, n)) in
+    let l0 = overwrites-length w0 (omega (arith, h, n)) in
     let x0 = w0 .next in
     let w1 = c .before .before .before .before .before .before .before .before .before .before .before .before .before .put-bytes2 .ensures in
-    let l1 = put-length w1 (omega (arith, h, n, l0, x0)) in
+    let l1 = overwrites-length w1 (omega (arith, h, n, l0, x0)) in
     let x1 = w1 .next in
     let w2 = c .before .before .before .before .before .before .before .before .put-bytes3 .ensures in
-    let l2 = put-length w2 (omega (arith, h, n, l0, x0, l1, x1)) in
+    let l2 = overwrites-length w2 (omega (arith, h, n, l0, x0, l1, x1)) in
     let x2 = w2 .next in
     let w3 = c .before .before .before .before .put-decimal .ensures in
-    let l3 = put-length w3 (omega (arith, h, n, l0, x0, l1, x1, l2, x2)) in
+    let l3 = overwrites-length w3 (omega (arith, h, n, l0, x0, l1, x1, l2, x2)) in
     let x3 = w3 .next in
     omega (arith, h, n, l0, x0, l1, x1, l2, x2, l3, x3)
 

@@ -2,7 +2,7 @@
 use native.Mathlib.Omega.{arith}
 use denote.Ref.{now}
 use Rattle.decimal.proofs.Laws.{length-word}
-use Rattle.writer.proofs.Pieces.{put-length, put-then}
+use Rattle.writer.proofs.Pieces.{overwrites-length, overwrites-then}
 use Rattle.assembler.proofs.Outputs.{header-length, no-return, means, text-size, no-room, written-whole}
 use borrow.Author.Needs.{needs}
 use Rattle.assembler.proofs.output.write_output.Statement.{statement}
@@ -57,7 +57,7 @@ emit-requires c κs =
     let i = c .before .before .before .before .before .before .before .before .before .if1 .left in
     let j = c .before .before .before .before .before .before .before .if2 .left in
     let w = c .before .before .before .put-header .ensures in
-    (means (g .accepts) q, omega (arith, z, e, i, j, w .next, put-length w (omega (arith, e, i))))
+    (means (g .accepts) q, omega (arith, z, e, i, j, w .next, overwrites-length w (omega (arith, e, i))))
 
 slice-aggregate-put-bytes : tie.Need-slice-aggregate-put-bytes
 slice-aggregate-put-bytes c = search needs
@@ -72,9 +72,9 @@ put-bytes-requires c κs =
     let i = c .before .before .before .before .before .before .before .before .before .before .before .before .before .before .if1 .left in
     let j = c .before .before .before .before .before .before .before .before .before .before .before .before .if2 .left in
     let w = c .before .before .before .before .before .before .before .before .put-header .ensures in
-    let l = put-length w (omega (arith, e, i)) in
+    let l = overwrites-length w (omega (arith, e, i)) in
     let v = c .before .before .before .before .emit .ensures in
-    omega (arith, z, e, i, j, w .next, l, v .next, put-length v (omega (arith, z, e, i, j, w .next, l)))
+    omega (arith, z, e, i, j, w .next, l, v .next, overwrites-length v (omega (arith, z, e, i, j, w .next, l)))
 
 same-length : tie.Need-same-length
 same-length c = search needs
@@ -90,7 +90,7 @@ returns-4 c =
     let j = c .before .before .before .before .before .before .before .before .before .before .before .before .before .before .before .if2 .left in
     let w = c .before .before .before .before .before .before .before .before .before .before .before .put-header .ensures in
     let v = c .before .before .before .before .before .before .before .emit .ensures in
-    record { is = λ vector o acc f. written-whole acc q (now (a .stem)) (a .out .now) f (omega (arith, e, i, j)) (put-then w (omega (arith, e, i)) v) (c .before .before .put-bytes .ensures) }
+    record { is = λ vector o acc f. written-whole acc q (now (a .stem)) (a .out .now) f (omega (arith, e, i, j)) (overwrites-then w (omega (arith, e, i)) v) (c .before .before .put-bytes .ensures) }
 
 pub write-output-spec : {M : Type 1} → statement M
 write-output-spec =

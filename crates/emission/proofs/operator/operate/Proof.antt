@@ -4,7 +4,7 @@ use native.Mathlib.Omega.{arith}
 use lib.Seq.{length-take-le}
 use Rattle.expression.specs.declared.parts.Sign.{Sign}
 use Rattle.emission.proofs.Turning.{operator-pops, operator-room, operator-turns, close-pops, close-mark, close-turns}
-use Rattle.writer.proofs.Pieces.{put-length}
+use Rattle.writer.proofs.Pieces.{overwrites-length}
 use borrow.Author.Needs.{needs}
 use Rattle.emission.proofs.operator.operate.Statement.{statement}
 use Rattle.emission.proofs.operator.operate.Tie as tie
@@ -37,7 +37,7 @@ add-t24 c =
 same-length : tie.Need-same-length
 same-length c =
     let h = rw (c .before .before .before .before .before .before .level-of .ensures) at (c .before .before .before .before .before .if1 .taken) in
-    put-length (rw (c .before .before .before .before .before .before .level-of .ensures) at (c .before .before .pop .ensures) .put) (operator-pops (c .before .before .before .before .before .before .before .before .before .before .before .pre) (ap (λ (x : Sign). x .byte) (c .before .before .before .before .before .before .before .sign-at .ensures)) h .1)
+    overwrites-length (rw (c .before .before .before .before .before .before .level-of .ensures) at (c .before .before .pop .ensures) .put) (operator-pops (c .before .before .before .before .before .before .before .before .before .before .before .pre) (ap (λ (x : Sign). x .byte) (c .before .before .before .before .before .before .before .sign-at .ensures)) h .1)
 
 returns : tie.Need-returns
 returns c =
@@ -58,7 +58,7 @@ closed-requires c κs =
 same-length-2 : tie.Need-same-length-2
 same-length-2 c =
     let h = rw (c .before .before .before .before .before .before .before .level-of .ensures) at (c .before .before .before .before .before .before .if1 .left) in
-    put-length (c .before .before .before .pop2 .ensures .put) (close-pops (c .before .before .before .before .before .before .before .before .before .before .before .before .pre) (ap (λ (x : Sign). x .byte) (c .before .before .before .before .before .before .before .before .sign-at .ensures)) h .1)
+    overwrites-length (c .before .before .before .pop2 .ensures .put) (close-pops (c .before .before .before .before .before .before .before .before .before .before .before .before .pre) (ap (λ (x : Sign). x .byte) (c .before .before .before .before .before .before .before .before .sign-at .ensures)) h .1)
 
 returns-2 : tie.Need-returns-2
 returns-2 c =

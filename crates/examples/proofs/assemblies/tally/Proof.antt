@@ -2,7 +2,7 @@
 use mathlib.Core.Path.{ap, _∙_}
 use mathlib.Core.List.{List}
 use Prim.Native.Nat.{ℕ}
-use Rattle.ops.specs.Ops.{onto}
+use Rattle.base.specs.Overwrite.{overwrite}
 use Rattle.examples.specs.Runs.{zeros}
 use Rattle.examples.proofs.Bench.{bench}
 use Rattle.examples.proofs.Assembling.{assembles}
@@ -25,7 +25,7 @@ assemble-requires c κs = search needs
 returns : tie.Need-returns
 returns c =
     let h = assembles _ _ _ _ _ _ (c .before .before .before .before .before .pre) (c .assemble .ensures) in
-    record { answer = h .answer ∙ bench .e1; buffer = h .buffer ∙ ap (λ (t : List ℕ). onto t zeros) (bench .e1-text) }
+    record { answer = h .answer ∙ bench .e1; buffer = h .buffer ∙ ap (λ (t : List ℕ). overwrite 0 t zeros) (bench .e1-text) }
 
 pub tally-spec : {M : Type 1} → statement M
 tally-spec =

@@ -1,11 +1,12 @@
--- `writer::put_again` meets its contract: byte by byte, each read before the place.
+-- `emission::put_again` meets its contract: byte by byte, each read before the place.
 use Prim.Native.Nat.{_+_, _-_}
 use native.Mathlib.Omega.{arith}
 use lib.Seq.{slice}
-use Rattle.writer.proofs.Pieces.{Filling, fill-none, fill-length, fill-more, fill-all, again-length, again-byte}
+use Rattle.writer.proofs.Pieces.{Filling, fill-none, fill-length, fill-more, fill-all}
+use Rattle.emission.proofs.Again.{again-length, again-byte}
 use borrow.Author.Needs.{needs}
-use Rattle.writer.proofs.put_again.Statement.{statement}
-use Rattle.writer.proofs.put_again.Tie as tie
+use Rattle.emission.proofs.put_again.Statement.{statement}
+use Rattle.emission.proofs.put_again.Tie as tie
 
 abbrev Inv-loop : tie.InvT-loop
 Inv-loop out₀ at from len j₀ out j = Filling out₀ at (slice from (from + len) out₀) out j
