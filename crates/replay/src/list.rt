@@ -62,8 +62,16 @@ fn fill(out: &mut [u64], from: usize, times: u64, value: u64) -> usize
     i
 }
 
-// Numbers as bytes, as many as the buffer holds.
-pub fn narrowed(numbers: &[u64], out: &mut [u8]) -> usize
+// The numbers of a list as bytes, as many as the buffer holds.
+pub fn bytes(text: &[u8], out: &mut [u8]) -> usize
+    ensures { λ r. ⌜ Counts r (now (out .exit)) ⌝ }
+{
+    let mut wide = [0u64; 65540];
+    let n = numbers(text, &mut wide);
+    narrowed(&wide[..n], out)
+}
+
+fn narrowed(numbers: &[u64], out: &mut [u8]) -> usize
     ensures { λ r. ⌜ Counts r (now (out .exit)) ⌝ }
 {
     let mut n: usize = 0;

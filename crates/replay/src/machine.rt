@@ -24,13 +24,16 @@ fn read_given(line: &[u8]) -> Given {
 pub fn replay(call: u8, line: &[u8]) {
     let mut kinds = [0u8; 65540];
     let mut operands = [0u64; 65540];
-    let n = list::numbers(field::at(line, 2), &mut operands);
-    let size = list::narrowed(&operands[..n], &mut kinds);
-    let count = list::numbers(field::at(line, 3), &mut operands);
+    let n = list::bytes(field::at(line, 2), &mut kinds);
+    let m = list::numbers(field::at(line, 3), &mut operands);
+    program(call, line, &kinds[..n], &operands[..m]);
+}
+
+fn program(call: u8, line: &[u8], kinds: &[u8], operands: &[u64]) {
     if call == b'C' {
-        verify(line, &kinds[..size], &operands[..count]);
+        verify(line, kinds, operands);
     } else {
-        run(call, line, &kinds[..size], &operands[..count]);
+        run(call, line, kinds, operands);
     }
 }
 
