@@ -46,37 +46,17 @@ fn run(call: u8, line: &[u8], kinds: &[u8], operands: &[u64]) {
     let mut stack = [9u64; 4100];
     let mut work = [9u64; 65540];
     let mut storage = [0u64; 65540];
+    let items = list::within(field::number(field::at(line, 7)) as usize, &stack);
+    let scratch = list::within(field::number(field::at(line, 8)) as usize, &work);
     let slots = list::numbers(field::at(line, 9), &mut storage);
-    lent(
-        call,
-        line,
-        kinds,
-        operands,
-        &mut stack,
-        &mut work,
-        &mut storage[..slots],
-    );
-}
-
-fn lent(
-    call: u8,
-    line: &[u8],
-    kinds: &[u8],
-    operands: &[u64],
-    stack: &mut [u64],
-    work: &mut [u64],
-    storage: &mut [u64],
-) {
-    let items = list::within(field::number(field::at(line, 7)) as usize, stack);
-    let slots = list::within(field::number(field::at(line, 8)) as usize, work);
     case(
         call,
         line,
         kinds,
         operands,
         &mut stack[..items],
-        &mut work[..slots],
-        storage,
+        &mut work[..scratch],
+        &mut storage[..slots],
     );
 }
 
