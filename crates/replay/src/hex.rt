@@ -5,12 +5,12 @@ ghost use Prim.Native.Nat.{_+_, _≤_, _<_};
 ghost use lib.ListN.{length};
 ghost use Rattle.io.specs.Counts.{Counts};
 
-// The bytes that the digits from a place on write, as many as the buffer holds.
-pub fn decode(s: &[u8], at: usize, out: &mut [u8]) -> usize
+// The bytes that the digits in front write, as many as the buffer holds.
+pub fn decode(s: &[u8], out: &mut [u8]) -> usize
     ensures { λ r. ⌜ Counts r (now (out .exit)) ⌝ }
 {
     let mut n: usize = 0;
-    let mut i = at;
+    let mut i: usize = 0;
     while n < out.len() {
         if !is_pair(s, i) {
             return n;
@@ -22,35 +22,29 @@ pub fn decode(s: &[u8], at: usize, out: &mut [u8]) -> usize
     n
 }
 
-// The place behind the digits from a place on and behind one space.
-pub fn digits_end(s: &[u8], at: usize) -> usize {
-    let mut i = at;
-    while i < s.len() {
-        if s[i] == b' ' {
-            return i + 1;
-        }
-        i += 1;
+// A number, or a text's length where that is less.
+pub fn within(n: usize, s: &[u8]) -> usize
+    ensures { λ r. ⌜ Counts r (now (s .entry)) ⌝ }
+{
+    if s.len() < n {
+        return s.len();
     }
-    i
+    n
 }
 
 pub fn print(s: &[u8]) {
+    if s.len() == 0 {
+        io::write_all(1, b"-");
+    }
+    digits(s);
+}
+
+fn digits(s: &[u8]) {
     let mut i: usize = 0;
     while i < s.len() {
         io::print_hex(1, base::widen(s[i]), 2);
         i += 1;
     }
-}
-
-// The number of eight bytes, the highest first; less than eight count from the lowest.
-pub fn number(s: &[u8]) -> u64 {
-    let mut n: u64 = 0;
-    let mut i: usize = 0;
-    while i < s.len() {
-        n = n % 0x100_0000_0000_0000 * 256 + base::widen(s[i]);
-        i += 1;
-    }
-    n
 }
 
 fn is_pair(s: &[u8], i: usize) -> bool

@@ -1,12 +1,23 @@
-// What the calls of the text floor give, as text.
+// The calls that take one or two texts.
+use super::answer;
+use super::field;
 use super::hex;
+use super::parts;
 use decimal::Number;
 use decimal::Value;
 use decimal::Written;
 use lines::Step;
 use search::Found;
 
-pub fn print(call: u8, a: &[u8], b: &[u8]) {
+pub fn replay(call: u8, line: &[u8]) {
+    let mut a = [0u8; 1024];
+    let mut b = [0u8; 1024];
+    let n = hex::decode(field::at(line, 2), &mut a);
+    let m = hex::decode(field::at(line, 3), &mut b);
+    print(call, line, &a[..n], &b[..m]);
+}
+
+fn print(call: u8, line: &[u8], a: &[u8], b: &[u8]) {
     match call {
         b'u' => flag(utf8::is_utf8(a)),
         b't' => hex::print(trim::trim(a)),
@@ -18,8 +29,8 @@ pub fn print(call: u8, a: &[u8], b: &[u8]) {
         b'd' => digits(a),
         b'f' => found(search::find(a, b, 0)),
         b'b' => found_byte(a, b),
-        b'm' => product(a, b),
-        _ => {}
+        b'm' => product(line),
+        _ => parts::print(call, a, b),
     }
 }
 
@@ -38,16 +49,11 @@ fn all_lines(s: &[u8]) {
         let Step::Next(line) = step else {
             return;
         };
-        spaced(line.start);
-        spaced(line.end);
-        spaced(line.next);
+        answer::spaced(line.start as u64);
+        answer::spaced(line.end as u64);
+        answer::spaced(line.next as u64);
         at = line.next;
     }
-}
-
-fn spaced(n: usize) {
-    io::print_decimal(1, n as u64);
-    io::write_all(1, b" ");
 }
 
 fn parsed(s: &[u8]) {
@@ -81,14 +87,12 @@ fn rewritten(s: &[u8]) {
 
 fn digits(s: &[u8]) {
     let run = decimal::digits_at(s, 0);
-    spaced(run.len);
+    io::print_decimal(1, run.len as u64);
     let value = run.value;
     match value {
-        Value::Is(n) => {
-            io::print_decimal(1, n);
-        }
+        Value::Is(n) => answer::spaced(n),
         Value::TooLarge => {
-            io::write_all(1, b"+");
+            io::write_all(1, b" +");
         }
     }
 }
@@ -110,6 +114,8 @@ fn found_byte(s: &[u8], b: &[u8]) {
     }
 }
 
-fn product(a: &[u8], b: &[u8]) {
-    io::print_decimal(1, word::wrapping_mul(hex::number(a), hex::number(b)));
+fn product(line: &[u8]) {
+    let a = field::number(field::at(line, 2));
+    let b = field::number(field::at(line, 3));
+    io::print_decimal(1, word::wrapping_mul(a, b));
 }

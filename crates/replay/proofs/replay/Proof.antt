@@ -1,59 +1,53 @@
--- `replay::replay` is safe and ends: each line lies within the text and starts after the one before.
+-- `replay::replay` is safe and ends: what is held and what is read lie within the buffer.
 -- Assumes nothing.
-use Prim.Native.Nat.{_-_}
-use mathlib.Core.Path.{sym, _∙_}
-use native.Mathlib.Omega.{arith}
+use Prim.Native.Nat.{_-_, _≤_}
+use mathlib.Core.Path.{_≡_}
 use lib.ListN.{length}
-use denote.Ref.{now}
-use Rattle.lines.specs.Code.Visits.{IsLine}
-use Rattle.lines.proofs.Cursor.{step-line}
 use borrow.Author.Needs.{needs}
 use Rattle.replay.proofs.replay.Statement.{statement}
 use Rattle.replay.proofs.replay.Tie as tie
 
 abbrev Inv-loop : tie.InvT-loop
-Inv-loop text at₀ at = Unit {0}
+Inv-loop buffer₀ held₀ rounds₀ buffer held rounds = (held ≤ length buffer) × (length buffer ≡ length buffer₀)
 
 abbrev μ-loop : tie.MeasureT-loop
-μ-loop text at₀ at = length text - at
-
-is-line : (c : tie.After-step Inv-loop μ-loop) → IsLine (now (c .before .before .before .before .before .before .args .text)) (c .before .before .before .before .loop .at) (c .step .given .0 .0)
-is-line c =
-    let l = c .before .before .before .before in
-    step-line (now (l .before .before .args .text)) (l .loop .at) (c .step .given .0 .0) (sym (c .before .before .line-at .ensures) ∙ c .step .given .1)
+μ-loop buffer₀ held₀ rounds₀ buffer held rounds = 65536 - rounds
 
 loop-holds : tie.Need-loop-holds Inv-loop μ-loop
 loop-holds c = search needs
 
-line-at-requires : tie.Need-line-at-requires Inv-loop μ-loop
-line-at-requires c κs = search needs
+more-requires : tie.Need-more-requires Inv-loop μ-loop
+more-requires c κs = search needs
 
-enum-known-step : tie.Need-enum-known-step Inv-loop μ-loop
-enum-known-step c = search needs
+slice-reshare-prefix-cases : tie.Need-slice-reshare-prefix-cases Inv-loop μ-loop
+slice-reshare-prefix-cases c = search needs
 
-enum-told : tie.Need-enum-told Inv-loop μ-loop
-enum-told c = search needs
+slice-aggregate-cases : tie.Need-slice-aggregate-cases Inv-loop μ-loop
+slice-aggregate-cases c = search needs
+
+cases-requires : tie.Need-cases-requires Inv-loop μ-loop
+cases-requires c κs = search needs
+
+same-length : tie.Need-same-length Inv-loop μ-loop
+same-length c = search needs
 
 returns : tie.Need-returns Inv-loop μ-loop
 returns c = search needs
 
-sub-case : tie.Need-sub-case Inv-loop μ-loop
-sub-case c = let h = is-line (c .before) in let p = h .starts in let q = h .ends in omega arith
+keep-requires : tie.Need-keep-requires Inv-loop μ-loop
+keep-requires c κs = search needs
 
-part-case-start : tie.Need-part-case-start Inv-loop μ-loop
-part-case-start c = let h = is-line (c .before) in let p = h .starts in let q = h .ends in omega arith
-
-part-case-end : tie.Need-part-case-end Inv-loop μ-loop
-part-case-end c = let h = is-line (c .before) in let p = h .fits in let q = h .before in omega arith
-
-case-requires : tie.Need-case-requires Inv-loop μ-loop
-case-requires c κs = search needs
+add-rounds : tie.Need-add-rounds Inv-loop μ-loop
+add-rounds c = search needs
 
 loop-less : tie.Need-loop-less Inv-loop μ-loop
-loop-less c = let h = is-line (c .before .before .before) in let p = h .on in omega arith
+loop-less c = search needs
 
 loop-again : tie.Need-loop-again Inv-loop μ-loop
 loop-again c = search needs
+
+same-length-2 : tie.Need-same-length-2 Inv-loop μ-loop
+same-length-2 c = search needs
 
 returns-2 : tie.Need-returns-2 Inv-loop μ-loop
 returns-2 c = search needs
@@ -65,14 +59,15 @@ replay-spec =
     Inv-loop
     μ-loop
     loop-holds
-    line-at-requires
-    enum-known-step
-    enum-told
+    more-requires
+    slice-reshare-prefix-cases
+    slice-aggregate-cases
+    cases-requires
+    same-length
     returns
-    sub-case
-    part-case-start
-    part-case-end
-    case-requires
+    keep-requires
+    add-rounds
     loop-less
     loop-again
+    same-length-2
     returns-2)

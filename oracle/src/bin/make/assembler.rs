@@ -1,17 +1,15 @@
-// Makes the vectors that crates/assembler_vectors replays: its `stdin` (the cases) and its `stdout` (the answers).
-// The answers are those of the original's `assemble`, run on files in a folder of its own. The
-// original gives no number: `message_number` finds document 01's by the message. Nor does it give
-// a key's place, a line, k or p: the place is that of the first key that the original's `json_u64_for_key` refuses, the
+// The cases of crates/replay that assemble. The answers are those of the original's `assemble`, run on files in a folder of its
+// own. The original gives no number: `message_number` finds document 01's by the message. Nor does it give a key's place, a line, k or p: the place is that of the first key that the original's `json_u64_for_key` refuses, the
 // line the least number of body lines with which `assemble` refuses so, and k and p are counted in the output.
 // What only document 01 answers stands last and is marked (`added_cases`).
 // A stem that is empty can't be made by a file, nor one of 252 to 255 bytes that is accepted (`.ops` is added to it).
+use crate::cases::{self, list, told};
 use crate::draw::next;
 use crate::words::{words, words_of};
-use crate::Made;
 use original::assembler::assemble;
 use original::assembler::private::{find_function, json_u64_for_key, tokenize};
 use original::numbers::message_number;
-use std::collections::{BTreeMap, HashMap, HashSet};
+use std::collections::{HashMap, HashSet};
 use std::ffi::OsStr;
 use std::fs;
 use std::os::unix::ffi::OsStrExt;
@@ -19,15 +17,13 @@ use std::path::PathBuf;
 
 const ROOM: usize = 16384;
 
-struct Cases {
+struct Cases<'a> {
     folder: PathBuf,
-    input: Vec<u8>,
-    output: Vec<u8>,
-    seen: HashSet<Vec<u8>>,
-    counts: BTreeMap<u64, usize>,
+    all: &'a mut cases::Cases,
+    seen: HashSet<[String; 3]>,
 }
 
-impl Cases {
+impl Cases<'_> {
     // What the original answers: the output, or its message.
     fn original(&self, contract: &[u8], vector: &[u8], stem: &[u8]) -> Result<Vec<u8>, String> {
         let mut name = stem.to_vec();
@@ -50,12 +46,12 @@ impl Cases {
     }
 
     fn refused(&self, contract: &[u8], vector: &[u8], message: &str) -> String {
-        let number = message_number(message);
-        match number {
-            8..=11 => format!("{number} {}", key_place(contract, vector, message)),
-            12..=19 => format!("{number} {}", self.line(contract, vector, message)),
-            _ => number.to_string(),
-        }
+        let carried = match message_number(message) {
+            8..=11 => key_place(contract, vector, message),
+            12..=19 => self.line(contract, vector, message),
+            _ => 0,
+        };
+        told(message_number(message), &[carried as u64])
     }
 
     // The number of the body line that is refused: contracts of the same parameters and of the first lines only.
@@ -75,34 +71,25 @@ impl Cases {
     }
 
     fn bytes(&mut self, contract: &[u8], vector: &[u8], stem: &[u8]) {
-        let case = written('o', contract, vector, stem);
-        if !self.seen.insert(case.clone()) {
+        let arguments = [contract, vector, stem].map(cases::text);
+        if !self.seen.insert(arguments.clone()) {
             return;
         }
         check_domain(contract, vector, stem);
-        let number = match self.original(contract, vector, stem) {
+        let answer = match self.original(contract, vector, stem) {
             Ok(text) => {
-                assert!(text.len() <= ROOM);
                 let (k, p, value) = figures(std::str::from_utf8(&text).unwrap());
-                self.output.extend(format!("0 {} {k} {p} {value} kept\n", text.len()).bytes());
-                self.output.extend(text);
-                0
+                left(&told(0, &[text.len() as u64, k, p, value]), &text)
             }
-            Err(message) => {
-                let refused = self.refused(contract, vector, &message);
-                self.output.extend(format!("{refused} kept\n").bytes());
-                message_number(&message)
-            }
+            Err(message) => left(&self.refused(contract, vector, &message), b""),
         };
-        self.input.extend(case);
-        *self.counts.entry(number).or_default() += 1;
+        self.all.add('o', 'A', &arguments, &answer);
     }
 
-    // A case that the original can't be asked, with document 01's answer: a refusal's number and value, or the output behind its figures.
-    fn added(&mut self, contract: &str, vector: &str, stem: &[u8], number: u64, answer: &str, output: &str) {
-        self.input.extend(written('d', contract.as_bytes(), vector.as_bytes(), stem));
-        self.output.extend(format!("{answer} kept\n{output}").bytes());
-        *self.counts.entry(number).or_default() += 1;
+    // A case that the original can't be asked, with document 01's answer: its number, the values carried, and the output.
+    fn added(&mut self, contract: &str, vector: &str, stem: &[u8], number: u64, values: &[u64], output: &str) {
+        let arguments = [contract.as_bytes(), vector.as_bytes(), stem].map(cases::text);
+        self.all.add('d', 'A', &arguments, &left(&told(number, values), output.as_bytes()));
     }
 
     fn text(&mut self, contract: &str, vector: &str) {
@@ -130,10 +117,9 @@ impl Cases {
     }
 }
 
-// A case as crates/assembler_vectors reads it: who answers (`o` the original, `d` document 01), the lengths, and the texts.
-fn written(who: char, contract: &[u8], vector: &[u8], stem: &[u8]) -> Vec<u8> {
-    let lengths = format!("{who} {:05} {:05} {:03}\n", contract.len(), vector.len(), stem.len());
-    [lengths.as_bytes(), contract, vector, stem, b"\n"].concat()
+// An answer with what is left in the lent buffer: the output, and the rest as it was.
+fn left(answer: &str, output: &[u8]) -> String {
+    format!("{answer} | {} | {}", cases::text(output), list(&vec![170; ROOM - output.len()]))
 }
 
 fn key_place(contract: &[u8], vector: &[u8], message: &str) -> usize {
@@ -150,7 +136,7 @@ fn key_place(contract: &[u8], vector: &[u8], message: &str) -> usize {
 }
 
 // k and p, counted in the output, and the expected value that it names.
-fn figures(text: &str) -> (usize, usize, u64) {
+fn figures(text: &str) -> (u64, u64, u64) {
     let (head, ops) = text.split_once("\n# expected: ").unwrap();
     assert!(head.starts_with("# contract: "));
     let (value, ops) = ops.split_once('\n').unwrap();
@@ -462,32 +448,32 @@ fn added_cases(c: &mut Cases) {
     let one = "{\"a\":5,\"expected\":1}";
     let good = "fn t(){return 1}";
     let padded = |text: &str| format!("{text}{}", " ".repeat(65537 - text.len()));
-    c.added(&padded(good), one, b"t", 1, "1", "");
-    c.added(good, &padded(one), b"t", 2, "2", "");
+    c.added(&padded(good), one, b"t", 1, &[], "");
+    c.added(good, &padded(one), b"t", 2, &[], "");
     let open = "(".repeat(65);
     for (body, line) in [(format!("return {open}"), 1), (format!("return {open}1{}", ")".repeat(65)), 1), (format!("let x={open}1\nreturn 1"), 1), (format!("let x=1\n\nreturn 1+{open}"), 3)] {
-        c.added(&format!("fn t(a){{{body}}}"), one, b"t", 18, &format!("18 {line}"), "");
+        c.added(&format!("fn t(a){{{body}}}"), one, b"t", 18, &[line], "");
     }
     // k is 32,768 on the fifteenth line
     let doubled = format!("let x=a+a\n{}", "let x=x+x\n".repeat(14));
     for body in [format!("{doubled}let x=x+x\nreturn 1"), format!("{doubled}return x+a"), format!("{doubled}return x+a\nreturn 1"), format!("{doubled}let y=a*x\n")] {
-        c.added(&format!("fn t(a){{{body}}}"), one, b"t", 20, "20 16", "");
+        c.added(&format!("fn t(a){{{body}}}"), one, b"t", 20, &[16], "");
     }
-    c.added(&format!("fn t(a){{{doubled}return x}}"), "{\"a\":5,\"expected\":163840}", b"t", 26, "26", "");
+    c.added(&format!("fn t(a){{{doubled}return x}}"), "{\"a\":5,\"expected\":163840}", b"t", 26, &[], "");
     for body in ["let x=1\n".repeat(256), format!("{}return 1", "let x=1\n".repeat(256)), format!("{}let y=1/0\nreturn 1/0", "let x=1\n".repeat(255))] {
-        c.added(&format!("fn t(a){{{body}}}"), one, b"t", 21, "21", "");
+        c.added(&format!("fn t(a){{{body}}}"), one, b"t", 21, &[], "");
     }
-    c.added(&format!("fn t({}){{}}", "a,".repeat(257)), one, b"t", 21, "21", "");
-    c.added(&format!("fn t({}b){{}}", "a,".repeat(256)), one, b"t", 8, "8 257", "");
+    c.added(&format!("fn t({}){{}}", "a,".repeat(257)), one, b"t", 21, &[], "");
+    c.added(&format!("fn t({}b){{}}", "a,".repeat(256)), one, b"t", 8, &[257], "");
     for stem in [&b""[..], &b"s".repeat(256), b"a\nb", b"\n", b"tally\n"] {
-        c.added(good, one, stem, 25, "25", "");
-        c.added("fn t(){return 2}", one, stem, 24, "24", "");
+        c.added(good, one, stem, 25, &[], "");
+        c.added("fn t(){return 2}", one, stem, 24, &[], "");
     }
     let longest = "s".repeat(255);
     let output = format!("# contract: {longest}\n# expected: 1\nPush 1\nHalt\n");
-    c.added(good, one, longest.as_bytes(), 0, "0 294 1 1 1", &output);
+    c.added(good, one, longest.as_bytes(), 0, &[294, 1, 1, 1], &output);
     // 16,385 bytes
-    c.added(&format!("fn t(a){{return a{}}}", "+a".repeat(1485)), "{\"a\":5,\"expected\":7430}", b"too_long", 26, "26", "");
+    c.added(&format!("fn t(a){{return a{}}}", "+a".repeat(1485)), "{\"a\":5,\"expected\":7430}", b"too_long", 26, &[], "");
 }
 
 fn pick<'a>(seed: &mut u64, from: &[&'a str]) -> &'a str {
@@ -569,10 +555,10 @@ fn drawn_cases(c: &mut Cases) {
     }
 }
 
-pub fn make() -> Made {
+pub fn make(all: &mut cases::Cases) {
     let folder = std::env::temp_dir().join(format!("assembler_cases_{}", std::process::id()));
     fs::create_dir(&folder).unwrap();
-    let mut c = Cases { folder, input: vec![], output: vec![], seen: HashSet::new(), counts: BTreeMap::new() };
+    let mut c = Cases { folder, all, seen: HashSet::new() };
     document_cases(&mut c);
     expression_cases(&mut c);
     line_cases(&mut c);
@@ -584,6 +570,4 @@ pub fn make() -> Made {
     drawn_cases(&mut c);
     added_cases(&mut c);
     fs::remove_dir_all(&c.folder).unwrap();
-    println!("{} cases, {} bytes in, {} bytes out: {:?}", c.counts.values().sum::<usize>(), c.input.len(), c.output.len(), c.counts);
-    (c.input, c.output)
 }

@@ -1,9 +1,7 @@
-// The cases of crates/replay that call the chain gate: what the original's `execution_gate` answers for eight texts, which
-// stand in one, parted by the byte FF.
-use crate::Made;
+// The cases of crates/replay that call the chain gate: what the original's `execution_gate` answers for eight texts.
+use crate::cases::{texts, told, Cases};
 use original::context::{execution_gate, ChainContext};
 use original::numbers::context_number;
-use std::fmt::Write;
 
 fn number(t: &[String; 8]) -> u64 {
     let context = ChainContext {
@@ -30,7 +28,7 @@ fn near(good: &str) -> Vec<String> {
     all
 }
 
-pub fn make() -> Made {
+pub fn make(c: &mut Cases) {
     let genesis = "0123456789abcdef".repeat(4);
     let good = ["atc", "devnet", &genesis, "p1", "v1", &genesis, "p1", "v1"];
     let mut cases: Vec<[String; 8]> = Vec::new();
@@ -59,12 +57,7 @@ pub fn make() -> Made {
         one[5] = hex.repeat(64);
         cases.push(one);
     }
-    let (mut input, mut output) = (String::new(), String::new());
     for case in &cases {
-        let joined: Vec<u8> = case.iter().map(|t| t.as_bytes()).collect::<Vec<_>>().join(&0xFFu8);
-        let hex: String = joined.iter().map(|b| format!("{b:02x}")).collect();
-        writeln!(input, "G {hex} ").unwrap();
-        writeln!(output, "{}", number(case)).unwrap();
+        c.add('o', 'G', &[texts(case)], &told(number(case), &[]));
     }
-    (input.into(), output.into())
 }

@@ -1,6 +1,8 @@
-//! Makes the vectors that programs replay: crates/replay/stdin (a call and its arguments in hexadecimal, a case to a line) and
-//! stdout (what the Rust answers), and those of crates/ops_vectors, crates/assembler_vectors and crates/vm_vectors.
+//! Makes crates/replay/stdin and stdout: the cases that the program replays, and what the original, or document 01 where the
+//! original can't be asked, answers.
 mod assembler;
+mod cases;
+mod document;
 mod draw;
 mod gate;
 mod ops;
@@ -9,18 +11,16 @@ mod text;
 mod vm;
 mod words;
 
-/// What a program reads, and what it is to write.
-type Made = (Vec<u8>, Vec<u8>);
-
-fn write(program: &str, (stdin, stdout): &Made) {
-    std::fs::write(format!("crates/{program}/stdin"), stdin).unwrap();
-    std::fs::write(format!("crates/{program}/stdout"), stdout).unwrap();
-}
-
 fn main() {
-    let (stdin, stdout): (Vec<_>, Vec<_>) = [text::make(), source::make(), gate::make()].into_iter().unzip();
-    write("replay", &(stdin.concat(), stdout.concat()));
-    write("ops_vectors", &ops::make());
-    write("vm_vectors", &vm::make("oracle/vm_document.txt"));
-    write("assembler_vectors", &assembler::make());
+    let mut cases = cases::Cases::default();
+    text::make(&mut cases);
+    source::make(&mut cases);
+    gate::make(&mut cases);
+    ops::make(&mut cases);
+    vm::make(&mut cases);
+    document::make(&mut cases);
+    assembler::make(&mut cases);
+    std::fs::write("crates/replay/stdin", &cases.stdin).unwrap();
+    std::fs::write("crates/replay/stdout", &cases.stdout).unwrap();
+    cases.print_counts();
 }

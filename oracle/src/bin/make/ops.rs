@@ -1,12 +1,10 @@
-//! Makes the vectors that crates/ops_vectors replays: its `stdin` (the cases) and its `stdout` (the answers).
-//! The answers come from the original src/ops.rs, line by line and for the whole text. Document 01's additions
+//! The cases of crates/replay that read operations. The answers come from the original src/ops.rs, line by line and for the whole text. Document 01's additions
 //! (27 for a text that isn't UTF-8, 32 for a full buffer, the place and length of a part) come from std's `str`; cases of 27
 //! and 32 are marked `d`.
+use crate::cases::{self, list, told};
 use crate::draw::next;
-use crate::Made;
 use original::kinds::kind_and_operand;
 use original::ops::{parse_ops, OpsError};
-use std::fmt::Write;
 
 const LENT: usize = 18;
 const WORDS: [&str; 16] = [
@@ -21,10 +19,10 @@ fn place(text: &str, line: &str, part: &str, whole: bool) -> (usize, usize) {
     (part_here.as_ptr() as usize - text.as_ptr() as usize, part_here.len())
 }
 
-/// What reading answers, and the operations where it does not refuse.
-fn read(text: &[u8], room: usize) -> (String, Vec<(u8, u64)>) {
+/// What reading answers, with the values carried, and the operations where it does not refuse.
+fn read(text: &[u8], room: usize) -> (u64, Vec<u64>, Vec<(u8, u64)>) {
     let Ok(text) = std::str::from_utf8(text) else {
-        return ("27".into(), vec![]);
+        return (27, vec![], vec![]);
     };
     let mut read = vec![];
     for (i, line) in text.lines().enumerate() {
@@ -34,7 +32,7 @@ fn read(text: &[u8], room: usize) -> (String, Vec<(u8, u64)>) {
             Ok(op) => {
                 assert_eq!(op.len(), 1);
                 if read.len() == room {
-                    return (format!("32 {n}"), vec![]);
+                    return (32, vec![n as u64], vec![]);
                 }
                 read.push(kind_and_operand(&op[0]));
                 continue;
@@ -52,13 +50,13 @@ fn read(text: &[u8], room: usize) -> (String, Vec<(u8, u64)>) {
             other => panic!("{other:?}"),
         };
         assert_eq!(whole, (number, n));
-        return (format!("{number} {n} {at} {len}"), vec![]);
+        return (number, [n, at, len].map(|v| v as u64).to_vec(), vec![]);
     }
     match parse_ops(text) {
-        Err(OpsError::Empty) => ("33".into(), vec![]),
+        Err(OpsError::Empty) => (33, vec![], vec![]),
         Ok(whole) => {
             assert_eq!(whole.iter().map(kind_and_operand).collect::<Vec<_>>(), read);
-            (format!("0 {}", read.len()), read)
+            (0, vec![read.len() as u64], read)
         }
         other => panic!("{other:?}"),
     }
@@ -74,38 +72,19 @@ fn trimmed_line(text: &[u8], n: usize) -> &[u8] {
     text.lines().nth(n - 1).map_or(&[], |l| l.trim().as_bytes())
 }
 
-#[derive(Default)]
-struct Cases {
-    input: Vec<u8>,
-    output: Vec<u8>,
-    count: usize,
-}
+struct Cases<'a>(&'a mut cases::Cases);
 
-impl Cases {
+impl Cases<'_> {
     fn lent(&mut self, text: &[u8], kinds: usize, operands: usize) {
-        self.count += 1;
-        let (answer, ops) = read(text, kinds.min(operands));
-        let who = if answer == "27" || answer.starts_with("32 ") { 'd' } else { 'o' };
-        self.input.extend(format!("{who} {kinds:02} {operands:02} {:04}\n", text.len()).bytes());
-        self.input.extend(text);
-        self.input.push(b'\n');
-        let mut k = [200u8; LENT];
-        let mut o = [77u64; LENT];
+        let (number, values, ops) = read(text, kinds.min(operands));
+        let (mut k, mut o) = ([200; LENT], [77; LENT]);
         for (i, op) in ops.iter().enumerate() {
-            (k[i], o[i]) = *op;
+            (k[i], o[i]) = (op.0.into(), op.1);
         }
-        let mut lines = format!("{answer}\n");
-        k.iter().for_each(|k| write!(lines, "{k} ").unwrap());
-        lines.push('\n');
-        o.iter().for_each(|o| write!(lines, "{o} ").unwrap());
-        lines.push('\n');
-        self.output.extend(lines.bytes());
-        for n in 0..4 {
-            self.output.push(b'[');
-            self.output.extend(trimmed_line(text, n));
-            self.output.push(b']');
-        }
-        self.output.push(b'\n');
+        let trimmed: String = (0..4).map(|n| format!(" | {}", cases::text(trimmed_line(text, n)))).collect();
+        let answer = format!("{} | {} | {}{trimmed}", told(number, &values), list(&k), list(&o));
+        let who = if matches!(number, 27 | 32) { 'd' } else { 'o' };
+        self.0.add(who, 'O', &[kinds.to_string(), operands.to_string(), cases::text(text)], &answer);
     }
 
     fn text(&mut self, text: &str) {
@@ -113,8 +92,8 @@ impl Cases {
     }
 }
 
-pub fn make() -> Made {
-    let mut c = Cases::default();
+pub fn make(cases: &mut cases::Cases) {
+    let mut c = Cases(cases);
     let takes = |w: &str| matches!(w, "Push" | "Load" | "Store" | "Jump" | "JumpIfNotZero" | "JumpIfZero");
 
     // document 01's tally, E7, E8, and texts with no operation
@@ -192,6 +171,4 @@ pub fn make() -> Made {
         c.text(&t);
         c.lent(t.as_bytes(), 8, 18);
     }
-    println!("{} cases, {} bytes in, {} bytes out", c.count, c.input.len(), c.output.len());
-    (c.input, c.output)
 }

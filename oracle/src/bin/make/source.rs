@@ -1,43 +1,28 @@
 // The cases of crates/replay that read a contract and its vector: what the original's `find_function` and
 // `json_u64_for_key` answer.
+use crate::cases::{text, told, Cases};
 use crate::words::words;
-use crate::Made;
 use original::assembler::private::{find_function, json_u64_for_key};
 use original::numbers::message_number;
-use std::fmt::Write;
-
-struct Cases {
-    input: String,
-    output: String,
-}
-
-fn hex(s: &str) -> String {
-    s.bytes().map(|b| format!("{b:02x}")).collect()
-}
 
 impl Cases {
-    fn add(&mut self, call: char, a: &str, b: &str, answer: String) {
-        writeln!(self.input, "{call} {} {}", hex(a), hex(b)).unwrap();
-        writeln!(self.output, "{answer}").unwrap();
-    }
-
     fn function(&mut self, contract: &str) {
         let answer = match find_function(contract) {
             Ok((names, body)) => {
-                let names: String = names.iter().map(|n| hex(n) + " ").collect();
-                format!("0 {names}| {}", hex(&body))
+                let parts = [vec![body], names].concat();
+                parts.iter().fold(told(0, &[]), |all, part| format!("{all} | {}", text(part.as_bytes())))
             }
-            Err(message) => message_number(&message).to_string(),
+            Err(message) => told(message_number(&message), &[]),
         };
-        self.add('F', contract, "", answer);
+        self.add('o', 'F', &[text(contract.as_bytes())], &answer);
     }
 
     fn value(&mut self, vector: &str, key: &str) {
         let answer = match json_u64_for_key(vector, key) {
-            Ok(n) => format!("0 {n}"),
-            Err(message) => message_number(&message).to_string(),
+            Ok(n) => told(0, &[n]),
+            Err(message) => told(message_number(&message), &[]),
         };
-        self.add('V', vector, key, answer);
+        self.add('o', 'V', &[text(vector.as_bytes()), text(key.as_bytes())], &answer);
     }
 }
 
@@ -101,9 +86,7 @@ fn value_cases(c: &mut Cases) {
     }
 }
 
-pub fn make() -> Made {
-    let mut c = Cases { input: String::new(), output: String::new() };
-    function_cases(&mut c);
-    value_cases(&mut c);
-    (c.input.into(), c.output.into())
+pub fn make(c: &mut Cases) {
+    function_cases(c);
+    value_cases(c);
 }

@@ -1,32 +1,22 @@
 // The cases of crates/replay that call the text floor: what Rust's own `str`, `u64` and slices answer.
+use crate::cases::{text, Cases};
 use crate::words::words;
-use crate::Made;
 use std::fmt::Write;
 
-struct Cases {
-    input: String,
-    output: String,
-}
-
-fn hex(bytes: &[u8]) -> String {
-    bytes.iter().map(|b| format!("{b:02x}")).collect()
-}
-
 impl Cases {
-    fn add(&mut self, call: char, a: &[u8], b: &[u8], answer: String) {
-        writeln!(self.input, "{call} {} {}", hex(a), hex(b)).unwrap();
-        writeln!(self.output, "{answer}").unwrap();
+    fn of_text(&mut self, call: char, s: &str, answer: &str) {
+        self.add('o', call, &[text(s.as_bytes())], answer);
     }
 
     fn utf8(&mut self, a: &[u8]) {
         let answer = if std::str::from_utf8(a).is_ok() { "1" } else { "0" };
-        self.add('u', a, &[], answer.into());
+        self.add('o', 'u', &[text(a)], answer);
     }
 
     fn trims(&mut self, s: &str) {
-        self.add('t', s.as_bytes(), &[], hex(s.trim().as_bytes()));
-        self.add('s', s.as_bytes(), &[], hex(s.trim_start().as_bytes()));
-        self.add('e', s.as_bytes(), &[], hex(s.trim_end().as_bytes()));
+        self.of_text('t', s, &text(s.trim().as_bytes()));
+        self.of_text('s', s, &text(s.trim_start().as_bytes()));
+        self.of_text('e', s, &text(s.trim_end().as_bytes()));
     }
 
     fn lines(&mut self, s: &str) {
@@ -35,17 +25,17 @@ impl Cases {
             let start = line.as_ptr() as usize - s.as_ptr() as usize;
             let end = start + line.len();
             let next = s[end..].find('\n').map_or(s.len(), |i| end + i + 1);
-            write!(answer, "{start} {end} {next} ").unwrap();
+            write!(answer, " {start} {end} {next}").unwrap();
         }
-        self.add('l', s.as_bytes(), &[], answer);
+        self.of_text('l', s, &answer);
     }
 
     fn number(&mut self, s: &str) {
         let parsed = s.parse::<u64>();
         let answer = parsed.as_ref().map_or("-".into(), |n| n.to_string());
-        self.add('n', s.as_bytes(), &[], answer.clone());
+        self.of_text('n', s, &answer);
         if let Ok(n) = parsed {
-            self.add('w', s.as_bytes(), &[], n.to_string());
+            self.of_text('w', s, &n.to_string());
         }
         let digits: String = s.chars().take_while(|c| c.is_ascii_digit()).collect();
         let value = match digits.parse::<u64>() {
@@ -53,19 +43,20 @@ impl Cases {
             Err(_) if digits.is_empty() => "0".into(),
             Err(_) => "+".into(),
         };
-        self.add('d', s.as_bytes(), &[], format!("{} {value}", digits.len()));
+        self.of_text('d', s, &format!("{} {value}", digits.len()));
     }
 
     fn find(&mut self, s: &str, p: &str) {
         let answer = s.find(p).map_or("-".into(), |i| i.to_string());
-        self.add('f', s.as_bytes(), p.as_bytes(), answer.clone());
+        let arguments = [text(s.as_bytes()), text(p.as_bytes())];
+        self.add('o', 'f', &arguments, &answer);
         if p.len() == 1 {
-            self.add('b', s.as_bytes(), p.as_bytes(), answer);
+            self.add('o', 'b', &arguments, &answer);
         }
     }
 
     fn product(&mut self, a: u64, b: u64) {
-        self.add('m', &a.to_be_bytes(), &b.to_be_bytes(), a.wrapping_mul(b).to_string());
+        self.add('o', 'm', &[a.to_string(), b.to_string()], &a.wrapping_mul(b).to_string());
     }
 }
 
@@ -155,15 +146,14 @@ fn number_cases(c: &mut Cases) {
     }
 }
 
-pub fn make() -> Made {
-    let mut c = Cases { input: String::new(), output: String::new() };
-    utf8_cases(&mut c);
-    trim_cases(&mut c);
+pub fn make(c: &mut Cases) {
+    utf8_cases(c);
+    trim_cases(c);
     for s in words(&["a", "\n", "\r"], 5) {
         c.lines(&s);
     }
     c.lines("é\r\n\u{2028}x\u{85}\n\u{B}");
-    number_cases(&mut c);
+    number_cases(c);
     for s in words(&["a", "b"], 5) {
         for p in words(&["a", "b"], 3) {
             c.find(&s, &p);
@@ -179,5 +169,4 @@ pub fn make() -> Made {
             c.product(a, b);
         }
     }
-    (c.input.into(), c.output.into())
 }

@@ -1,15 +1,14 @@
-//! Makes what crates/vm_vectors replays: its `stdin` (the cases with their answers, as src/main.rt there has them) and its
-//! `stdout` (how many each call has).
-//! The answers of lines that start with `o` are the original's. The gas spent is asked of it as the least limit under which the
-//! run succeeds; the operations executed, and what becomes of lent buffers past items and used slots, can't be asked and are
-//! left open. Lines that start with `d` are copied from oracle/vm_document.txt, which is written by hand from document 01.
+//! The cases of crates/replay that call the verifier, the machine and the transitions. The original gives neither gas spent nor
+//! operations executed. The gas spent is the least limit under which the run succeeds. Below it the original names the gas left,
+//! so every operation with a price shows as one sum of gas spent before it; Halt, which is free, shows when every Halt is
+//! replaced by a jump to itself. What becomes of lent buffers past items and used slots can't be asked, and is left open.
+use crate::cases::{self, list, told};
 use crate::draw::next;
-use crate::Made;
 use original::context::ChainContext;
 use original::kinds::op;
 use original::numbers::context_number;
 use original::vm::{Vm, VmError};
-use std::collections::{BTreeMap, HashSet};
+use std::collections::HashSet;
 
 type Operation = (u8, u64);
 
@@ -27,7 +26,7 @@ const CALLER: u8 = 13;
 const JUMP_IF_ZERO: u8 = 14;
 const HALT: u8 = 15;
 
-/// Document 01's number of a refusal and what it carries. The original has one name for 43 and 50: 43 is its verifier's.
+/// Document 01's number of a refusal, and the values that it carries. The original has one name for 43 and 50: 43 is its verifier's.
 fn refusal(e: &VmError, verifier: bool) -> Vec<u64> {
     match e {
         VmError::Context(e) => vec![context_number(e)],
@@ -42,23 +41,6 @@ fn refusal(e: &VmError, verifier: bool) -> Vec<u64> {
         VmError::StorageLimitExceeded { requested, .. } => vec![50, *requested as u64],
         VmError::InvalidJump(_) => unreachable!(),
     }
-}
-
-fn plain(numbers: &[u64]) -> String {
-    numbers.iter().map(u64::to_string).collect::<Vec<_>>().join(" ")
-}
-
-fn list(numbers: &[u64]) -> String {
-    let mut parts = Vec::new();
-    let mut rest = numbers;
-    while let Some(&v) = rest.first() {
-        let times = rest.iter().take_while(|x| **x == v).count();
-        let repeated = format!("{times}*{v}");
-        let written = plain(&rest[..times]);
-        parts.push(if repeated.len() < written.len() { repeated } else { written });
-        rest = &rest[times..];
-    }
-    parts.join(" ")
 }
 
 /// What a run or a transition is given. The lent storage is `slots`, of which `used` are the state.
@@ -77,34 +59,22 @@ fn case(program: &[Operation], limit: u64) -> Case {
 
 type Texts = [String; 8];
 
-#[derive(Default)]
-struct Cases {
-    lines: String,
-    seen: HashSet<String>,
-    calls: BTreeMap<char, usize>,
-    numbers: BTreeMap<(char, u64), usize>,
+struct Cases<'a> {
+    all: &'a mut cases::Cases,
+    seen: HashSet<(char, Vec<String>)>,
 }
 
-impl Cases {
-    fn line(&mut self, call: char, number: u64, line: String) {
-        if self.seen.insert(line.clone()) {
-            *self.calls.entry(call).or_default() += 1;
-            *self.numbers.entry((call, number)).or_default() += 1;
-            self.lines += &line;
-            self.lines += "\n";
+impl Cases<'_> {
+    fn new(&mut self, call: char, arguments: &[String], answer: &str) {
+        if self.seen.insert((call, arguments.to_vec())) {
+            self.all.add('o', call, arguments, answer);
         }
-    }
-
-    fn program(program: &[Operation]) -> String {
-        let kinds: Vec<u64> = program.iter().map(|o| o.0.into()).collect();
-        let operands: Vec<u64> = program.iter().map(|o| o.1).collect();
-        format!("{}/{}", list(&kinds), list(&operands))
     }
 
     fn verify(&mut self, program: &[Operation], used: usize) {
         let vm = Vm::with_context(program.iter().map(op).collect(), 0, vec![0; used]);
         let answer = vm.verify().map_or_else(|e| refusal(&e, true), |()| vec![0]);
-        self.line('v', answer[0], format!("ov//0 0 {used} 0 0/{}//{}", Self::program(program), plain(&answer)));
+        self.new('C', &[&lists(program)[..], &[used.to_string()]].concat(), &told(answer[0], &answer[1..]));
     }
 
     /// The call's result, whether the verifier refuses, and the state after it.
@@ -119,9 +89,9 @@ impl Cases {
             vm_version: texts[4].clone(),
         };
         let answer = match call {
-            'r' => vm.run_with_gas(limit),
-            'g' => vm.execute_state_transition_with_gas(&context, &texts[5], &texts[6], &texts[7], limit),
-            's' => vm.execute_state_transition(&context, &texts[5], &texts[6], &texts[7]),
+            'R' => vm.run_with_gas(limit),
+            'T' => vm.execute_state_transition_with_gas(&context, &texts[5], &texts[6], &texts[7], limit),
+            'S' => vm.execute_state_transition(&context, &texts[5], &texts[6], &texts[7]),
             _ => unreachable!(),
         };
         let state = vm.state().to_vec();
@@ -130,7 +100,7 @@ impl Cases {
 
     /// The least limit under which the run succeeds, given one under which it does.
     fn gas_spent(call: char, texts: &Texts, c: &Case) -> u64 {
-        if call == 's' {
+        if call == 'S' {
             return 0;
         }
         let (mut low, mut high) = (0, c.limit);
@@ -145,25 +115,40 @@ impl Cases {
         low
     }
 
+    /// Every limit below the gas spent ends at one operation more, or at the same.
+    fn operations(call: char, texts: &Texts, c: &Case, spent: u64) -> u64 {
+        let before = |limit| match Self::ask(call, texts, c, limit).0 {
+            Err(VmError::OutOfGas { remaining, .. }) => limit - remaining,
+            other => panic!("{other:?}"),
+        };
+        let priced = (0..spent).map(before).collect::<HashSet<_>>().len() as u64;
+        let endless = |(i, o): (usize, &Operation)| if o.0 == HALT { (JUMP, i as u64) } else { *o };
+        let endless = Case { program: c.program.iter().enumerate().map(endless).collect(), ..c.clone() };
+        priced + u64::from(Self::ask('R', texts, &endless, spent + 1).0.is_err())
+    }
+
     fn add(&mut self, call: char, texts: &Texts, c: &Case) {
         let (answer, verifier, state) = Self::ask(call, texts, c, c.limit);
         let (numbers, items) = match &answer {
-            Ok(stack) => (vec![0, Self::gas_spent(call, texts, c), stack.len() as u64, state.len() as u64], &stack[..]),
+            Ok(stack) => {
+                let spent = Self::gas_spent(call, texts, c);
+                let operations = Self::operations(call, texts, c, spent);
+                (vec![0, spent, operations, stack.len() as u64, state.len() as u64], &stack[..])
+            }
             Err(e) => (refusal(e, verifier), &[][..]),
         };
         assert!(answer.is_ok() || state == c.slots[..c.used]);
         assert!(state.len() <= c.slots.len(), "51 is document 01's own");
-        let joined = if call == 'r' { String::new() } else { texts.join(",") };
-        assert_eq!(joined.split(',').count(), if call == 'r' { 1 } else { 8 });
-        assert!(!joined.contains(['/', '\n']));
-        let given = format!("{} {} {} 4096 {}", c.caller, c.limit, c.used, c.slots.len());
-        let (program, slots) = (Self::program(&c.program), list(&c.slots));
-        let line = format!("o{call}/{joined}/{given}/{program}/{slots}/{}/{}/{}", plain(&numbers), list(items), list(&state));
-        self.line(call, numbers[0], line);
+        let given = [c.used as u64, c.caller, c.limit, 4096, c.slots.len() as u64].map(|n| n.to_string());
+        let mut arguments = [&lists(&c.program)[..], &given, &[list(&c.slots)]].concat();
+        if call != 'R' {
+            arguments.push(cases::texts(texts));
+        }
+        self.new(call, &arguments, &format!("{} | {} | {}", told(numbers[0], &numbers[1..]), list(items), list(&state)));
     }
 
     fn run(&mut self, c: &Case) {
-        self.add('r', &Texts::default(), c);
+        self.add('R', &Texts::default(), c);
     }
 
     fn plain(&mut self, program: &[Operation], limit: u64) {
@@ -172,7 +157,7 @@ impl Cases {
 
     /// Under every limit from 0 to one more than it needs, or to the last limit given.
     fn every_limit(&mut self, c: &Case) {
-        let out_of_gas = |limit| matches!(Self::ask('r', &Texts::default(), c, limit).0, Err(VmError::OutOfGas { .. }));
+        let out_of_gas = |limit| matches!(Self::ask('R', &Texts::default(), c, limit).0, Err(VmError::OutOfGas { .. }));
         let mut limit = 0;
         while limit < c.limit && out_of_gas(limit) {
             self.run(&Case { limit, ..c.clone() });
@@ -472,19 +457,19 @@ fn transitions(c: &mut Cases, d: &mut Draw) {
     for (i, texts) in contexts().into_iter().enumerate() {
         for program in &programs[if i < GOOD { 0..6 } else { 2..4 }] {
             let one = Case { used: 2, slots: slots.clone(), ..case(program, 20) };
-            c.add('g', &texts, &one);
-            c.add('s', &texts, &Case { limit: 0, ..one });
+            c.add('T', &texts, &one);
+            c.add('S', &texts, &Case { limit: 0, ..one });
         }
     }
     let good = &contexts()[0];
     for kind in 0..16 {
         for limit in 0..4 {
-            c.add('g', good, &case(&[(kind, 0)], limit));
+            c.add('T', good, &case(&[(kind, 0)], limit));
         }
-        c.add('s', good, &case(&[(kind, 0)], 0));
-        c.add('s', good, &case(&[(HALT, 0), (kind, 0)], 0));
+        c.add('S', good, &case(&[(kind, 0)], 0));
+        c.add('S', good, &case(&[(HALT, 0), (kind, 0)], 0));
     }
-    for call in ['g', 's'] {
+    for call in ['T', 'S'] {
         for size in [65_536, 65_537] {
             c.add(call, good, &case(&vec![(HALT, 0); size], 0));
         }
@@ -492,22 +477,27 @@ fn transitions(c: &mut Cases, d: &mut Draw) {
             c.add(call, good, &Case { used, slots: vec![8; used], ..case(&[(HALT, 0)], 0) });
         }
     }
-    c.add('g', good, &case(&[(CALLER, 0), (JUMP, 0)], 12_289));
-    c.add('g', good, &case(&[(PUSH, 1), (STORE, 0), (PUSH, 1), (PUSH, 0), (DIV, 0)], 9));
-    c.add('g', good, &case(&[(PUSH, 1), (STORE, 0), (PUSH, 1), (STORE, u64::MAX)], 9));
+    c.add('T', good, &case(&[(CALLER, 0), (JUMP, 0)], 12_289));
+    c.add('T', good, &case(&[(PUSH, 1), (STORE, 0), (PUSH, 1), (PUSH, 0), (DIV, 0)], 9));
+    c.add('T', good, &case(&[(PUSH, 1), (STORE, 0), (PUSH, 1), (STORE, u64::MAX)], 9));
     for _ in 0..150 {
         let one = d.case();
-        c.add('g', good, &one);
+        c.add('T', good, &one);
     }
     for _ in 0..50 {
         let one = Case { limit: 0, ..d.case() };
-        c.add('s', good, &one);
+        c.add('S', good, &one);
     }
 }
 
-pub fn make(document: &str) -> Made {
-    let document = std::fs::read_to_string(document).unwrap();
-    let (mut c, mut d) = (Cases::default(), Draw(88_172_645_463_325_252));
+/// The kinds and the operands.
+fn lists(program: &[Operation]) -> [String; 2] {
+    let (kinds, operands): (Vec<u64>, Vec<u64>) = program.iter().map(|o| (u64::from(o.0), o.1)).unzip();
+    [list(&kinds), list(&operands)]
+}
+
+pub fn make(all: &mut cases::Cases) {
+    let (mut c, mut d) = (Cases { all, seen: HashSet::new() }, Draw(88_172_645_463_325_252));
     verifications(&mut c, &mut d);
     kinds(&mut c);
     arithmetic(&mut c);
@@ -516,19 +506,4 @@ pub fn make(document: &str) -> Made {
     stack_limit(&mut c);
     drawn(&mut c, &mut d);
     transitions(&mut c, &mut d);
-    let mut counts = String::new();
-    let names = [('v', "verify"), ('r', "run_with_gas"), ('g', "execute_state_transition_with_gas"), ('s', "execute_state_transition")];
-    for (call, name) in names {
-        let added = document.lines().filter(|l| l.starts_with(&format!("d{call}"))).count();
-        counts += &format!("{name}: {} of the original, {added} of document 01\n", c.calls[&call]);
-    }
-    let wrong = document.lines().filter(|l| l.starts_with('w')).count();
-    counts += &format!("{wrong} of {wrong} wrong on purpose differ\n0 differ\n");
-    let text = format!("# Answers of the original.\n{}{document}", c.lines);
-    print!("{counts}");
-    for ((call, number), n) in &c.numbers {
-        println!("{call} {number}: {n}");
-    }
-    println!("{} bytes of the original's, {} of document 01's", c.lines.len(), document.len());
-    (text.into(), counts.into())
 }

@@ -11,10 +11,10 @@ use Rattle.replay.proofs.hex.decode.Statement.{statement}
 use Rattle.replay.proofs.hex.decode.Tie as tie
 
 abbrev Inv-loop : tie.InvT-loop
-Inv-loop s at out₀ n₀ i₀ out n i = (n ≤ length out) × (length out ≡ length out₀)
+Inv-loop s out₀ n₀ i₀ out n i = (n ≤ length out) × (length out ≡ length out₀)
 
 abbrev μ-loop : tie.MeasureT-loop
-μ-loop s at out₀ n₀ i₀ out n i = length out - n
+μ-loop s out₀ n₀ i₀ out n i = length out - n
 
 loop-holds : tie.Need-loop-holds Inv-loop μ-loop
 loop-holds c = search needs

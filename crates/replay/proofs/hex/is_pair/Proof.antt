@@ -6,8 +6,6 @@ use Rattle.replay.proofs.hex.is_pair.Statement.{statement}
 use Rattle.replay.proofs.hex.is_pair.Tie as tie
 use Rattle.replay.proofs.hex.is_pair.Reads as reads
 use Rattle.replay.proofs.hex.is_pair.Lts as lts
-use Rattle.base.proofs.both.Reads as both-reads
-use Rattle.replay.proofs.hex.is_digit.Reads as is-digit-reads
 
 returns : tie.Need-returns
 returns c = λ e. never e
