@@ -8,7 +8,7 @@ use native.Mathlib.Omega.{arith}
 use lib.Dec.{eqb, ltb}
 use lib.ListN.{length, getD, take, drop, length-drop, drop-of-length-le}
 use lib.Seq.{drop-drop, getD-drop}
-use Rattle.base.specs.Code.Cursor.{visited, Cuts}
+use Rattle.base.specs.Code.Cursor.{visited, IsVisit}
 use Rattle.base.proofs.Cursor as cursor
 use Rattle.base.proofs.Tests.{choice, by-eqb, by-leb}
 use Rattle.search.specs.declared.Found.the-variants.{At, Nothing}
@@ -17,7 +17,7 @@ use Rattle.search.proofs.Prefix.{other}
 use Rattle.search.proofs.Laws.{from-miss, within}
 use Rattle.lines.specs.Lines.{front, feedNext, lines, feedFree}
 use Rattle.lines.specs.Cursor.{span, firstLine, lineFrom, lineAt}
-use Rattle.lines.specs.Code.Visits.{feedFrom, placeOr, headOf, visitOf, visit, IsLine}
+use Rattle.lines.specs.Code.Visits.{feedFrom, placeOr, headOf, visitOfLine, visitLine, IsLine}
 use Rattle.lines.specs.declared.Line.{Line}
 use Rattle.lines.specs.declared.Step.{Step}
 use Rattle.lines.specs.declared.Step.the-variants.{Next, Done}
@@ -274,12 +274,12 @@ module _ (s : List ℕ) (at : ℕ) where
       some p = let z : _≡_ {A = ℕ} 0 1 = cc in omega arith
 
 -- a cursor visits the lines in order
-cuts : (s : List ℕ) (at : ℕ) → Cuts (λ i. lines (drop i s)) at (visit s at)
-cuts s at = go (lineAt s at) refl
+is-visit : (s : List ℕ) (at : ℕ) → IsVisit (λ i. lines (drop i s)) at (visitLine s at)
+is-visit s at = go (lineAt s at) refl
   where
-    go : (x : Step) → lineAt s at ≡ x → Cuts (λ i. lines (drop i s)) at (visitOf s x)
+    go : (x : Step) → lineAt s at ≡ x → IsVisit (λ i. lines (drop i s)) at (visitOfLine s x)
     go (Next l) e = let i = step-line s at l e in (i .on, rw (i .starts) (i .is))
     go Done e = step-done s at e
 
-pub in-order : (s : List ℕ) → visited (visit s) (length s) 0 ≡ lines s
-in-order s = cursor.in-order (visit s) (λ i. lines (drop i s)) (length s) (cuts s) (λ at h. ap lines (drop-of-length-le s {i = at} h))
+pub in-order : (s : List ℕ) → visited (visitLine s) (length s) 0 ≡ lines s
+in-order s = cursor.in-order (visitLine s) (λ i. lines (drop i s)) (length s) (is-visit s) (λ at h. ap lines (drop-of-length-le s {i = at} h))

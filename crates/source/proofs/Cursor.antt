@@ -4,11 +4,11 @@ use mathlib.Core.Path.{_≡_, refl, sym, ap, _∙_}
 use mathlib.Core.List.{List, [], _∷_}
 use native.Mathlib.Omega.{arith}
 use lib.ListN.{length, take, drop}
-use Rattle.base.specs.Code.Cursor.{visited, Cuts}
+use Rattle.base.specs.Code.Cursor.{visited, IsVisit}
 use Rattle.base.proofs.Tests.{by-leb}
 use Rattle.base.proofs.Cursor as cursor
 use Rattle.source.specs.Parameters.{pieces, name, unlessEmpty, parameters}
-use Rattle.source.specs.Code.Cursor.{placed, parameterAt, visitOf, visit, IsParameter}
+use Rattle.source.specs.Code.Cursor.{placed, parameterAt, visitOfParameter, visitParameter, IsParameter}
 use Rattle.source.specs.declared.parameters.Parameter.{Parameter}
 use Rattle.source.specs.declared.parameters.NextParameter.{NextParameter}
 use Rattle.source.specs.declared.parameters.NextParameter.the-variants.{Is, Done}
@@ -76,12 +76,12 @@ pub next-done : (s : List ℕ) (at : ℕ) → parameterAt s at ≡ Done → para
 next-done s at e = answered s at Done e
 
 -- a cursor visits the parameters in order
-cuts : (s : List ℕ) (at : ℕ) → Cuts (λ i. parameters (drop i s)) at (visit s at)
-cuts s at = go (parameterAt s at) (says (length s) s at (omega arith))
+is-visit : (s : List ℕ) (at : ℕ) → IsVisit (λ i. parameters (drop i s)) at (visitParameter s at)
+is-visit s at = go (parameterAt s at) (says (length s) s at (omega arith))
   where
-    go : (r : NextParameter) → Says s at r → Cuts (λ i. parameters (drop i s)) at (visitOf s r)
+    go : (r : NextParameter) → Says s at r → IsVisit (λ i. parameters (drop i s)) at (visitOfParameter s r)
     go (Is p) a = (a .on, a .is)
     go Done a = a
 
-pub in-order : (s : List ℕ) → visited (visit s) (length s) 0 ≡ parameters s
-in-order s = cursor.in-order (visit s) (λ i. parameters (drop i s)) (length s) (cuts s) (none-past s)
+pub in-order : (s : List ℕ) → visited (visitParameter s) (length s) 0 ≡ parameters s
+in-order s = cursor.in-order (visitParameter s) (λ i. parameters (drop i s)) (length s) (is-visit s) (none-past s)

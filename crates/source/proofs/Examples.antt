@@ -10,7 +10,7 @@ use Rattle.source.specs.declared.vector.KeyValue.the-variants as Key
 use Rattle.source.specs.declared.vector.KeyValue.the-variants.{Is}
 use Rattle.source.specs.Function.{functionOf}
 use Rattle.source.specs.Parameters.{parameters}
-use Rattle.source.specs.Code.Cursor.{parameterAt, visit}
+use Rattle.source.specs.Code.Cursor.{parameterAt, visitParameter}
 use Rattle.source.specs.declared.parameters.NextParameter.the-variants as NextParameter
 use Rattle.source.specs.Vector.{vectorNumber}
 
@@ -70,7 +70,7 @@ second = refl
 third : parameterAt listed 15 ≡ NextParameter.Done
 third = refl
 
-visited-all : visited (visit listed) 3 0 ≡ parameters listed
+visited-all : visited (visitParameter listed) 3 0 ≡ parameters listed
 unfolding visited
 visited-all = refl
 

@@ -3,7 +3,7 @@ use Prim.Native.Nat.{ℕ, _-_, _<_, _≤_}
 use mathlib.Core.Path.{_≡_}
 use mathlib.Core.List.{List, [], _∷_}
 use lib.ListN.{length, getD, take, drop}
-use Rattle.base.specs.Code.Cursor.{Visit, piece, done}
+use Rattle.base.specs.Code.Cursor.{Visit, piece, noPiece}
 use Rattle.search.specs.declared.Found.{Found}
 use Rattle.search.specs.declared.Found.the-variants.{At, Nothing}
 use Rattle.search.specs.First.{firstAt}
@@ -26,12 +26,12 @@ abbrev pub headOf : List (List ℕ) → List ℕ
 headOf ls = getD ls 0 []
 
 -- what a cursor visits at a place: the line there, and then the next place
-abbrev pub visitOf : List ℕ → Step → Visit (List ℕ)
-visitOf s (Next l) = piece (take (l .end - l .start) (drop (l .start) s)) (l .next)
-visitOf s Done = done
+abbrev pub visitOfLine : List ℕ → Step → Visit (List ℕ)
+visitOfLine s (Next l) = piece (take (l .end - l .start) (drop (l .start) s)) (l .next)
+visitOfLine s Done = noPiece
 
-abbrev pub visit : List ℕ → ℕ → Visit (List ℕ)
-visit s at = visitOf s (lineAt s at)
+abbrev pub visitLine : List ℕ → ℕ → Visit (List ℕ)
+visitLine s at = visitOfLine s (lineAt s at)
 
 -- the line at a place lies within the text, and the lines from that place on are it and the lines from the next place on
 pub record IsLine (s : List ℕ) (at : ℕ) (l : Line) : Type 0 where

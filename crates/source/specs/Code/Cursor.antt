@@ -3,7 +3,7 @@ use Prim.Native.Nat.{ℕ, _+_, _-_, _<_, _≤_}
 use mathlib.Core.Path.{_≡_}
 use mathlib.Core.List.{List, [], _∷_}
 use lib.ListN.{length, take, drop}
-use Rattle.base.specs.Code.Cursor.{Visit, piece, done}
+use Rattle.base.specs.Code.Cursor.{Visit, piece, noPiece}
 use Rattle.trim.specs.Trim.{trimmed, passed}
 use Rattle.source.specs.Parameters.{before, pieces, name, parameters}
 use Rattle.source.specs.declared.parameters.Span.{Span}
@@ -41,12 +41,12 @@ abbrev pub parameterAt : List ℕ → ℕ → NextParameter
 parameterAt s at = firstKept at (pieces (drop at s))
 
 -- what a cursor visits at a place: the next parameter, and then the place behind it
-abbrev pub visitOf : List ℕ → NextParameter → Visit (List ℕ)
-visitOf s (Is p) = piece (take (p .end - p .start) (drop (p .start) s)) (p .next)
-visitOf s Done = done
+abbrev pub visitOfParameter : List ℕ → NextParameter → Visit (List ℕ)
+visitOfParameter s (Is p) = piece (take (p .end - p .start) (drop (p .start) s)) (p .next)
+visitOfParameter s Done = noPiece
 
-abbrev pub visit : List ℕ → ℕ → Visit (List ℕ)
-visit s at = visitOf s (parameterAt s at)
+abbrev pub visitParameter : List ℕ → ℕ → Visit (List ℕ)
+visitParameter s at = visitOfParameter s (parameterAt s at)
 
 -- the parameter at a place lies within the text, and the parameters from that place on are it and those from the next place on
 pub record IsParameter (s : List ℕ) (at : ℕ) (p : Parameter) : Type 0 where
