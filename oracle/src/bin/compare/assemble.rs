@@ -321,7 +321,9 @@ impl Comparison {
             let (contract, keys) = drawn_contract(d);
             let found = assemble_text(contract.as_bytes(), format!("{{{keys}\"expected\":0}}").as_bytes(), b"t");
             let value = match found {
-                Assembled::Refused { message, .. } if message_number(&message) == 24 && !d.one_in(20) => message.split(' ').nth(3).unwrap().to_string(),
+                Assembled::Refused { message, .. } if message_number(&message) == 24 && !d.one_in(20) => {
+                    message.split(' ').nth(3).unwrap().to_string()
+                }
                 _ => d.of(&["0", "1", "18446744073709551615", "18446744073709551616", "x", ""]).to_string(),
             };
             let expected = format!("\"expected\":{}{value}", d.of(&["", "", " ", "\t\n", "\u{2003}", "\u{B}"]));

@@ -4,8 +4,6 @@ use Rattle.base.proofs.Tests.{never}
 use borrow.Author.Needs.{needs}
 use Rattle.replay.proofs.hex.is_pair.Statement.{statement}
 use Rattle.replay.proofs.hex.is_pair.Tie as tie
-use Rattle.replay.proofs.hex.is_pair.Reads as reads
-use Rattle.replay.proofs.hex.is_pair.Lts as lts
 
 returns : tie.Need-returns
 returns c = λ e. never e

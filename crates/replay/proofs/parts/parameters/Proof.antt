@@ -1,4 +1,5 @@
 -- `replay::parts::parameters` is safe and ends: each name lies within the text, and the next one is sought behind it.
+-- Assumes nothing.
 use Prim.Native.Nat.{_-_}
 use mathlib.Core.Path.{sym, _∙_}
 use native.Mathlib.Omega.{arith}
