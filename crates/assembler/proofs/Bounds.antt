@@ -11,7 +11,8 @@ use Rattle.base.proofs.Tests.{by-bool}
 use Rattle.decimal.proofs.Laws.{length-word}
 use Rattle.expression.specs.Tree.{Tree}
 use Rattle.contract.specs.Assembled.{assembledTree}
-use Rattle.numbered.specs.Outcome.{Outcome, is, refused}
+use Rattle.numbered.specs.declared.Numbered.{Numbered}
+use Rattle.base.specs.Outcome.{Outcome, is, refused}
 use Rattle.contract.specs.Output.{Answer, success, refusal, stemFits, output, named, assembled}
 use Rattle.contract.proofs.Words.{words-short}
 use Rattle.contract.proofs.Accepted.{accepted-is, rejected-is, expected-word}
@@ -30,7 +31,7 @@ module _ (contract vector stem : List ℕ) where
       omega (arith, output-length stem v t, header-length stem v, words-short t (a .fits .0), a .fits .1, length-word v (expected-word a), stem-short stem f)
 
   module _ (room : ℕ) where
-    named-refuses : (x : Outcome (ℕ × Tree)) → assembledTree contract vector ≡ x → Refuses 26 (named x stem room .answer)
+    named-refuses : (x : Outcome Numbered (ℕ × Tree)) → assembledTree contract vector ≡ x → Refuses 26 (named x stem room .answer)
     named-refuses (refused r) e = let h = rejected-is vector r contract e in (h .0, omega (arith, h .1))
     named-refuses (is (v, t)) e =
         by-bool (stemFits stem)
@@ -41,7 +42,7 @@ module _ (contract vector stem : List ℕ) where
     unfolding assembled
     refuses = named-refuses (assembledTree contract vector) refl
 
-    roomy-refuses : 983440 ≤ room → (x : Outcome (ℕ × Tree)) → assembledTree contract vector ≡ x → Refuses 25 (named x stem room .answer)
+    roomy-refuses : 983440 ≤ room → (x : Outcome Numbered (ℕ × Tree)) → assembledTree contract vector ≡ x → Refuses 25 (named x stem room .answer)
     roomy-refuses h (refused r) e = let g = rejected-is vector r contract e in (g .0, omega (arith, g .1))
     roomy-refuses h (is (v, t)) e =
         by-bool (stemFits stem)

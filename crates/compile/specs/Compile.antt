@@ -4,7 +4,8 @@ use mathlib.Core.Path.{_≡_}
 use mathlib.Core.List.{List}
 use lib.ListN.{length}
 use Rattle.kinds.specs.Kinds.{Operation}
-use Rattle.ops.specs.Ops.{Reading, ops, refused, kindsOf, operandsOf, onto}
+use Rattle.base.specs.Outcome.{is, refused}
+use Rattle.ops.specs.Ops.{Reading, kindsOf, operandsOf, onto}
 use Rattle.perform.specs.Run as Run
 use Rattle.contract.specs.Output as Output
 use Rattle.contract.specs.Output.{success, refusal}
@@ -65,7 +66,7 @@ ranIn x b =
 -- after a reading, assembly's success being n, k, p and v
 abbrev pub thenRun : Compilation → (n k p v : ℕ) → Reading → Result
 thenRun x n k p v (refused e) = record { answer = notRead e; left = assembledIn x }
-thenRun x n k p v (ops os) = record { answer = ran n k p v (length os) (runOn x (readIn x os) .answer); left = ranIn x (readIn x os) }
+thenRun x n k p v (is os) = record { answer = ran n k p v (length os) (runOn x (readIn x os) .answer); left = ranIn x (readIn x os) }
 
 -- after an assembly
 abbrev pub thenRead : Compilation → Output.Answer → Result

@@ -7,13 +7,13 @@ use mathlib.Core.Bool.{true}
 use lib.Dec.{leb}
 use lib.ListN.{length}
 use Rattle.base.proofs.Tests.{by-bool}
-use Rattle.ops.specs.Ops.{Reading, ops, readText, answerOf, opsOf, kindsOf, operandsOf, onto}
+use Rattle.ops.specs.Ops.{Reading, readText, answerOf, opsOf, kindsOf, operandsOf, onto}
 use Rattle.ops.specs.Numbers.{parsedOpsNumbered}
 use Rattle.checks.specs.Verify.{buffersFit}
 use Rattle.expression.specs.Tree.{Tree, kOf, pOf}
 use Rattle.numbered.specs.declared.Numbered.{Numbered}
 use Rattle.numbered.specs.Numbered.{plain, carrying}
-use Rattle.numbered.specs.Outcome.{Outcome, is, refused}
+use Rattle.base.specs.Outcome.{Outcome, is, refused}
 use Rattle.contract.specs.Assembled.{assembledTree}
 use Rattle.contract.specs.Output.{stemFits, operationsOf, output, success, refusal, named, assembled}
 use Rattle.correctness.specs.Call.{Compilation, readingOf}
@@ -24,7 +24,7 @@ use Rattle.correctness.proofs.Reading.{reads-output, onto-full}
 use Rattle.correctness.proofs.Transition.{kinds-length, operands-length, transition}
 
 -- what a success of assembly says of its answer and its text
-record Written (stem : List ℕ) (x : Outcome (ℕ × Tree)) (text : List ℕ) (k p v : ℕ) : Type 0 where
+record Written (stem : List ℕ) (x : Outcome Numbered (ℕ × Tree)) (text : List ℕ) (k p v : ℕ) : Type 0 where
   pub tree : Tree
   pub assembles : x ≡ is (v, tree)
   pub k-counts : k ≡ kOf tree
@@ -36,7 +36,7 @@ module _ (stem : List ℕ) (room n k p v : ℕ) where
   not-success : {A : Type 0} (r : Numbered) → refusal r ≡ success n k p v → A
   not-success r e = absurd (let z : _≡_ {A = ℕ} 0 1 = cc in omega arith)
 
-  named-is : (x : Outcome (ℕ × Tree)) → named x stem room .answer ≡ success n k p v → Written stem x (named x stem room .text) k p v
+  named-is : (x : Outcome Numbered (ℕ × Tree)) → named x stem room .answer ≡ success n k p v → Written stem x (named x stem room .text) k p v
   named-is (refused r) e = not-success r e
   named-is (is (expected, t)) e =
       by-bool (stemFits stem)
@@ -61,7 +61,7 @@ compile-statement x n k p v a =
     let vs-room = a .operandsRoom in
     let ks-length = kinds-length t in
     let vs-length = operands-length t in
-    let reading : readingOf x ≡ ops (operationsOf t) =
+    let reading : readingOf x ≡ is (operationsOf t) =
     ap (λ (text : List ℕ). readText text (min (length kinds) (length operands))) (d .text-is) ∙ reads-output (x .stem) v t (d .stem-fits) (acc .fits .0) (min (length kinds) (length operands)) (omega arith) in
     let ks-full : onto (kindsOf (opsOf (readingOf x))) kinds ≡ kindsOf (operationsOf t) =
     ap (λ (r : Reading). onto (kindsOf (opsOf r)) kinds) reading ∙ onto-full (kindsOf (operationsOf t)) kinds (omega arith) in
