@@ -11,8 +11,9 @@ use Rattle.base.proofs.Tests.{by-bool}
 use Rattle.decimal.proofs.Laws.{length-word}
 use Rattle.expression.specs.Tree.{Tree}
 use Rattle.contract.specs.Assembled.{assembledTree}
-use Rattle.numbered.specs.Outcome.{is}
 use Rattle.contract.specs.Output.{Assembly, stemFits, output, assembled}
+use Rattle.numbered.specs.declared.Numbered.{Numbered}
+use Rattle.base.specs.Outcome.{Outcome, is, refused}
 use Rattle.contract.proofs.Words.{words-short}
 use Rattle.contract.proofs.Accepted.{accepted-is, expected-word}
 use Rattle.contract.proofs.Answers.{by-answer}

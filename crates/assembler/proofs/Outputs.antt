@@ -32,7 +32,8 @@ use Rattle.contract.specs.declared.refusal.Refusal.{Refusal}
 use Rattle.contract.specs.declared.refusal.Refusal.the-variants.{BadStem, OutputTooLong}
 use Rattle.contract.specs.Part.{part}
 use Rattle.contract.specs.Assembled.{assembledTree}
-use Rattle.numbered.specs.Outcome.{Outcome, is}
+use Rattle.numbered.specs.declared.Numbered.{Numbered}
+use Rattle.base.specs.Outcome.{Outcome, is}
 use Rattle.contract.specs.Code.Held.{LastIs, ReturnIs}
 use Rattle.contract.specs.Code.Concluded.{Accepts, ConcludesBy, Concludes}
 use Rattle.contract.specs.Output.{stemFits, header, output, named, assembled}
@@ -71,10 +72,10 @@ pub output-length : (stem : List ℕ) (e : ℕ) (t : Tree) → length (output st
 output-length stem e t = omega (arith, ap length (output-text stem e t), length-append (header stem e ++ textOf t) haltLine, length-append (header stem e) (textOf t), text-length t)
 
 -- what is concluded of the contract, by the status
-pub is-going : {s vector : List ℕ} {o : Outcome (ℕ × Tree)} {a : Code.Assembly} → Concludes s vector o a → a .state .status ≡ Going → Accepts s vector o a
+pub is-going : {s vector : List ℕ} {o : Outcome Numbered (ℕ × Tree)} {a : Code.Assembly} → Concludes s vector o a → a .state .status ≡ Going → Accepts s vector o a
 is-going {s} {vector} {o} {a} c e = subst (λ (x : Status). ConcludesBy x s vector o a) e (c .by)
 
-pub is-refused : {s vector : List ℕ} {o : Outcome (ℕ × Tree)} {a : Code.Assembly} {why : Refusal} → Concludes s vector o a → a .state .status ≡ Status.Refused why → (stem out : List ℕ) → Assembles (named o stem (length out)) out out (Refused why)
+pub is-refused : {s vector : List ℕ} {o : Outcome Numbered (ℕ × Tree)} {a : Code.Assembly} {why : Refusal} → Concludes s vector o a → a .state .status ≡ Status.Refused why → (stem out : List ℕ) → Assembles (named o stem (length out)) out out (Refused why)
 is-refused {s} {vector} {o} {a} c e stem out =
     let q = subst (λ (x : Status). ConcludesBy x s vector o a) e (c .by) .0 in
     rw q (record { answer = refl; buffer = refl })
@@ -84,17 +85,17 @@ unfolding assembled
 as-assembled contract vector stem x = x
 
 -- the stem does not fit
-pub stem-refused : {s vector : List ℕ} {o : Outcome (ℕ × Tree)} {a : Code.Assembly} (stem out : List ℕ) → Accepts s vector o a → stemFits stem ≡ false → Assembles (named o stem (length out)) out out (Refused BadStem)
+pub stem-refused : {s vector : List ℕ} {o : Outcome Numbered (ℕ × Tree)} {a : Code.Assembly} (stem out : List ℕ) → Accepts s vector o a → stemFits stem ≡ false → Assembles (named o stem (length out)) out out (Refused BadStem)
 stem-refused stem out acc f = rw (acc .accepts) (simp f (record { answer = refl; buffer = refl }))
 
-module _ {s vector : List ℕ} {o : Outcome (ℕ × Tree)} {a : Code.Assembly} (acc : Accepts s vector o a) {last : Last} (q : a .state .last ≡ last) where
+module _ {s vector : List ℕ} {o : Outcome Numbered (ℕ × Tree)} {a : Code.Assembly} (acc : Accepts s vector o a) {last : Last} (q : a .state .last ≡ last) where
   returned-as : LastIs s (a .state .table) (a .state .values) last (some (acc .t))
   returned-as = subst (λ (x : Last). LastIs s (a .state .table) (a .state .values) x (some (acc .t))) q (acc .returned)
 
-pub no-return : {s vector : List ℕ} {o : Outcome (ℕ × Tree)} {a : Code.Assembly} → Accepts s vector o a → a .state .last ≡ Nothing → ⊥
+pub no-return : {s vector : List ℕ} {o : Outcome Numbered (ℕ × Tree)} {a : Code.Assembly} → Accepts s vector o a → a .state .last ≡ Nothing → ⊥
 no-return acc q = returned-as acc q
 
-module _ {s vector : List ℕ} {o : Outcome (ℕ × Tree)} {a : Code.Assembly} (acc : Accepts s vector o a) {l : Returned} (q : a .state .last ≡ Is l) where
+module _ {s vector : List ℕ} {o : Outcome Numbered (ℕ × Tree)} {a : Code.Assembly} (acc : Accepts s vector o a) {l : Returned} (q : a .state .last ≡ Is l) where
   returned : ReturnIs s (a .state .table) (a .state .values) l (acc .t)
   returned = returned-as acc q
 

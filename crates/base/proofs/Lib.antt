@@ -4,3 +4,4 @@ pub mod Skips
 pub mod Cursor
 pub mod Bytes
 pub mod Overwrite
+pub mod Outcome

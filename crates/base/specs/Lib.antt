@@ -2,6 +2,7 @@ pub mod Ascii
 pub mod Equal
 pub mod Need
 pub mod Overwrite
+pub mod Outcome
 pub mod Range
 pub mod Part
 pub mod Texts

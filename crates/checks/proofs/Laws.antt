@@ -10,11 +10,11 @@ use Rattle.kinds.specs.Kinds.{operation}
 use Rattle.kinds.proofs.ByKind.{takes-target}
 use Rattle.checks.specs.declared.Check.{Check}
 use Rattle.checks.specs.declared.Check.the-variants.{Passed}
-use Rattle.checks.specs.Verify.{andThen, targetFits, operationCheck, operationsCheck}
+use Rattle.checks.specs.Verify.{thenCheck, targetFits, operationCheck, operationsCheck}
 
 -- the check at a place of the program, and what is left behind it
 pub check-at : (n i : ℕ) (ks vs : List ℕ) (x : Check) → i < length ks → i < length vs → operationCheck n (operation (getD ks i 0) (getD vs i 0)) ≡ x
-    → operationsCheck n (drop i ks) (drop i vs) ≡ andThen x (operationsCheck n (drop (i + 1) ks) (drop (i + 1) vs))
+    → operationsCheck n (drop i ks) (drop i vs) ≡ thenCheck x (operationsCheck n (drop (i + 1) ks) (drop (i + 1) vs))
 unfolding operationsCheck
 check-at n i ks vs x h k e = rw (next ks i (i + 1) h refl, next vs i (i + 1) k refl, e)
 

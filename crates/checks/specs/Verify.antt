@@ -13,9 +13,9 @@ use Rattle.checks.specs.declared.Check.{Check}
 use Rattle.checks.specs.declared.Check.the-variants.{Passed, Refused}
 
 -- a check, and then another
-abbrev pub andThen : Check → Check → Check
-andThen Passed c = c
-andThen (Refused f) c = Refused f
+abbrev pub thenCheck : Check → Check → Check
+thenCheck Passed c = c
+thenCheck (Refused f) c = Refused f
 
 -- 34, of the lengths of kinds, operands, stack, work and storage and of the used length
 abbrev pub buffersFit : (kinds operands stack work storage used : ℕ) → Bool
@@ -36,7 +36,7 @@ operationCheck n o = need (leb (o .kind) 15) (Refused UnknownKind) (need (target
 unfoldable pub operationsCheck : ℕ → List ℕ → List ℕ → Check
 operationsCheck n [] vs = Passed
 operationsCheck n (k ∷ ks) [] = Passed
-operationsCheck n (k ∷ ks) (v ∷ vs) = andThen (operationCheck n (operation k v)) (operationsCheck n ks vs)
+operationsCheck n (k ∷ ks) (v ∷ vs) = thenCheck (operationCheck n (operation k v)) (operationsCheck n ks vs)
 
 abbrev pub verifyOf : (kinds operands : List ℕ) (used : ℕ) → Check
 verifyOf ks vs used =

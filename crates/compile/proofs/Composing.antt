@@ -9,7 +9,8 @@ use lib.Seq.{take-at}
 use Rattle.numbered.specs.declared.Numbered.{Numbered}
 use Rattle.numbered.specs.Numbered.{carrying}
 use Rattle.base.specs.Overwrite.{overwrite}
-use Rattle.ops.specs.Ops.{Reading, ops, refused, answerOf, opsOf, kindsOf, operandsOf, Parsed}
+use Rattle.ops.specs.Ops.{Reading, answerOf, opsOf, kindsOf, operandsOf, Parsed}
+use Rattle.base.specs.Outcome.{is, refused}
 use Rattle.ops.specs.declared.OpsError.{OpsError}
 use Rattle.ops.specs.declared.ParsedOps.{ParsedOps}
 use Rattle.ops.specs.declared.ParsedOps.the-variants as parsed
@@ -77,12 +78,12 @@ module _ (x : Compilation) where
             record { answer = sym e ∙ u .answer; kinds = u .kindsWritten; operands = u .operandsWritten }
 
         stopped : {e : OpsError} (y : Reading) → Reads y (parsed.Refused e) ks vs → Composes (thenRun x (carrying 0 (n ∷ k ∷ p ∷ v ∷ [])) y) (NotRead e) (buffers o ks vs (x .run .stack) (x .run .work) (x .run .storage))
-        stopped (ops os) r = absurd (let z : _≡_ {A = ℕ} 0 1 = cc (r .answer) in omega arith)
+        stopped (is os) r = absurd (let z : _≡_ {A = ℕ} 0 1 = cc (r .answer) in omega arith)
         stopped (refused e) r = record { answer = cc (r .answer); number = cc (r .answer); out = a .buffer; kinds = r .kinds; operands = r .operands; stack = refl; work = refl; storage = refl }
 
         finished : {s w m : List ℕ} {j : ℕ} {t : Answer} (y : Reading) → Reads y (parsed.Read j) ks vs → Meets (transitionOn x ks vs) (x .run .state) t s w m → Composes (thenRun x (carrying 0 (n ∷ k ∷ p ∷ v ∷ [])) y) (Ran n k p v j t) (buffers o ks vs s w m)
         finished (refused e) r q = absurd (let z : _≡_ {A = ℕ} 0 1 = cc (r .answer) in omega arith)
-        finished {s} {w} {m} {j} {t} (ops os) r q =
+        finished {s} {w} {m} {j} {t} (is os) r q =
             let u = subst (λ (l : List ℕ). Meets (transitionOn x l (overwrite 0 (operandsOf os) (x .run .operands))) (x .run .state) t s w m) (r .kinds) (subst (λ (l : List ℕ). Meets (transitionOn x ks l) (x .run .state) t s w m) (r .operands) q) in
             let j-is : j ≡ length os = cc (r .answer) in
             record {

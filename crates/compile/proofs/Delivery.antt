@@ -6,7 +6,8 @@ use mathlib.Core.List.{[], _∷_}
 use lib.ListN.{length}
 use Rattle.numbered.specs.Numbered.{carrying}
 use Rattle.ops.specs.declared.ParsedOps.the-variants.{Read}
-use Rattle.ops.specs.Ops.{Reading, ops, refused, answerOf, opsOf}
+use Rattle.base.specs.Outcome.{is, refused}
+use Rattle.ops.specs.Ops.{Reading, answerOf, opsOf}
 use Rattle.ops.specs.Numbers.{parsedOpsNumbered}
 use Rattle.perform.specs.declared.Answer.{Answer}
 use Rattle.perform.specs.Numbers.{answerNumbered}
@@ -44,7 +45,7 @@ module _ (x : Compilation) (n k p v : ℕ) where
 
   read-is : (y : Reading) (j : ℕ) → answerOf y ≡ Read j → thenRun x (carrying 0 (n ∷ k ∷ p ∷ v ∷ [])) y ≡ finished j y
   read-is (refused e) j q = absurd (let z : _≡_ {A = ℕ} 0 1 = cc in omega arith)
-  read-is (ops os) j q = let z : length os ≡ j = cc in ap (λ (i : ℕ). finished i (ops os)) z
+  read-is (is os) j q = let z : length os ≡ j = cc in ap (λ (i : ℕ). finished i (is os)) z
 
   finishes : Hypotheses x n k p v → answerOf (readingOf x) ≡ Read (2 * k) → compileOf x ≡ finished (2 * k) (readingOf x)
   unfolding compileOf

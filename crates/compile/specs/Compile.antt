@@ -7,7 +7,8 @@ use Rattle.base.specs.Overwrite.{overwrite}
 use Rattle.base.specs.Need.{need}
 use Rattle.numbered.specs.declared.Numbered.{Numbered}
 use Rattle.kinds.specs.Kinds.{Operation}
-use Rattle.ops.specs.Ops.{Reading, ops, refused, kindsOf, operandsOf}
+use Rattle.ops.specs.Ops.{Reading, kindsOf, operandsOf}
+use Rattle.base.specs.Outcome.{is, refused}
 use Rattle.perform.specs.Run as Run
 use Rattle.correctness.specs.Call.{Compilation, Left, assemblyOf, readingOf, transitionOn}
 use Rattle.compile.specs.declared.Compiled.{Compiled}
@@ -66,7 +67,7 @@ ranIn x b =
 -- after an assembly's answer 0 and a reading
 abbrev pub thenRun : Compilation → Numbered → Reading → Result
 thenRun x a (refused e) = record { answer = notRead e; left = assembledIn x }
-thenRun x a (ops os) = record { answer = ran a (length os) (runOn x (readIn x os) .answer); left = ranIn x (readIn x os) }
+thenRun x a (is os) = record { answer = ran a (length os) (runOn x (readIn x os) .answer); left = ranIn x (readIn x os) }
 
 -- after an assembly's answer
 abbrev pub thenRead : Compilation → Numbered → Result

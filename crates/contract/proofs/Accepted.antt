@@ -12,6 +12,7 @@ use lib.ListN.{length, drop}
 use Rattle.base.specs.Ascii.{ascii}
 use Rattle.base.specs.Need.{need}
 use Rattle.base.proofs.Tests.{by-bool}
+use Rattle.base.proofs.Outcome.{Either, then-either}
 use Rattle.search.specs.declared.Found.{Found}
 use Rattle.search.specs.declared.Found.the-variants.{At, Nothing}
 use Rattle.search.specs.First.{firstAt}
@@ -38,7 +39,7 @@ use Rattle.contract.specs.Part.{part}
 use Rattle.numbered.specs.declared.Numbered.{Numbered}
 use Rattle.numbered.specs.Numbered.{plain}
 use Rattle.contract.specs.State.{State, started, bound, each}
-use Rattle.numbered.specs.Outcome.{Outcome, is, refused, andThen}
+use Rattle.base.specs.Outcome.{Outcome, is, refused, andThen}
 use Rattle.contract.specs.Statement.{Statement, skipped, noEquals, binds, returns, statement}
 use Rattle.contract.specs.Body.{treeOr, performed, lineRead}
 use Rattle.contract.specs.Parameters.{keyed, parameterBound}
@@ -81,9 +82,8 @@ record Sized (st : State) : Type 0 where
 abbrev Ranged : Numbered → Type 0
 Ranged r = (1 ≤ r .number) × (r .number ≤ 24)
 
-abbrev Leaves : Outcome State → Type 0
-Leaves (is st) = Sized st
-Leaves (refused r) = Ranged r
+abbrev Leaves : Outcome Numbered State → Type 0
+Leaves o = Either Ranged Sized o
 
 bound-sized : (st : State) (name : List ℕ) (t : Tree) → Sized st → Words t → Leaves (bound st name t)
 bound-sized st name t h w = go (ltb (length (st .env)) 256)
@@ -92,15 +92,11 @@ bound-sized st name t h w = go (ltb (length (st .env)) 256)
     go true = record { env = (w, h .env); last = h .last }
     go false = (omega arith, omega arith)
 
-then-sized : (o : Outcome State) (f : State → Outcome State) → Leaves o → ((st : State) → Sized st → Leaves (f st)) → Leaves (andThen o f)
-then-sized (is st) f h k = k st h
-then-sized (refused r) f h k = h
-
-each-sized : (one : ℕ → State → List ℕ → Outcome State) → ((n : ℕ) (st : State) (s : List ℕ) → Sized st → Leaves (one n st s))
+each-sized : (one : ℕ → State → List ℕ → Outcome Numbered State) → ((n : ℕ) (st : State) (s : List ℕ) → Sized st → Leaves (one n st s))
     → (n : ℕ) (st : State) (ss : List (List ℕ)) → Sized st → Leaves (each one n st ss)
 unfolding each
 each-sized one h n st [] z = z
-each-sized one h n st (s ∷ rest) z = then-sized (one n st s) _ (h n st s z) (λ next y. each-sized one h (n + 1) next rest y)
+each-sized one h n st (s ∷ rest) z = then-either Ranged Sized (one n st s) _ (h n st s z) (λ next y. each-sized one h (n + 1) next rest y)
 
 key-ranged : (e : KeyError) → Ranged (keyErrorNumbered e)
 key-ranged NoKey = (omega arith, omega arith)
@@ -118,7 +114,7 @@ parameters-sized vector names =
     each-sized (parameterBound vector) (λ place st name. bound-to-sized st name place (vectorNumber vector name) (vector-word vector name)) 1 started names (record { env = tt; last = tt })
 
 -- the lines of the body
-tree-sized : (m : Outcome Tree) (line : ℕ) (follows : Tree → Outcome State) → WrongIn m → ((t : Tree) → m ≡ is t → kOf t ≤ 32768 → Leaves (follows t)) → Leaves (treeOr m line follows)
+tree-sized : (m : Outcome Numbered Tree) (line : ℕ) (follows : Tree → Outcome Numbered State) → WrongIn m → ((t : Tree) → m ≡ is t → kOf t ≤ 32768 → Leaves (follows t)) → Leaves (treeOr m line follows)
 tree-sized (refused r) line follows w h = (omega (arith, w .0), omega (arith, w .1))
 tree-sized (is t) line follows w h = by-bool (leb (kOf t) 32768) (λ e. rw e (h t refl (leb-true (kOf t) 32768 e))) (λ e. rw e (omega arith, omega arith))
 
@@ -130,7 +126,7 @@ performed-sized line st (returns s) h = tree-sized (meaning (st .env) s) line _ 
 
 body-sized : (contract vector : List ℕ) (p : Places) → Leaves (bodyRead contract vector p)
 body-sized contract vector p =
-    then-sized (each (parameterBound vector) 1 started (parameters (part contract (p .«params_start») (p .«params_end»)))) _ (parameters-sized vector (parameters (part contract (p .«params_start») (p .«params_end»)))) (λ st h.
+    then-either Ranged Sized (each (parameterBound vector) 1 started (parameters (part contract (p .«params_start») (p .«params_end»)))) _ (parameters-sized vector (parameters (part contract (p .«params_start») (p .«params_end»)))) (λ st h.
     each-sized lineRead (λ n st s. performed-sized n st (statement (trimmed s))) 1 st (lines (part contract (p .«body_start») (p .«body_end»))) h)
 
 -- what is accepted
@@ -142,9 +138,8 @@ pub record Accepted (vector : List ℕ) (v : ℕ) (t : Tree) : Type 0 where
 pub expected-word : {vector : List ℕ} {v : ℕ} {t : Tree} → Accepted vector v t → v < 2 ^ 64
 expected-word {vector} a = subst WordIs (a .expected) (vector-word vector (ascii "expected"))
 
-abbrev Sound : List ℕ → Outcome (ℕ × Tree) → Type 0
-Sound vector (is (v, t)) = Accepted vector v t
-Sound vector (refused r) = Ranged r
+abbrev Sound : List ℕ → Outcome Numbered (ℕ × Tree) → Type 0
+Sound vector o = Either Ranged (λ r. Accepted vector (r .0) (r .1)) o
 
 module _ (vector : List ℕ) where
   compared-sound : (n : ℕ) (t : Tree) (x : Option ℕ) → Fits t → valueOf t ≡ x → vectorNumber vector (ascii "expected") ≡ Is n → Sound vector (compared n t x)
@@ -158,9 +153,8 @@ module _ (vector : List ℕ) where
   returned-sound n none h q = (omega arith, omega arith)
   returned-sound n (some t) h q = compared-sound n t (valueOf t) h refl q
 
-  concluded-sound : (n : ℕ) (o : Outcome State) → Leaves o → vectorNumber vector (ascii "expected") ≡ Is n → Sound vector (concluded n o)
-  concluded-sound n (refused r) h q = h
-  concluded-sound n (is st) h q = returned-sound n (st .last) (h .last) q
+  concluded-sound : (n : ℕ) (o : Outcome Numbered State) → Leaves o → vectorNumber vector (ascii "expected") ≡ Is n → Sound vector (concluded n o)
+  concluded-sound n o h q = then-either Ranged (λ r. Accepted vector (r .0) (r .1)) o _ h (λ st s. returned-sound n (st .last) (s .last) q)
 
   expected-sound : (contract : List ℕ) (p : Places) (x : KeyValue) → vectorNumber vector (ascii "expected") ≡ x → Sound vector (andThen (keyed x 0) (λ expected. concluded expected (bodyRead contract vector p)))
   expected-sound contract p (Is n) q = concluded-sound n (bodyRead contract vector p) (body-sized contract vector p) q

@@ -9,7 +9,7 @@ use lib.ListN.{length, getD}
 use Rattle.base.proofs.Tests.{by-bool, never}
 use Rattle.numbered.specs.declared.Numbered.{Numbered}
 use Rattle.numbered.specs.Numbered.{plain, carrying}
-use Rattle.numbered.specs.Outcome.{Outcome, is, refused}
+use Rattle.base.specs.Outcome.{Outcome, is, refused}
 use Rattle.source.specs.declared.function.FunctionError.the-variants.{NoFunction, NoParameters, UnclosedParameters, NoBody, UnclosedBody}
 use Rattle.source.specs.declared.vector.KeyError.the-variants.{NoKey, NoColon, NoDigit, TooLarge}
 use Rattle.expression.specs.declared.ExprError.the-variants.{InvalidCharacter, UnexpectedEnd, UnbalancedParenthesis, InvalidLiteral, UnknownIdentifier, TooDeep, UnconsumedTokens}
@@ -77,7 +77,7 @@ module _ (contract vector stem : List ℕ) where
     unfolding assembled
     by-answer P f g = go (assembledTree contract vector) refl
       where
-        go : (x : Outcome (ℕ × Tree)) → assembledTree contract vector ≡ x → P (named x stem room)
+        go : (x : Outcome Numbered (ℕ × Tree)) → assembledTree contract vector ≡ x → P (named x stem room)
         go (refused r) e = let h = rejected-is vector r contract e in f r (h .0) (omega (arith, h .1))
         go (is (v, t)) e = by-bool (stemFits stem) (λ s. rw s (g v t e s)) (λ s. rw s (f (plain 25) (omega arith) (omega arith)))
 

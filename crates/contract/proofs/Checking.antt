@@ -5,7 +5,8 @@ use mathlib.Core.List.{List}
 use native.Mathlib.Omega.{arith}
 use borrow.Author.Tests.{lt-leb}
 use lib.ListN.{take, drop}
-use Rattle.numbered.specs.Outcome.{Outcome, is, refused}
+use Rattle.numbered.specs.declared.Numbered.{Numbered}
+use Rattle.base.specs.Outcome.{Outcome, is, refused}
 use Rattle.base.proofs.Parts.{middle}
 use Rattle.expression.specs.declared.figures.Read.{Read}
 use Rattle.expression.specs.declared.ExprError.{ExprError}
@@ -26,18 +27,18 @@ use Rattle.contract.specs.Code.Held.{Checks, ChecksAll, Within}
 use Rattle.contract.proofs.Holding.{p-at-most}
 
 module _ (line : ℕ) where
-  refused-checks : (e : ExprError) (m : Outcome Tree) → said (Parsed.Refused e) ≡ due m → Checks m line (Refused (Expression e line))
+  refused-checks : (e : ExprError) (m : Outcome Numbered Tree) → said (Parsed.Refused e) ≡ due m → Checks m line (Refused (Expression e line))
   refused-checks e (refused r) q f = cc
   refused-checks e (is t) q f = absurd (let z : _≡_ {A = ℕ} 0 1 = cc in omega arith)
 
-  long-checks : (v : Read) (m : Outcome Tree) → said (Parsed.Done v) ≡ due m → 32768 < v .k → Checks m line (Refused (TooLong line))
+  long-checks : (v : Read) (m : Outcome Numbered Tree) → said (Parsed.Done v) ≡ due m → 32768 < v .k → Checks m line (Refused (TooLong line))
   long-checks v (refused r) q l f = absurd (let z : _≡_ {A = ℕ} 0 1 = cc in omega arith)
   long-checks v (is t) q l f =
       let k : v .k ≡ kOf t = cc in
       let b = lt-leb (kOf t) 32768 (omega arith) in
       rw b
 
-  done-checks : (v : Read) (m : Outcome Tree) → said (Parsed.Done v) ≡ due m → Short m → v .k ≤ 32768 → Checks m line (Is v)
+  done-checks : (v : Read) (m : Outcome Numbered Tree) → said (Parsed.Done v) ≡ due m → Short m → v .k ≤ 32768 → Checks m line (Is v)
   done-checks v (refused r) q h l = absurd (let z : _≡_ {A = ℕ} 0 1 = cc in omega arith)
   done-checks v (is t) q h l =
       let k : v .k ≡ kOf t = cc in

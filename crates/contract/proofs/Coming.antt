@@ -8,13 +8,14 @@ use lib.ListN.{take}
 use Rattle.contract.specs.declared.state.State as Code
 use Rattle.contract.specs.Part.{part}
 use Rattle.contract.specs.State.{State, each}
-use Rattle.numbered.specs.Outcome.{Outcome, andThen}
+use Rattle.numbered.specs.declared.Numbered.{Numbered}
+use Rattle.base.specs.Outcome.{Outcome, andThen}
 use Rattle.contract.specs.Code.Held.{Represents, Good, Leads, Follows, Within, isRefused}
 use Rattle.contract.proofs.Leading.{leads-on, leads-off, by-leads, represents-later}
 
 -- The texts from a place on are `items`; all of them stand from start to end. Those before the place `at` were passed, from the state first on, and
 -- the next has the number n.
-pub record Turn (s : List ℕ) (one : ℕ → State → List ℕ → Outcome State) (items : ℕ → List (List ℕ)) (all : List (List ℕ)) (start end : ℕ) (first : Code.State) (at n : ℕ) (a : Code.State) : Type 0 where
+pub record Turn (s : List ℕ) (one : ℕ → State → List ℕ → Outcome Numbered State) (items : ℕ → List (List ℕ)) (all : List (List ℕ)) (start end : ℕ) (first : Code.State) (at n : ℕ) (a : Code.State) : Type 0 where
   pub low : start ≤ at
   pub high : at ≤ end
   pub counted : n + start ≤ at + 1
@@ -29,7 +30,7 @@ pub record Item (s : List ℕ) (items : ℕ → List (List ℕ)) (end at i e nex
   pub high : next ≤ end
   pub is : items at ≡ part s i e ∷ items next
 
-pub turn-first : (s : List ℕ) (one : ℕ → State → List ℕ → Outcome State) (items : ℕ → List (List ℕ)) (all : List (List ℕ)) (start end : ℕ) (first : Code.State)
+pub turn-first : (s : List ℕ) (one : ℕ → State → List ℕ → Outcome Numbered State) (items : ℕ → List (List ℕ)) (all : List (List ℕ)) (start end : ℕ) (first : Code.State)
     → Within s start end → all ≡ items start → Turn s one items all start end first start 1 first
 turn-first s one items all start end first w f = record { low = omega arith; high = w .ordered; counted = omega arith; leads = λ st q. (st, (q, ap (each one 1 st) f)) }
 
@@ -37,7 +38,7 @@ module _ {s : List ℕ} {start end : ℕ} (w : Within s start end) where
   pub item-within : {items : ℕ → List (List ℕ)} {at i e next : ℕ} → Item s items end at i e next → Within s i e
   item-within x = record { short = w .short; ordered = x .ordered; fits = omega (arith, x .before, x .high, w .fits); inside = omega (arith, x .before, x .high, w .inside) }
 
-  module _ {one : ℕ → State → List ℕ → Outcome State} {items : ℕ → List (List ℕ)} {all : List (List ℕ)} {first : Code.State} {at n : ℕ} {a : Code.State}
+  module _ {one : ℕ → State → List ℕ → Outcome Numbered State} {items : ℕ → List (List ℕ)} {all : List (List ℕ)} {first : Code.State} {at n : ℕ} {a : Code.State}
       (t : Turn s one items all start end first at n a) where
     pub turn-good : Good (take start s) first → Good (take at s) a
     turn-good g = let x = t .leads (g .st) (g .represents) in record { st = x .0; represents = x .1 .0 }
@@ -58,8 +59,8 @@ module _ {s : List ℕ} {start end : ℕ} (w : Within s start end) where
           let m = x .1 .1 ∙ ap (each one n (x .0)) (y .is) in
           let k = item-within y in
           by-leads (g .leads (x .0) (represents-later s at i (y .low) (omega (arith, k .ordered, k .inside)) (x .1 .0)))
-          (λ z u d. leads-on (represents-later s e next (y .before) (omega (arith, y .high, w .inside)) u) (m ∙ ap (λ (o : Outcome State). andThen o (λ v. each one (n + 1) v (items next))) d))
-          (λ why u d. leads-off u (m ∙ ap (λ (o : Outcome State). andThen o (λ v. each one (n + 1) v (items next))) d))
+          (λ z u d. leads-on (represents-later s e next (y .before) (omega (arith, y .high, w .inside)) u) (m ∙ ap (λ (o : Outcome Numbered State). andThen o (λ v. each one (n + 1) v (items next))) d))
+          (λ why u d. leads-off u (m ∙ ap (λ (o : Outcome Numbered State). andThen o (λ v. each one (n + 1) v (items next))) d))
 
       -- a state with the status of a is not refused
       pub turn-next : r .status ≡ a .status → Turn s one items all start end first next (n + 1) r

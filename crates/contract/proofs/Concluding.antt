@@ -32,7 +32,8 @@ use Rattle.contract.specs.declared.state.State as Code
 use Rattle.contract.specs.Part.{part}
 use Rattle.numbered.specs.Numbered.{plain}
 use Rattle.contract.specs.State.{State, started, each}
-use Rattle.numbered.specs.Outcome.{Outcome, is, refused, andThen}
+use Rattle.numbered.specs.declared.Numbered.{Numbered}
+use Rattle.base.specs.Outcome.{Outcome, is, refused, andThen}
 use Rattle.contract.specs.Parameters.{parameterBound}
 use Rattle.contract.specs.Body.{lineRead}
 use Rattle.contract.specs.Numbers.{refusalNumbered}
@@ -47,10 +48,10 @@ use Rattle.contract.proofs.Meeting.{all-made, no-place}
 use Rattle.contract.proofs.Leading.{leads-off, by-leads, represents-later, leads-later}
 
 -- an answer that is refused
-pub concludes-off : {s vector : List ℕ} {o : Outcome (ℕ × Tree)} {r : Assembly} {why : Refusal} → r ≡ rejectedFor why → o ≡ refused (refusalNumbered why) → Concludes s vector o r
+pub concludes-off : {s vector : List ℕ} {o : Outcome Numbered (ℕ × Tree)} {r : Assembly} {why : Refusal} → r ≡ rejectedFor why → o ≡ refused (refusalNumbered why) → Concludes s vector o r
 concludes-off {s} {vector} {o} f e = subst (λ (x : Assembly). Concludes s vector o x) (sym f) (record { by = (e, refl) })
 
-pub concludes-on : {s vector : List ℕ} {o : Outcome (ℕ × Tree)} {r : Assembly} {t : Tree} (q : Reached s vector (r .state)) → q .st .last ≡ some t → o ≡ is (r .expected, t) → Concludes s vector o r
+pub concludes-on : {s vector : List ℕ} {o : Outcome Numbered (ℕ × Tree)} {r : Assembly} {t : Tree} (q : Reached s vector (r .state)) → q .st .last ≡ some t → o ≡ is (r .expected, t) → Concludes s vector o r
 concludes-on {s} {vector} {o} {r} {t} q l e = record {
   by = subst (λ (x : Status). ConcludesBy x s vector o r) (sym (q .represents .going)) (record {
     reached = q;
@@ -91,7 +92,7 @@ module _ (s vector : List ℕ) (p : Places) (f : Located s p) where
     pub params-off : isRefused (a .status) ≡ true → Leads s a (bodyRead s vector p) is
     params-off b = by-leads led
         (λ st q e. never (sym b ∙ ap isRefused (q .going)))
-        (λ why t e. leads-off t (ap (λ (u : Outcome State). andThen u (λ st. each lineRead 1 st (lines (part s (p .«body_start») (p .«body_end»))))) e))
+        (λ why t e. leads-off t (ap (λ (u : Outcome Numbered State). andThen u (λ st. each lineRead 1 st (lines (part s (p .«body_start») (p .«body_end»))))) e))
 
     pub params-stand : isRefused (a .status) ≡ true → Standing s p a
     params-stand b = record { is = λ g. never (sym b ∙ ap isRefused g) }
@@ -108,7 +109,7 @@ module _ (s vector : List ℕ) (p : Places) (f : Located s p) where
           let x = k .leads st (represents-later s (p .«params_end») (p .«body_start») (omega (arith, o .between)) (omega (arith, o .body, o .fits)) q) in
           let y = leads-later s (p .«body_end») (length s) (omega (arith, o .fits)) (omega arith) x in
           let z = subst (λ (t : List ℕ). Leads t r (each lineRead 1 st (lines (part s (p .«body_start») (p .«body_end»)))) is) (take-all (length s) s (omega arith)) y in
-          subst (λ (u : Outcome State). Leads s r u is) (sym (ap (λ (u : Outcome State). andThen u (λ x. each lineRead 1 x (lines (part s (p .«body_start») (p .«body_end»))))) e)) z)
+          subst (λ (u : Outcome Numbered State). Leads s r u is) (sym (ap (λ (u : Outcome Numbered State). andThen u (λ x. each lineRead 1 x (lines (part s (p .«body_start») (p .«body_end»))))) e)) z)
           (λ why t e. never (sym (ap isRefused t) ∙ b))
 
       pub body-stands : {r : Code.State} → Meets s (p .«body_start») (p .«body_end») a r → Standing s p r
@@ -143,7 +144,7 @@ module _ (a : Code.State) (expected : ℕ) where
     by-reached {r} f = record {
       is = λ s vector p g l m.
           by-leads l
-          (λ st q e. subst (λ (o : Outcome (ℕ × Tree)). Concludes s vector o r) (sym (ap (concluded expected) e)) (f s vector (record { places = p; found = g; st = st; read = e; represents = q; place = m .is b })))
+          (λ st q e. subst (λ (o : Outcome Numbered (ℕ × Tree)). Concludes s vector o r) (sym (ap (concluded expected) e)) (f s vector (record { places = p; found = g; st = st; read = e; represents = q; place = m .is b })))
           (λ why t e. never (sym (ap isRefused t) ∙ ap isRefused b));
     }
 

@@ -18,21 +18,22 @@ use Rattle.contract.specs.declared.state.Status.the-variants.{Going, Ref
 use Rattle.contract.specs.declared.state.State as Code
 use Rattle.contract.specs.Part.{part}
 use Rattle.contract.specs.State.{State, bound}
-use Rattle.numbered.specs.Outcome.{Outcome, is, refused}
+use Rattle.numbered.specs.declared.Numbered.{Numbered}
+use Rattle.base.specs.Outcome.{Outcome, is, refused}
 use Rattle.contract.specs.Numbers.{refusalNumbered}
 use Rattle.contract.specs.Code.Stored.{numberIn, Bound}
 use Rattle.contract.specs.Code.Held.{LastIs, Represents, LeadsBy, Leads}
 use Rattle.contract.proofs.Holding.{holds-length, holds-later, holds-more}
 use Rattle.contract.proofs.Sourced.{env-later, stand-later, last-later, Gives, env-more, stand-more, last-more}
 
-module _ {s : List ℕ} {a : Code.State} {whole : Outcome State} {rest : State → Outcome State} where
+module _ {s : List ℕ} {a : Code.State} {whole : Outcome Numbered State} {rest : State → Outcome Numbered State} where
   pub leads-on : {st : State} → Represents s a st → whole ≡ rest st → Leads s a whole rest
   leads-on {st} r e = record { by = subst (λ (x : Status). LeadsBy x s a whole rest) (sym (r .going)) (st, (r, e)) }
 
   pub leads-off : {why : Refusal} → a .status ≡ Refused why → whole ≡ refused (refusalNumbered why) → Leads s a whole rest
   leads-off f e = record { by = subst (λ (x : Status). LeadsBy x s a whole rest) (sym f) e }
 
-pub by-leads : {P : Type 0} {s : List ℕ} {a : Code.State} {whole : Outcome State} {rest : State → Outcome State} → Leads s a whole rest
+pub by-leads : {P : Type 0} {s : List ℕ} {a : Code.State} {whole : Outcome Numbered State} {rest : State → Outcome Numbered State} → Leads s a whole rest
     → ((st : State) → Represents s a st → whole ≡ rest st → P)
     → ((why : Refusal) → a .status ≡ Refused why → whole ≡ refused (refusalNumbered why) → P)
     → P
@@ -52,7 +53,7 @@ module _ (s : List ℕ) (i e : ℕ) (h : i ≤ e) (k : e ≤ length s) where
     going = r .going;
   }
 
-  pub leads-later : {a : Code.State} {whole : Outcome State} {rest : State → Outcome State} → Leads (take i s) a whole rest → Leads (take e s) a whole rest
+  pub leads-later : {a : Code.State} {whole : Outcome Numbered State} {rest : State → Outcome Numbered State} → Leads (take i s) a whole rest → Leads (take e s) a whole rest
   leads-later l = by-leads l (λ st r w. leads-on (represents-later r) w) (λ why f w. leads-off f w)
 
 -- one binding more

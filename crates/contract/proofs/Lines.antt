@@ -24,7 +24,8 @@ use Rattle.contract.specs.declared.statement.Statement.the-variants as S
 use Rattle.contract.specs.Part.{part}
 use Rattle.contract.specs.State.{State, bound}
 use Rattle.numbered.specs.Numbered.{plain}
-use Rattle.numbered.specs.Outcome.{Outcome, is, refused}
+use Rattle.numbered.specs.declared.Numbered.{Numbered}
+use Rattle.base.specs.Outcome.{Outcome, is, refused}
 use Rattle.contract.specs.Statement.{binds, returns}
 use Rattle.contract.specs.Body.{treeOr, performed, lineRead}
 use Rattle.contract.specs.Code.Places.{Inside, AllInside, Stands, statementAt, texts}
@@ -36,7 +37,7 @@ use Rattle.contract.proofs.Sourced.{Gives}
 use Rattle.contract.proofs.Leading.{leads-on, leads-off, represents-later, leads-later, bound-leads}
 use Rattle.contract.proofs.Checking.{figures-small}
 
-tree-found : {m : Outcome Tree} {t : Tree} (line : ℕ) (f : Tree → Outcome State) → m ≡ is t → kOf t ≤ 32768 → treeOr m line f ≡ f t
+tree-found : {m : Outcome Numbered Tree} {t : Tree} (line : ℕ) (f : Tree → Outcome Numbered State) → m ≡ is t → kOf t ≤ 32768 → treeOr m line f ≡ f t
 tree-found {t = t} line f e l = let b = le-leb (kOf t) 32768 l in rw (e, b)
 
 -- an expression from start to end of the contract s, on a line
@@ -57,7 +58,7 @@ module _ (s : List ℕ) (a : Code.State) (expr : Span) (w : Within s (expr .star
   part-in = part-take s (expr .end) (expr .end) (omega arith) (w .inside) (expr .start) (expr .end - expr .start) (omega (arith, w .ordered, length-take-le (expr .end) s (w .inside)))
 
   expression-refused : {why : Refusal} → ChecksAll behind (columns (a .table) (a .values)) line text (Refused why)
-      → (f : State → Tree → Outcome State) → Follows before a (λ st. treeOr (meaning (st .env) text) line (f st)) behind (refusedAs a why)
+      → (f : State → Tree → Outcome Numbered State) → Follows before a (λ st. treeOr (meaning (st .env) text) line (f st)) behind (refusedAs a why)
   expression-refused k f = record { leads = λ st q. leads-off refl (k .is (st .env) (later q .holds) (f st)) }
 
   module _ {v : Read} (k : ChecksAll behind (columns (a .table) (a .values)) line text (Is v)) where
@@ -105,7 +106,7 @@ module _ (s : List ℕ) (a : Code.State) (expr : Span) (w : Within s (expr .star
           let n = length-take-le (expr .end) s (w .inside) in
           let e : part behind (name .start) (name .end) ≡ part s (name .start) (name .end) = part-take s (expr .end) (expr .end) (omega arith) (w .inside) (name .start) (name .end - name .start) (let y = w .ordered in omega arith) in
           let z = tree-found line (bound st (part s (name .start) (name .end))) (x .1 .0) (x .1 .1 .0) in
-          subst (λ (u : Outcome State). Leads behind r u is) (ap (λ (u : List ℕ). bound st u (x .0)) e ∙ sym z) (bound-leads behind a r name expr v b o (let y = w .ordered in omega arith) (sym e) (later q) (x .1 .1 .1) (gives (x .1 .0)));
+          subst (λ (u : Outcome Numbered State). Leads behind r u is) (ap (λ (u : List ℕ). bound st u (x .0)) e ∙ sym z) (bound-leads behind a r name expr v b o (let y = w .ordered in omega arith) (sym e) (later q) (x .1 .1 .1) (gives (x .1 .0)));
     }
 
 -- the line from start to end of the contract
@@ -132,18 +133,18 @@ module _ (s : List ℕ) (start end : ℕ) (w : Within s start end) where
 
   -- what it makes of a state
   module _ (a : Code.State) (line : ℕ) where
-    abbrev read : State → Outcome State
+    abbrev read : State → Outcome Numbered State
     read st = lineRead line st (part s start end)
 
     says : (r : Statement) → r ≡ statementAt s start end → (st : State) → read st ≡ performed line st (texts s r)
     says r e st = ap (performed line st) (sym (here r e .says))
 
     -- what a part of the line makes of a state is what the line does
-    wider : {f : State → Outcome State} {r : Code.State} (p : Span) → Inside start end p → Follows (take (p .start) s) a f (take (p .end) s) r → ((st : State) → read st ≡ f st) → Follows (take start s) a read (take end s) r
+    wider : {f : State → Outcome Numbered State} {r : Code.State} (p : Span) → Inside start end p → Follows (take (p .start) s) a f (take (p .end) s) r → ((st : State) → read st ≡ f st) → Follows (take start s) a read (take end s) r
     wider {f} {r} p i g e = record {
       leads = λ st q.
           let x = g .leads st (represents-later s start (p .start) (i .low) (let y = w .inside in omega (arith, i .ordered, i .high)) q) in
-          leads-later s (p .end) end (i .high) (w .inside) (subst (λ (u : Outcome State). Leads (take (p .end) s) r u is) (sym (e st)) x);
+          leads-later s (p .end) end (i .high) (w .inside) (subst (λ (u : Outcome Numbered State). Leads (take (p .end) s) r u is) (sym (e st)) x);
     }
 
     good-within : (p : Span) → Inside start end p → Good (take start s) a → Good (take (p .start) s) a

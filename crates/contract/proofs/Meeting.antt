@@ -8,6 +8,7 @@ use native.Mathlib.Omega.{arith}
 use lib.Dec.{ltb}
 use lib.ListN.{length, take}
 use Rattle.base.specs.Need.{need}
+use Rattle.base.proofs.Outcome.{not-is}
 use Rattle.lines.specs.declared.Line.{Line}
 use Rattle.lines.specs.declared.Step.{Step}
 use Rattle.lines.specs.declared.Step.the-variants.{Next, Done}
@@ -28,7 +29,7 @@ use Rattle.contract.specs.declared.state.Last.{Last}
 use Rattle.contract.specs.declared.state.Last.the-variants as Last
 use Rattle.contract.specs.declared.state.State as Code
 use Rattle.contract.specs.State.{State, bound, each}
-use Rattle.numbered.specs.Outcome.{Outcome, is, refused, andThen}
+use Rattle.base.specs.Outcome.{Outcome, is, refused, andThen}
 use Rattle.contract.specs.Parameters.{keyed, parameterBound}
 use Rattle.contract.specs.Code.Places.{statementAt}
 use Rattle.contract.specs.Code.Stored.{returning}
@@ -80,13 +81,13 @@ pub record Made (st : State) (names : List (List ℕ)) (x : State) : Type 0 wher
   pub count : length (x .env) ≡ length (st .env) + length names
   pub last : x .last ≡ st .last
 
-bound-on : (b : Bool) (st x : State) (r : Numbered) (f : State → Outcome State) → andThen (need b (refused r) (is st)) f ≡ is x → f st ≡ is x
+bound-on : (b : Bool) (st x : State) (r : Numbered) (f : State → Outcome Numbered State) → andThen (need b (refused r) (is st)) f ≡ is x → f st ≡ is x
 bound-on true st x r f e = e
-bound-on false st x r f e = absurd (let z : _≡_ {A = ℕ} 0 1 = cc in omega arith)
+bound-on false st x r f e = not-is e
 
-keyed-on : (k : Outcome ℕ) (st x : State) (name : List ℕ) (f : State → Outcome State) → andThen (andThen k (λ n. bound st name (num n))) f ≡ is x → (t : Tree) × (f (record { env = record { name = name; tree = t } ∷ st .env; last = st .last }) ≡ is x)
+keyed-on : (k : Outcome Numbered ℕ) (st x : State) (name : List ℕ) (f : State → Outcome Numbered State) → andThen (andThen k (λ n. bound st name (num n))) f ≡ is x → (t : Tree) × (f (record { env = record { name = name; tree = t } ∷ st .env; last = st .last }) ≡ is x)
 keyed-on (is n) st x name f e = (num n, bound-on (ltb (length (st .env)) 256) _ x (plain 21) f e)
-keyed-on (refused r) st x name f e = absurd (let z : _≡_ {A = ℕ} 0 1 = cc in omega arith)
+keyed-on (refused r) st x name f e = not-is e
 
 pub all-made : (vector : List ℕ) (n : ℕ) (st : State) (names : List (List ℕ)) (x : State) → each (parameterBound vector) n st names ≡ is x → Made st names x
 unfolding each

@@ -25,7 +25,8 @@ use Rattle.contract.specs.declared.parameters.Number.the-variants as Num
 use Rattle.contract.specs.declared.state.State as Code
 use Rattle.contract.specs.Part.{part}
 use Rattle.contract.specs.State.{State, bound}
-use Rattle.numbered.specs.Outcome.{Outcome, is, andThen}
+use Rattle.numbered.specs.declared.Numbered.{Numbered}
+use Rattle.base.specs.Outcome.{Outcome, is, andThen}
 use Rattle.contract.specs.Parameters.{keyed, parameterBound}
 use Rattle.contract.specs.Code.Stored.{refusedAs, numberIn, Bound}
 use Rattle.contract.specs.Code.Held.{Leads, Follows, Within, keyedAs}
@@ -39,12 +40,12 @@ literal-gives : {s : List ℕ} {env : Env} {end n : ℕ} → end ≤ length s �
 literal-gives l (Value.Is m) e = record { ordered = omega arith; inside = l; number = λ z. cc; means = λ z. absurd (omega arith) }
 literal-gives l Value.None e = absurd (let z : _≡_ {A = ℕ} 0 1 = cc in omega arith)
 
-abbrev boundTo : State → List ℕ → Outcome ℕ → Outcome State
+abbrev boundTo : State → List ℕ → Outcome Numbered ℕ → Outcome Numbered State
 boundTo st name k = andThen k (λ n. bound st name (num n))
 
 -- the parameter from start to end of the contract, with a place
 module _ (s vector : List ℕ) (a : Code.State) (start end : ℕ) (w : Within s start end) (place : ℕ) (x : Number) (e : keyedAs x ≡ keyed (vectorNumber vector (part s start end)) place) where
-  abbrev one : State → Outcome State
+  abbrev one : State → Outcome Numbered State
   one st = parameterBound vector place st (part s start end)
 
   pub parameter-refused : (why : Refusal) → x ≡ Number.Refused why → Follows (take start s) a one (take end s) (refusedAs a why)
@@ -56,7 +57,7 @@ module _ (s vector : List ℕ) (a : Code.State) (start end : ℕ) (w : Within s 
         let l = length-take-le end s (w .inside) in
         let y = part-take s end end (omega arith) (w .inside) start (end - start) (let o = w .ordered in omega arith) in
         let z = ap (boundTo st (part s start end)) (sym (sym (ap keyedAs q) ∙ e)) in
-        subst (λ (u : Outcome State). Leads (take end s) r u is) (ap (λ (u : List ℕ). boundTo st u (keyedAs (Number.Is n))) y ∙ sym z)
+        subst (λ (u : Outcome Numbered State). Leads (take end s) r u is) (ap (λ (u : List ℕ). boundTo st u (keyedAs (Number.Is n))) y ∙ sym z)
         (bound-leads (take end s) a r (record { start = start; end = end }) (record { start = end; end = end }) v b (w .ordered) (omega arith) (sym y) (represents-later s start end (w .ordered) (w .inside) p) f (literal-gives (omega arith) (v .value) (f .value)));
   }
 

@@ -8,7 +8,7 @@ use native.Mathlib.Omega.{arith}
 use borrow.Author.Tests.{ne-eqb}
 use lib.ListN.{length, getD, take}
 use lib.Seq.{length-take-le}
-use Rattle.numbered.specs.Outcome.{is}
+use Rattle.base.specs.Outcome.{is}
 use Rattle.base.proofs.Tests.{by-eqb}
 use Rattle.source.specs.declared.parameters.Span.{Span}
 use Rattle.expression.specs.declared.Bindings.{Bindings}

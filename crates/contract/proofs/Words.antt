@@ -5,7 +5,7 @@ use mathlib.Core.List.{List, [], _∷_}
 use mathlib.Core.Bool.{Bool, true, false, cond}
 use mathlib.Core.Option.{Option, some, none}
 use native.Mathlib.Omega.{arith}
-use Rattle.numbered.specs.Outcome.{is}
+use Rattle.base.specs.Outcome.{is}
 use Rattle.base.specs.Equal.{equal}
 use Rattle.decimal.proofs.Laws.{length-word}
 use Rattle.expression.specs.Tree.{Tree, num, bin, kOf}

@@ -15,7 +15,7 @@ use Rattle.expression.specs.Tree.{Tree, kOf, pOf}
 use Rattle.expression.specs.Written.{opsOf}
 use Rattle.numbered.specs.declared.Numbered.{Numbered}
 use Rattle.numbered.specs.Numbered.{plain, carrying}
-use Rattle.numbered.specs.Outcome.{Outcome, is, refused}
+use Rattle.base.specs.Outcome.{Outcome, is, refused}
 use Rattle.contract.specs.Assembled.{assembledTree}
 
 -- not empty, at most 255 bytes, UTF-8, without a line feed
@@ -46,7 +46,7 @@ written text expected t room =
     need (leb (length text) room) (nothing (plain 26))
     (record { answer = carrying 0 (length text ∷ kOf t ∷ pOf t ∷ expected ∷ []); text = text })
 
-abbrev pub named : Outcome (ℕ × Tree) → List ℕ → ℕ → Assembly
+abbrev pub named : Outcome Numbered (ℕ × Tree) → List ℕ → ℕ → Assembly
 named (refused r) stem room = nothing r
 named (is (expected, t)) stem room = need (stemFits stem) (nothing (plain 25)) (written (output stem expected t) expected t room)
 

@@ -2,7 +2,8 @@
 use Prim.Native.Nat.{ℕ}
 use mathlib.Core.List.{List}
 use Rattle.numbered.specs.Numbered.{located}
-use Rattle.numbered.specs.Outcome.{Outcome, is, refused, andThen}
+use Rattle.numbered.specs.declared.Numbered.{Numbered}
+use Rattle.base.specs.Outcome.{Outcome, is, refused, andThen}
 use Rattle.source.specs.declared.vector.KeyValue.{KeyValue}
 use Rattle.source.specs.declared.vector.KeyValue.the-variants.{Is, Refused}
 use Rattle.source.specs.Vector.{vectorNumber, keyErrorNumbered}
@@ -10,10 +11,10 @@ use Rattle.expression.specs.Tree.{num}
 use Rattle.contract.specs.State.{State, bound}
 
 -- a key's number, or the refusal with the key's place
-abbrev pub keyed : KeyValue → ℕ → Outcome ℕ
+abbrev pub keyed : KeyValue → ℕ → Outcome Numbered ℕ
 keyed (Is n) place = is n
 keyed (Refused e) place = refused (located (keyErrorNumbered e) place)
 
 -- the parameter with a place, one more binding
-abbrev pub parameterBound : List ℕ → ℕ → State → List ℕ → Outcome State
+abbrev pub parameterBound : List ℕ → ℕ → State → List ℕ → Outcome Numbered State
 parameterBound vector place st name = andThen (keyed (vectorNumber vector name) place) (λ n. bound st name (num n))

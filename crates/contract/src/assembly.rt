@@ -1,6 +1,6 @@
 // What assembly makes of a contract and a vector, before anything is written.
 ghost use mathlib.Core.Path.{_≡_};
-ghost use Rattle.numbered.specs.Outcome.{is};
+ghost use Rattle.base.specs.Outcome.{is};
 ghost use Rattle.contract.specs.Code.LastReturn.{Standing};
 ghost use Rattle.contract.specs.Code.Held.{Leads};
 ghost use Rattle.contract.specs.Assembled.{readable, bodyRead, functionRead, assembledTree};

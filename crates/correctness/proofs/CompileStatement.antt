@@ -6,13 +6,14 @@ use mathlib.Core.List.{List, [], _∷_}
 use mathlib.Core.Bool.{true}
 use lib.ListN.{length}
 use Rattle.base.specs.Overwrite.{overwrite}
-use Rattle.ops.specs.Ops.{Reading, ops, readText, answerOf, opsOf, kindsOf, operandsOf}
+use Rattle.ops.specs.Ops.{Reading, readText, answerOf, opsOf, kindsOf, operandsOf}
 use Rattle.base.proofs.Overwrite.{overwrite-all}
 use Rattle.ops.specs.Numbers.{parsedOpsNumbered}
 use Rattle.checks.specs.Verify.{buffersFit}
 use Rattle.expression.specs.Tree.{kOf}
 use Rattle.numbered.specs.Numbered.{carrying}
 use Rattle.contract.specs.Output.{operationsOf}
+use Rattle.base.specs.Outcome.{Outcome, is, refused}
 use Rattle.correctness.specs.Call.{Compilation, readingOf}
 use Rattle.correctness.specs.Statement.{Hypotheses, Statement, foundBy}
 use Rattle.contract.proofs.Accepted.{accepted-is}
@@ -33,7 +34,7 @@ compile-statement x n k p v a =
     let vs-room = a .operandsRoom in
     let ks-length = kinds-length t in
     let vs-length = operands-length t in
-    let reading : readingOf x ≡ ops (operationsOf t) =
+    let reading : readingOf x ≡ is (operationsOf t) =
     ap (λ (text : List ℕ). readText text (min (length kinds) (length operands))) (d .text-is) ∙ reads-output (x .stem) v t (d .stem-fits) (acc .fits .0) (min (length kinds) (length operands)) (omega arith) in
     let ks-full : overwrite 0 (kindsOf (opsOf (readingOf x))) kinds ≡ kindsOf (operationsOf t) =
     ap (λ (r : Reading). overwrite 0 (kindsOf (opsOf r)) kinds) reading ∙ overwrite-all (kindsOf (operationsOf t)) kinds (omega arith) in

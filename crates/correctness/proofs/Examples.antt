@@ -7,6 +7,7 @@ use mathlib.Core.Option.{some}
 use lib.ListN.{replicate}
 use Rattle.base.specs.Ascii.{ascii}
 use Rattle.base.specs.Overwrite.{overwrite}
+use Rattle.base.specs.Outcome.{is, refused}
 use Rattle.word.specs.Apply.{add}
 use Rattle.numbered.specs.declared.Numbered.{Numbered}
 use Rattle.numbered.specs.Numbered.{carrying, plain}
@@ -30,7 +31,6 @@ use Rattle.correctness.specs.Statement.{gasOf, SucceedsWith, Hypotheses,
 use Rattle.correctness.proofs.CompileStatement.{compile-statement}
 use Rattle.correctness.proofs.Told.{told}
 use Rattle.correctness.proofs.Trees.{decided, meter, metered}
-use Rattle.correctness.proofs.Trace.{left, broke}
 
 tally : List ℕ
 tally = ascii "fn total (a, b) {\n  let s = a + b\n  return s * 2\n}\n"
@@ -92,11 +92,11 @@ counts : (kOf (nest 4096) ≡ 4097) × (pOf (nest 4096) ≡ 4097) × (valueOf (n
 unfolding nest
 counts = (refl, refl, refl)
 
-at-4096 : meter (nest 4096) 4096 0 ≡ broke (outOfGas 1 0)
+at-4096 : meter (nest 4096) 4096 0 ≡ refused (outOfGas 1 0)
 unfolding nest meter
 at-4096 = refl
 
-at-4097 : meter (nest 4096) 4097 0 ≡ broke stackLimitExceeded
+at-4097 : meter (nest 4096) 4097 0 ≡ refused stackLimitExceeded
 unfolding nest meter
 at-4097 = refl
 
@@ -117,10 +117,10 @@ fits : (pOf (nest 4095) ≡ 4096) × (gasOf (nest 4095) ≡ 12286)
 unfolding nest
 fits = (refl, refl)
 
-at-12286 : meter (nest 4095) 12286 0 ≡ left 0
+at-12286 : meter (nest 4095) 12286 0 ≡ is 0
 unfolding nest meter
 at-12286 = refl
 
-at-12285 : meter (nest 4095) 12285 0 ≡ broke (outOfGas 2 1)
+at-12285 : meter (nest 4095) 12285 0 ≡ refused (outOfGas 2 1)
 unfolding nest meter
 at-12285 = refl

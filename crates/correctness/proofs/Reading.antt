@@ -15,7 +15,8 @@ use Rattle.lines.specs.Lines.{feedFree}
 use Rattle.lines.proofs.Written.{free-cons, free-append}
 use Rattle.decimal.specs.Decimal.{digit, allDigits, decimal}
 use Rattle.decimal.proofs.Laws.{allDigits-decimal}
-use Rattle.ops.specs.Ops.{ops, readText}
+use Rattle.ops.specs.Ops.{readText}
+use Rattle.base.specs.Outcome.{is}
 use Rattle.ops.specs.Written.{writtenAll, remarks, IsRemark, Each, none, one}
 use Rattle.ops.proofs.Written.{reads-written}
 use Rattle.expression.specs.Tree.{Tree, kOf}
@@ -58,10 +59,10 @@ titles-remarks stem v e =
     (one (behind (ascii " expected: ") (decimal v) refl refl (digits-remark (decimal v) (allDigits-decimal v)))
     none)
 
-pub reads-output : (stem : List ℕ) (v : ℕ) (t : Tree) → stemFits stem ≡ true → Words t → (room : ℕ) → 2 * kOf t ≤ room → readText (output stem v t) room ≡ ops (operationsOf t)
+pub reads-output : (stem : List ℕ) (v : ℕ) (t : Tree) → stemFits stem ≡ true → Words t → (room : ℕ) → 2 * kOf t ≤ room → readText (output stem v t) room ≡ is (operationsOf t)
 unfolding output
 reads-output stem v t e h room k =
     let f = operations-fine t h in
     ap (λ (x : List ℕ). readText (x ++ writtenAll (operationsOf t)) room) (header-remarks stem v)
     ∙ reads-written (titles-remarks stem v e) (all-writable f) (omega (arith, operations-length t, k-positive t)) room (omega (arith, operations-length t))
-    ∙ ap ops (all-same f)
+    ∙ ap is (all-same f)

@@ -8,7 +8,8 @@ use mathlib.Core.Logic.{_↔_}
 use mathlib.Core.Option.{some}
 use lib.ListN.{length, take, replicate, take-append-drop}
 use lib.Seq.{length-take-le}
-use Rattle.machine.specs.Machine.{Fault, stackLimitExceeded, Outcome, done, stop, whole}
+use Rattle.base.specs.Outcome as Outcome
+use Rattle.machine.specs.Machine.{Fault, stackLimitExceeded, Progress, done, stop, whole}
 use Rattle.numbered.specs.declared.Numbered.{Numbered}
 use Rattle.checks.specs.Numbers.{refusalNumbered}
 use Rattle.perform.specs.Call.{Call}
@@ -18,7 +19,7 @@ use Rattle.contract.specs.Output.{operationsOf}
 use Rattle.correctness.specs.Counting.{Short, Fills}
 use Rattle.correctness.specs.Statement.{Ending, gasOf, outOfGasAt, stackFull, SucceedsWith, RefusedWith, Compiled, endingOf}
 use Rattle.correctness.proofs.Trees.{last, decided}
-use Rattle.correctness.proofs.Trace.{Metered, left, broke, onward, trace}
+use Rattle.correctness.proofs.Trace.{Metered, onward, trace}
 use Rattle.correctness.proofs.Ends.{refusedAt, succeeds, less-gas, less-room, less-both}
 
 -- the storage, the used length and the work buffer, however a run ends
@@ -36,11 +37,11 @@ module _ (t : Tree) (v : ℕ) (e : valueOf t ≡ some v) (x : Call) (same : leng
   used = take (x .state .used) (x .storage)
 
   -- the run, and how the call ends with it
-  abbrev outcome : Outcome
-  outcome = whole (operationsOf t) (x .caller) (length (x .storage)) g used
+  abbrev progress : Progress
+  progress = whole (operationsOf t) (x .caller) (length (x .storage)) g used
 
   abbrev ran : Ending
-  ran = endingOf (ofRun x outcome)
+  ran = endingOf (ofRun x progress)
 
   used-kept : length used ≡ x .state .used
   used-kept = length-take-le (x .state .used) (x .storage) h
@@ -52,10 +53,10 @@ module _ (t : Tree) (v : ℕ) (e : valueOf t ≡ some v) (x : Call) (same : leng
   kept = rw (decided t v e (x .caller) (length (x .storage)) g used) (go (trace (operationsOf t) g 0))
     where
       go : (z : Metered) → Kept (x .state .used) (x .storage) (endingOf (ofRun x (onward z (λ g′. done g′ (last t v used)))))
-      go (left g′) = record { storage = rw used-kept (take-append-drop (x .state .used) (x .storage)); after = used-kept; work = zeros }
-      go (broke f) = record { storage = refl; after = refl; work = zeros }
+      go (Outcome.is g′) = record { storage = rw used-kept (take-append-drop (x .state .used) (x .storage)); after = used-kept; work = zeros }
+      go (Outcome.refused f) = record { storage = refl; after = refl; work = zeros }
 
-  refused : (f : Fault) → outcome ≡ stop f → RefusedWith (refusalNumbered (refusalOf f)) (x .stack) ran
+  refused : (f : Fault) → progress ≡ stop f → RefusedWith (refusalNumbered (refusalOf f)) (x .stack) ran
   refused f q = rw q (record { numbered = refl; stack = refl })
 
   success : gasOf t ≤ g → pOf t ≤ 4096 → SucceedsWith t v (x .state .used) (x .stack) ran

@@ -9,16 +9,16 @@ use lib.Seq.{drop-cons}
 use borrow.Author.Tests.{lt-ltb, le-ltb}
 use Rattle.kinds.specs.Kinds.{Operation}
 use Rattle.ops.specs.Written.{Each, none, one}
-use Rattle.machine.specs.Machine.{Frame, Effect, moves, jumps, ends, fails, costs, Outcome, effectOf, priceOf, halt, settle, pay, actOf, machine, follow, runOf, start, whole}
+use Rattle.machine.specs.Machine.{Frame, Effect, moves, jumps, ends, fails, costs, Progress, effectOf, priceOf, halt, settle, pay, actOf, machine, follow, runOf, start, whole}
 use Rattle.machine.proofs.Runs.{PricedAct, priced}
 use Rattle.correctness.specs.Counting.{opAt}
 
 -- the fold of the machine's own step over a list of operations, and then f
-unfoldable pub line : ℕ → ℕ → (ℕ → Frame → Outcome) → List Operation → ℕ → Frame → Outcome
+unfoldable pub line : ℕ → ℕ → (ℕ → Frame → Progress) → List Operation → ℕ → Frame → Progress
 line c room f [] g fr = f g fr
 line c room f (x ∷ l) g fr = follow (pay g fr (actOf c room x fr)) (line c room f l)
 
-pub line-append : (c room : ℕ) (f : ℕ → Frame → Outcome) (a b : List Operation) (g : ℕ) (fr : Frame) → line c room f (a ++ b) g fr ≡ line c room (line c room f b) a g fr
+pub line-append : (c room : ℕ) (f : ℕ → Frame → Progress) (a b : List Operation) (g : ℕ) (fr : Frame) → line c room f (a ++ b) g fr ≡ line c room (line c room f b) a g fr
 unfolding line
 line-append c room f [] b g fr = refl
 line-append c room f (x ∷ a) b g fr = ap (follow (pay g fr (actOf c room x fr))) (fun-ext (λ g₁. fun-ext (λ fr₁. line-append c room f a b g₁ fr₁)))
@@ -34,7 +34,7 @@ abbrev pub Plain : Operation → Type 0
 Plain o = (c room : ℕ) (s m : List ℕ) → Goes (effectOf c room o s m)
 
 -- one operation, and what follows it, in two ways that agree
-module _ (g : ℕ) (fr : Frame) (f f′ : ℕ → Frame → Outcome) (same : (g₁ : ℕ) (fr₁ : Frame) → fr₁ .pos ≡ suc (fr .pos) → g₁ < g → f g₁ fr₁ ≡ f′ g₁ fr₁) where
+module _ (g : ℕ) (fr : Frame) (f f′ : ℕ → Frame → Progress) (same : (g₁ : ℕ) (fr₁ : Frame) → fr₁ .pos ≡ suc (fr .pos) → g₁ < g → f g₁ fr₁ ≡ f′ g₁ fr₁) where
   after : (q : ℕ) (e : Effect) → q ≤ g → PricedAct (costs q e) → Goes e → follow (settle (g - q) fr e) f ≡ follow (settle (g - q) fr e) f′
   after q (moves s m) h paid gs = same (g - q) (record { pos = fr .pos + 1; stack = s; storage = m; ops = fr .ops + 1 }) (omega arith) (omega arith)
   after q (jumps t s m) h paid gs = absurd gs

@@ -9,7 +9,7 @@ use lib.ListN.{length, getD, take}
 use Rattle.numbered.specs.declared.Numbered.{Numbered}
 use Rattle.context.specs.declared.ContextError.the-variants as context
 use Rattle.context.specs.declared.Gate.{Gate}
-use Rattle.machine.specs.Machine.{Outcome, next, done, stop, decode, whole}
+use Rattle.machine.specs.Machine.{Progress, next, done, stop, decode, whole}
 use Rattle.checks.specs.declared.Refusal.{Refusal}
 use Rattle.checks.specs.declared.Refusal.the-variants as refusal
 use Rattle.checks.specs.declared.Check.{Check}
@@ -119,10 +119,10 @@ used-told context x =
     go (checksOf (gateCheck context) check.Passed x)
     (whole (decode (x .kinds) (x .operands)) (x .caller) (length (x .storage)) (x .limit) (take (x .state .used) (x .storage)))
   where
-    after : Check → Outcome → Result
+    after : Check → Progress → Result
     after z o = afterCheck z x (ofRun x o)
 
-    go : (z : Check) (o : Outcome) → after z o .state .used ≡ usedAfter (answerNumbered (after z o .answer)) (x .state .used)
+    go : (z : Check) (o : Progress) → after z o .state .used ≡ usedAfter (answerNumbered (after z o .answer)) (x .state .used)
     go (check.Refused f) o = sym (refused-used f (x .state .used))
     go check.Passed (next h fr) = refl
     go check.Passed (stop f) = sym (refused-used (refusalOf f) (x .state .used))

@@ -8,22 +8,18 @@ use mathlib.Core.Bool.{Bool, true, false, not, cond}
 use lib.ListN.{length, take}
 use lib.Dec.{ltb}
 use borrow.Author.Tests.{lt-ltb, le-ltb}
+use Rattle.base.specs.Outcome.{Outcome, is, refused, andThen}
 use Rattle.kinds.specs.Kinds.{value, takes, Operation}
-use Rattle.machine.specs.Machine.{Fault, outOfGas, stackLimitExceeded, Outcome, stop}
+use Rattle.machine.specs.Machine.{Fault, outOfGas, stackLimitExceeded, Progress, stop}
 use Rattle.correctness.specs.Counting.{price, cost, isPush, isOperator, pushes, operators, opAt, Short}
 
 -- what gas and height decide: the gas left, or a refusal
-pub data Metered : Type 0 where
-  left : ℕ → Metered
-  broke : Fault → Metered
+abbrev pub Metered : Type 0
+Metered = Outcome Fault ℕ
 
-abbrev pub andThen : Metered → (ℕ → Metered) → Metered
-andThen (left g) f = f g
-andThen (broke r) f = broke r
-
-abbrev pub onward : Metered → (ℕ → Outcome) → Outcome
-onward (left g) f = f g
-onward (broke r) f = stop r
+abbrev pub onward : Metered → (ℕ → Progress) → Progress
+onward (is g) f = f g
+onward (refused r) f = stop r
 
 -- the height after an operation, and a push that meets 4096 items
 abbrev pub rise : Operation → ℕ → ℕ
@@ -35,12 +31,12 @@ fullAt (suc zero) h = not (ltb h 4096)
 fullAt (suc (suc q)) h = false
 
 abbrev pub onFull : Bool → Metered → Metered
-onFull b m = cond b (broke stackLimitExceeded) m
+onFull b m = cond b (refused stackLimitExceeded) m
 
 -- the definition of "whichever is met first"
 unfoldable pub trace : List Operation → ℕ → ℕ → Metered
-trace [] g h = left g
-trace (x ∷ l) g h = cond (ltb g (price x)) (broke (outOfGas (price x) g)) (onFull (fullAt (isPush x) h) (trace l (g - price x) (rise x h)))
+trace [] g h = is g
+trace (x ∷ l) g h = cond (ltb g (price x)) (refused (outOfGas (price x) g)) (onFull (fullAt (isPush x) h) (trace l (g - price x) (rise x h)))
 
 -- the height after a list, and a trace in two parts
 unfoldable pub rises : List Operation → ℕ → ℕ
@@ -58,8 +54,8 @@ trace-append [] b g h = refl
 trace-append (x ∷ a) b g h = go (ltb g (price x)) (fullAt (isPush x) h) (trace-append a b (g - price x) (rise x h))
   where
     go : (q q′ : Bool) → trace (a ++ b) (g - price x) (rise x h) ≡ andThen (trace a (g - price x) (rise x h)) (λ g′. trace b g′ (rises a (rise x h)))
-        → cond q (broke (outOfGas (price x) g)) (onFull q′ (trace (a ++ b) (g - price x) (rise x h)))
-        ≡ andThen (cond q (broke (outOfGas (price x) g)) (onFull q′ (trace a (g - price x) (rise x h)))) (λ g′. trace b g′ (rises a (rise x h)))
+        → cond q (refused (outOfGas (price x) g)) (onFull q′ (trace (a ++ b) (g - price x) (rise x h)))
+        ≡ andThen (cond q (refused (outOfGas (price x) g)) (onFull q′ (trace a (g - price x) (rise x h)))) (λ g′. trace b g′ (rises a (rise x h)))
     go true true e = refl
     go true false e = refl
     go false true e = refl
@@ -123,12 +119,12 @@ now x h k = go (isPush x) refl
     go (suc (suc q)) e = absurd (omega (arith, push-one x))
 
 -- the trace ends well
-pub trace-fine : (l : List Operation) (g h : ℕ) → h ≤ 4096 → cost l ≤ g → peak l h ≤ 4096 → trace l g h ≡ left (g - cost l)
+pub trace-fine : (l : List Operation) (g h : ℕ) → h ≤ 4096 → cost l ≤ g → peak l h ≤ 4096 → trace l g h ≡ is (g - cost l)
 unfolding trace cost peak
-trace-fine [] g h a b d = ap left (omega arith)
+trace-fine [] g h a b d = ap is (omega arith)
 trace-fine (x ∷ l) g h a b d = go (now x h a) (λ r b′ d′. trace-fine l (g - price x) (rise x h) r b′ d′)
   where
-    go : Now x h → (rise x h ≤ 4096 → cost l ≤ g - price x → peak l (rise x h) ≤ 4096 → trace l (g - price x) (rise x h) ≡ left ((g - price x) - cost l)) → trace (x ∷ l) g h ≡ left (g - (price x + cost l))
+    go : Now x h → (rise x h ≤ 4096 → cost l ≤ g - price x → peak l (rise x h) ≤ 4096 → trace l (g - price x) (rise x h) ≡ is ((g - price x) - cost l)) → trace (x ∷ l) g h ≡ is (g - (price x + cost l))
     go (full e q) ih = absurd (omega (arith, rw e at d))
     go (fine n r t f) ih =
         let s : (g - price x) - cost l ≡ g - (price x + cost l) = omega arith in
@@ -136,20 +132,20 @@ trace-fine (x ∷ l) g h a b d = go (now x h a) (λ r b′ d′. trace-fine l (g
 
 -- it ends at i for want of gas
 pub trace-short : (l : List Operation) (g h i : ℕ) → Sound l h → h ≤ 4096 → i < length l → cost (take i l) ≤ g → g < cost (take i l) + price (opAt l i) → ((j : ℕ) → j < i → ¬ (MeetsFrom h l j))
-    → trace l g h ≡ broke (outOfGas (price (opAt l i)) (g - cost (take i l)))
+    → trace l g h ≡ refused (outOfGas (price (opAt l i)) (g - cost (take i l)))
 unfolding trace cost Sound
 trace-short [] g h i s a n lo hi nm = absurd (omega arith)
 trace-short (x ∷ l) g h zero s a n lo hi nm = let e : g - 0 ≡ g = omega arith in rw (lt-ltb g (price x) (omega arith), e)
 trace-short (x ∷ l) g h (suc i) s a n lo hi nm = go (now x h a) (λ r. trace-short l (g - price x) (rise x h) i (s .1) r (omega arith) (omega arith) (omega arith) (λ j k m. nm (suc j) (omega arith) (meets-later x l h j (s .0) m)))
   where
-    go : Now x h → (rise x h ≤ 4096 → trace l (g - price x) (rise x h) ≡ broke (outOfGas (price (opAt l i)) ((g - price x) - cost (take i l)))) → trace (x ∷ l) g h ≡ broke (outOfGas (price (opAt l i)) (g - (price x + cost (take i l))))
+    go : Now x h → (rise x h ≤ 4096 → trace l (g - price x) (rise x h) ≡ refused (outOfGas (price (opAt l i)) ((g - price x) - cost (take i l)))) → trace (x ∷ l) g h ≡ refused (outOfGas (price (opAt l i)) (g - (price x + cost (take i l))))
     go (full e q) ih = absurd (nm zero (omega arith) (meets-now x l h e q))
     go (fine ne r t f) ih =
         let s : (g - price x) - cost (take i l) ≡ g - (price x + cost (take i l)) = omega arith in
         rw (le-ltb g (price x) (omega arith), f, ← s) (ih r)
 
 -- it ends at j for want of room
-pub trace-full : (l : List Operation) (g h j : ℕ) → Sound l h → h ≤ 4096 → MeetsFrom h l j → ((i : ℕ) → i < j → ¬ (MeetsFrom h l i)) → cost (take j l) + price (opAt l j) ≤ g → trace l g h ≡ broke stackLimitExceeded
+pub trace-full : (l : List Operation) (g h j : ℕ) → Sound l h → h ≤ 4096 → MeetsFrom h l j → ((i : ℕ) → i < j → ¬ (MeetsFrom h l i)) → cost (take j l) + price (opAt l j) ≤ g → trace l g h ≡ refused stackLimitExceeded
 unfolding trace cost Sound pushes operators
 trace-full [] g h j s a m nm lo = absurd (omega arith)
 trace-full (x ∷ l) g h zero s a m nm lo =
@@ -158,7 +154,7 @@ trace-full (x ∷ l) g h zero s a m nm lo =
 trace-full (x ∷ l) g h (suc j) s a m nm lo =
     go (now x h a) (λ r. trace-full l (g - price x) (rise x h) j (s .1) r (meets-sooner x l h j (s .0) m) (λ i k w. nm (suc i) (omega arith) (meets-later x l h i (s .0) w)) (omega arith))
   where
-    go : Now x h → (rise x h ≤ 4096 → trace l (g - price x) (rise x h) ≡ broke stackLimitExceeded) → trace (x ∷ l) g h ≡ broke stackLimitExceeded
+    go : Now x h → (rise x h ≤ 4096 → trace l (g - price x) (rise x h) ≡ refused stackLimitExceeded) → trace (x ∷ l) g h ≡ refused stackLimitExceeded
     go (full e q) ih = absurd (nm zero (omega arith) (meets-now x l h e q))
     go (fine ne r t f) ih = rw (le-ltb g (price x) (omega arith), f) (ih r)
 

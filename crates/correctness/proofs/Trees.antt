@@ -8,16 +8,17 @@ use mathlib.Core.Option.{Option, some, none}
 use lib.ListN.{length, length-append}
 use lib.Dec.{ltb}
 use borrow.Author.Tests.{le-ltb}
+use Rattle.base.specs.Outcome.{is, refused, andThen}
 use Rattle.word.specs.Apply.{Binary, add, sub, mul, div, eq, lt, apply}
 use Rattle.kinds.specs.Kinds.{Operation, operation}
 use Rattle.ops.specs.Written.{Each, none as no-more, one}
-use Rattle.machine.specs.Machine.{outOfGas, stackLimitExceeded, Frame, moves, fails, Outcome, next, done, stop, pushOf, valueOf as ofValue, twoOf, effectOf, settle, follow, halt, start, whole}
+use Rattle.machine.specs.Machine.{outOfGas, stackLimitExceeded, Frame, moves, fails, Progress, next, done, stop, pushOf, valueOf as ofValue, twoOf, effectOf, settle, follow, halt, start, whole}
 use Rattle.expression.specs.Tree.{Tree, num, bin, applied, valueOf, kOf, pOf}
 use Rattle.expression.specs.Written.{operatorOf, opsOf}
 use Rattle.expression.proofs.Written.{ops-length}
 use Rattle.contract.specs.Output.{operationsOf}
 use Rattle.correctness.specs.Counting.{price, isPush, isOperator, cost}
-use Rattle.correctness.proofs.Trace.{Metered, left, broke, andThen, onward, trace, rise, rises, rises-append, trace-append, Sound, peak}
+use Rattle.correctness.proofs.Trace.{Metered, onward, trace, rise, rises, rises-append, trace-append, Sound, peak}
 use Rattle.correctness.proofs.Straight.{line, line-append, Goes, Plain, whole-line}
 use Rattle.correctness.proofs.Operations.{each-append}
 
@@ -105,7 +106,7 @@ rises-tree (num n) h = omega arith
 rises-tree (bin o l r) h = simp (rises-append, rises-tree l h, rises-tree r (suc h)) (after-two o h)
 
 abbrev spend : ℕ → Metered
-spend g = cond (ltb g 2) (broke (outOfGas 2 g)) (left (g - 2))
+spend g = cond (ltb g 2) (refused (outOfGas 2 g)) (is (g - 2))
 
 trace-bin : (o : Binary) (l r : Tree) (g h : ℕ) → trace (opsOf (bin o l r)) g h ≡ andThen (trace (opsOf l) g h) (λ g₁. andThen (trace (opsOf r) g₁ (suc h)) spend)
 unfolding trace
@@ -116,8 +117,8 @@ unfolding trace price isPush
 program-trace t g = rw (trace-append (opsOf t) (halt ∷ []) g 0) (go (trace (opsOf t) g 0))
   where
     go : (x : Metered) → andThen x (λ g′. trace (halt ∷ []) g′ (rises (opsOf t) 0)) ≡ x
-    go (left g′) = let e : g′ - 0 ≡ g′ = omega arith in rw (le-ltb g′ 0 (omega arith), e)
-    go (broke f) = refl
+    go (is g′) = let e : g′ - 0 ≡ g′ = omega arith in rw (le-ltb g′ 0 (omega arith), e)
+    go (refused f) = refl
 
 -- a value's parts
 abbrev Parts : Binary → Option ℕ → Option ℕ → ℕ → Type 0
@@ -128,38 +129,38 @@ parts o none y v e = let z : _≡_ {A = ℕ} 0 1 = cc in absurd (omega arith)
 parts o (some a) none v e = let z : _≡_ {A = ℕ} 0 1 = cc in absurd (omega arith)
 parts o (some a) (some b) v e = (a, b, refl, refl, e)
 
-onward-then : (x : Metered) (h : ℕ → Metered) (f : ℕ → Outcome) → onward (andThen x h) f ≡ onward x (λ g. onward (h g) f)
-onward-then (left g) h f = refl
-onward-then (broke r) h f = refl
+onward-then : (x : Metered) (h : ℕ → Metered) (f : ℕ → Progress) → onward (andThen x h) f ≡ onward x (λ g. onward (h g) f)
+onward-then (is g) h f = refl
+onward-then (refused r) h f = refl
 
 -- a frame n operations on, with the stack s
 abbrev grown : Frame → ℕ → List ℕ → Frame
 grown fr n s = record { pos = fr .pos + n; stack = s; storage = fr .storage; ops = fr .ops + n }
 
 module _ (c room : ℕ) where
-  do-two : (o : Binary) (a b v : ℕ) → apply o a b ≡ some v → (f : ℕ → Frame → Outcome) (g n : ℕ) (s : List ℕ) (fr : Frame)
+  do-two : (o : Binary) (a b v : ℕ) → apply o a b ≡ some v → (f : ℕ → Frame → Progress) (g n : ℕ) (s : List ℕ) (fr : Frame)
       → line c room f (operatorOf o ∷ []) g (grown fr n (b ∷ a ∷ s)) ≡ onward (spend g) (λ g′. f g′ (grown (grown fr n (b ∷ a ∷ s)) 1 (v ∷ s)))
   unfolding line price
   do-two o a b v e f g n s fr = rw (operator o .price-two, operator o .does c room, e) (go (ltb g 2))
     where
-      go : (q : Bool) → follow (cond q (stop (outOfGas 2 g)) (next (g - 2) (grown (grown fr n (b ∷ a ∷ s)) 1 (v ∷ s)))) f ≡ onward (cond q (broke (outOfGas 2 g)) (left (g - 2))) (λ g′. f g′ (grown (grown fr n (b ∷ a ∷ s)) 1 (v ∷ s)))
+      go : (q : Bool) → follow (cond q (stop (outOfGas 2 g)) (next (g - 2) (grown (grown fr n (b ∷ a ∷ s)) 1 (v ∷ s)))) f ≡ onward (cond q (refused (outOfGas 2 g)) (is (g - 2))) (λ g′. f g′ (grown (grown fr n (b ∷ a ∷ s)) 1 (v ∷ s)))
       go true = refl
       go false = refl
 
-  do-push : (f : ℕ → Frame → Outcome) (v g : ℕ) (fr : Frame) → line c room f (operation 0 v ∷ []) g fr ≡ onward (trace (operation 0 v ∷ []) g (length (fr .stack))) (λ g′. f g′ (grown fr 1 (v ∷ fr .stack)))
+  do-push : (f : ℕ → Frame → Progress) (v g : ℕ) (fr : Frame) → line c room f (operation 0 v ∷ []) g fr ≡ onward (trace (operation 0 v ∷ []) g (length (fr .stack))) (λ g′. f g′ (grown fr 1 (v ∷ fr .stack)))
   unfolding line trace price isPush
   do-push f v g fr = go (ltb g 1) (ltb (length (fr .stack)) 4096)
     where
       go : (q q′ : Bool)
           → follow (cond q (stop (outOfGas 1 g)) (settle (g - 1) fr (cond q′ (moves (v ∷ fr .stack) (fr .storage)) (fails stackLimitExceeded)))) f
-          ≡ onward (cond q (broke (outOfGas 1 g)) (cond (not q′) (broke stackLimitExceeded) (left (g - 1)))) (λ g′. f g′ (grown fr 1 (v ∷ fr .stack)))
+          ≡ onward (cond q (refused (outOfGas 1 g)) (cond (not q′) (refused stackLimitExceeded) (is (g - 1)))) (λ g′. f g′ (grown fr 1 (v ∷ fr .stack)))
       go true true = refl
       go true false = refl
       go false true = refl
       go false false = refl
 
   -- from any frame, whatever follows
-  agree : (t : Tree) (v : ℕ) → valueOf t ≡ some v → (f : ℕ → Frame → Outcome) (g : ℕ) (fr : Frame)
+  agree : (t : Tree) (v : ℕ) → valueOf t ≡ some v → (f : ℕ → Frame → Progress) (g : ℕ) (fr : Frame)
       → line c room f (opsOf t) g fr ≡ onward (trace (opsOf t) g (length (fr .stack))) (λ g′. f g′ (grown fr (length (opsOf t)) (v ∷ fr .stack)))
   agree (num n) v e f g fr = let q : n ≡ v = cc in rw (← q) (do-push f n g fr)
   agree (bin o l r) v e f g fr =
@@ -173,7 +174,7 @@ module _ (c room : ℕ) where
 abbrev pub last : Tree → ℕ → List ℕ → Frame
 last t v m = record { pos = length (opsOf t); stack = v ∷ []; storage = m; ops = 2 * kOf t }
 
-halts : (c room : ℕ) (f : ℕ → Frame → Outcome) (g : ℕ) (t : Tree) (v : ℕ) (m : List ℕ)
+halts : (c room : ℕ) (f : ℕ → Frame → Progress) (g : ℕ) (t : Tree) (v : ℕ) (m : List ℕ)
     → line c room f (halt ∷ []) g (grown (start m) (length (opsOf t)) (v ∷ [])) ≡ done g (last t v m)
 unfolding line
 halts c room f g t v m =
@@ -190,8 +191,8 @@ decided t v e c room g m =
 
 -- the same by the tree, where no list is made: for examples
 unfoldable pub meter : Tree → ℕ → ℕ → Metered
-meter (num n) g h = cond (ltb g 1) (broke (outOfGas 1 g)) (cond (not (ltb h 4096)) (broke stackLimitExceeded) (left (g - 1)))
-meter (bin o l r) g h = andThen (meter l g h) (λ g₁. andThen (meter r g₁ (suc h)) (λ g₂. cond (ltb g₂ 2) (broke (outOfGas 2 g₂)) (left (g₂ - 2))))
+meter (num n) g h = cond (ltb g 1) (refused (outOfGas 1 g)) (cond (not (ltb h 4096)) (refused stackLimitExceeded) (is (g - 1)))
+meter (bin o l r) g h = andThen (meter l g h) (λ g₁. andThen (meter r g₁ (suc h)) (λ g₂. cond (ltb g₂ 2) (refused (outOfGas 2 g₂)) (is (g₂ - 2))))
 
 trace-meter : (t : Tree) (g h : ℕ) → trace (opsOf t) g h ≡ meter t g h
 unfolding trace meter price isPush

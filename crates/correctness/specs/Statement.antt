@@ -20,7 +20,7 @@ use Rattle.checks.specs.Verify.{buffersFit}
 use Rattle.perform.specs.Numbers.{answerNumbered}
 use Rattle.perform.specs.Run.{Result}
 use Rattle.expression.specs.Tree.{Tree, valueOf, kOf, pOf}
-use Rattle.numbered.specs.Outcome.{is}
+use Rattle.base.specs.Outcome.{is}
 use Rattle.contract.specs.Assembled.{assembledTree}
 use Rattle.contract.specs.Output.{operationsOf}
 use Rattle.correctness.specs.Counting.{price, opAt, costBefore, Short, Fills}

@@ -7,7 +7,7 @@ use native.Mathlib.Omega.{arith}
 use lib.ListN.{length, getD, take, drop, set, length-append, length-set, drop-of-length-le}
 use lib.Seq.{length-take-le}
 use borrow.Author.Tests.{eq-eqb, ne-eqb}
-use Rattle.numbered.specs.Outcome.{is}
+use Rattle.base.specs.Outcome.{is}
 use Rattle.base.proofs.Parts.{middle}
 use Rattle.token.specs.Token.{tokens, scan}
 use Rattle.token.specs.Code.Places.{tokenAt}

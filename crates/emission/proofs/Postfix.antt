@@ -5,7 +5,7 @@ use mathlib.Core.List.{List, [], _∷_, _++_, append-nil, append-assoc}
 use mathlib.Core.Bool.{true, false}
 use native.Mathlib.Omega.{arith}
 use lib.ListN.{length}
-use Rattle.numbered.specs.Outcome.{is}
+use Rattle.base.specs.Outcome.{is}
 use Rattle.word.specs.Apply.{Binary}
 use Rattle.token.specs.Token.{tokens}
 use Rattle.expression.specs.Tree.{Tree, bin}

@@ -4,7 +4,8 @@ use mathlib.Core.Path.{_≡_, refl, ap, subst, _∙_}
 use mathlib.Core.List.{List}
 use lib.ListN.{length, take}
 use Rattle.ops.specs.declared.ParsedOps.{ParsedOps}
-use Rattle.ops.specs.Ops.{Reading, ops, refused, readText, answerOf, opsOf, kindsOf, Parsed}
+use Rattle.base.specs.Outcome.{is, refused}
+use Rattle.ops.specs.Ops.{Reading, readText, answerOf, opsOf, kindsOf, Parsed}
 use Rattle.ops.proofs.Front.{Front, front as read}
 use Rattle.perform.specs.declared.Answer.{Answer}
 use Rattle.perform.specs.Run.{Meets}
@@ -12,7 +13,7 @@ use Rattle.vm.specs.Transition.{meteredOf}
 use Rattle.examples.specs.Runs.{operations, countOf, call, ran, zeros, plainly, four, onFour, Ends, Stores, nines, Fills}
 
 pub counted : (r : Reading) → countOf (answerOf r) ≡ length (opsOf r)
-counted (ops os) = refl
+counted (is os) = refl
 counted (refused e) = refl
 
 -- where reading had room for 4,096

@@ -5,7 +5,7 @@ use mathlib.Core.Option.{some, none}
 use Prim.Native.String.{String}
 use lib.ListN.{replicate}
 use Rattle.numbered.specs.Numbered.{plain}
-use Rattle.numbered.specs.Outcome.{is, refused}
+use Rattle.base.specs.Outcome.{is, refused}
 use Rattle.decimal.specs.Decimal.{decimal}
 use Rattle.word.specs.Apply.{add, mul}
 use Rattle.base.specs.Ascii.{ascii}

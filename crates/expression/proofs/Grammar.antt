@@ -9,10 +9,11 @@ use native.Mathlib.Omega.{arith}
 use borrow.Author.Tests.{ltb-true, eqb-true, eqb-false}
 use lib.Dec.{eqb, ltb}
 use lib.ListN.{length}
+use Rattle.numbered.specs.declared.Numbered.{Numbered}
 use Rattle.numbered.specs.Numbered.{plain}
-use Rattle.numbered.specs.Outcome as Outcome
-use Rattle.numbered.specs.Outcome.{is}
+use Rattle.base.specs.Outcome.{Outcome, is, refused, andThen}
 use Rattle.base.proofs.Tests.{never, by-bool, by-or, between, and-left}
+use Rattle.base.proofs.Outcome.{not-is, is-same, then-is}
 use Rattle.word.specs.Apply.{Binary, add, sub, mul, div}
 use Rattle.decimal.specs.Decimal.{digit, allDigits, value}
 use Rattle.token.specs.Token.{allowed, tokens}
@@ -23,12 +24,12 @@ use Rattle.token.proofs.LongestMatch.{longest-match}
 use Rattle.expression.specs.Tree.{Tree, num, bin}
 use Rattle.expression.specs.Environment.{Env, lookup}
 use Rattle.expression.specs.Grammar.{factor, expression, Operator, times, over, plus, minus, Derives, number, name, parentheses, alone, join, depth}
-use Rattle.expression.specs.Parse.{Parse, done, refused, lone, joins, operator, joined, closed, nested, named, atom, parseF, moreF, enough, parsed, whole, meaning}
+use Rattle.expression.specs.Parse.{Parse, lone, joins, operator, joined, closed, nested, named, atom, parseF, moreF, enough, parsed, whole, meaning}
 use Rattle.expression.specs.Code.Cycle.{Reads}
-use Rattle.expression.proofs.Steps.{lone-is, looser, Left, starts, turns, stops, closes, number-read, name-read, more-refused, more-ends, more-joins, level-up, factor-opens, factor-atom}
+use Rattle.expression.proofs.Steps.{lone-is, looser, Left, starts, turns, stops, closes, number-read, name-read, more-ends, more-joins, level-up, factor-opens, factor-atom}
 
-not-done : {P : Type 0} (n : ℕ) (t : Tree) (ts : List (List ℕ)) → refused n ≡ done t ts → P
-not-done n t ts e = absurd (let z : _≡_ {A = ℕ} 0 1 = cc in omega arith)
+not-tree : {P : Type 0} (n : ℕ) (t : Tree) → refused (plain n) ≡ is t → P
+not-tree n t e = not-is e
 
 -- what is read of ts is derivable
 pub record Read (env : Env) (l d : ℕ) (ts : List (List ℕ)) (t : Tree) (rest : List (List ℕ)) : Type 0 where
@@ -81,42 +82,47 @@ digits-no-parenthesis (a ∷ b ∷ w) e o = omega arith
 
 module _ (env : Env) where
   abbrev Sound : ℕ → Type 0
-  Sound f = (l d : ℕ) (ts : List (List ℕ)) (t : Tree) (rest : List (List ℕ)) → Some ts → parseF f l env d ts ≡ done t rest → Read env l d ts t rest
+  Sound f = (l d : ℕ) (ts : List (List ℕ)) (t : Tree) (rest : List (List ℕ)) → Some ts → parseF f l env d ts ≡ is (t, rest) → Read env l d ts t rest
 
   abbrev SoundMore : ℕ → Type 0
-  SoundMore f = (l d : ℕ) (us ts : List (List ℕ)) (t u : Tree) (rest : List (List ℕ)) → Some ts → Derives env (suc l) d us t → moreF f l env d (done t ts) ≡ done u rest → Read env (suc l) d (us ++ ts) u rest
+  SoundMore f = (l d : ℕ) (us ts : List (List ℕ)) (t u : Tree) (rest : List (List ℕ)) → Some ts → Derives env (suc l) d us t → moreF f l env d (t, ts) ≡ is (u, rest) → Read env (suc l) d (us ++ ts) u rest
 
   -- a factor of one token
-  atom-sound : (d : ℕ) (w : List ℕ) (ts : List (List ℕ)) (t : Tree) (rest : List (List ℕ)) → 0 < length w → (lone w ≡ 40 → ⊥) → atom env w ts ≡ done t rest → Read env factor d (w ∷ ts) t rest
-  atom-sound d w ts t rest b o e =
+  atom-derives : (d : ℕ) (w : List ℕ) (t : Tree) → 0 < length w → (lone w ≡ 40 → ⊥) → atom env w ≡ is t → Derives env factor d (w ∷ []) t
+  atom-derives d w t b o e =
       by-bool (allDigits w)
       (λ a. by-bool (ltb (value w) (2 ^ 64))
-      (λ h.
-      let p : done (num (value w)) ts ≡ done t rest = simp (a, h) at e in
-      let q : num (value w) ≡ t = cc in
-      let r : ts ≡ rest = cc in
-      record { used = w ∷ []; parts = ap (λ (x : List (List ℕ)). w ∷ x) r; derives = subst (λ (x : Tree). Derives env factor d (w ∷ []) x) q (number b a (ltb-true (value w) (2 ^ 64) h)) })
-      (λ h. not-done 16 t rest (simp (a, h) at e)))
+      (λ h. same (num (value w)) (simp (a, h) at e) (number b a (ltb-true (value w) (2 ^ 64) h)))
+      (λ h. not-tree 16 t (simp (a, h) at e)))
       (λ a. found a (lookup w env) refl (simp a at e))
     where
-      found : allDigits w ≡ false → (o : Option Tree) → lookup w env ≡ o → named (lookup w env) ts ≡ done t rest → Read env factor d (w ∷ ts) t rest
-      found a none q p = not-done 17 t rest (rw q at p)
-      found a (some u) q p =
-          let p′ : done u ts ≡ done t rest = rw q at p in
-          let s : some u ≡ some t = cc in
-          let r : ts ≡ rest = cc in
-          record { used = w ∷ []; parts = ap (λ (x : List (List ℕ)). w ∷ x) r; derives = name (λ x. o (ap lone x)) a (q ∙ s) }
+      same : (u : Tree) → _≡_ {A = Outcome Numbered Tree} (is u) (is t) → Derives env factor d (w ∷ []) u → Derives env factor d (w ∷ []) t
+      same u p h = subst (Derives env factor d (w ∷ [])) (is-same p) h
 
-  closed-is : (r : Parse) (t : Tree) (rest : List (List ℕ)) → closed r ≡ done t rest → (w : List ℕ) × ((lone w ≡ 41) × (r ≡ done t (w ∷ rest)))
-  closed-is (refused n) t rest e = not-done n t rest e
-  closed-is (done u []) t rest e = not-done 14 t rest e
-  closed-is (done u (w ∷ ts)) t rest e =
+      found : allDigits w ≡ false → (o : Option Tree) → lookup w env ≡ o → named (lookup w env) ≡ is t → Derives env factor d (w ∷ []) t
+      found a none q p = not-tree 17 t (rw q at p)
+      found a (some u) q p = same u (rw q at p) (name (λ x. o (ap lone x)) a q)
+
+  atom-sound : (d : ℕ) (w : List ℕ) (ts : List (List ℕ)) (t : Tree) (rest : List (List ℕ)) → 0 < length w → (lone w ≡ 40 → ⊥) → _≡_ {A = Parse} (andThen (atom env w) (λ u. is (u, ts))) (is (t, rest)) → Read env factor d (w ∷ ts) t rest
+  atom-sound d w ts t rest b o e =
+      let c = then-is {B = Tree × List (List ℕ)} (atom env w) (λ u. is (u, ts)) e in
+      let p = is-same (c .2) in
+      record {
+        used = w ∷ [];
+        parts = ap (λ (r : Tree × List (List ℕ)). w ∷ r .1) p;
+        derives = subst (λ (r : Tree × List (List ℕ)). Derives env factor d (w ∷ []) (r .0)) p (atom-derives d w (c .0) b o (c .1));
+      }
+
+  closed-is : (r : Parse) (t : Tree) (rest : List (List ℕ)) → andThen r closed ≡ is (t, rest) → (w : List ℕ) × ((lone w ≡ 41) × (r ≡ is (t, w ∷ rest)))
+  closed-is (refused n) t rest e = not-is e
+  closed-is (is (u, [])) t rest e = not-is e
+  closed-is (is (u, w ∷ ts)) t rest e =
       by-bool (eqb (lone w) 41)
-      (λ h. let p : done u ts ≡ done t rest = simp h at e in (w, (eqb-true (lone w) 41 h, cc)))
-      (λ h. not-done 15 t rest (simp h at e))
+      (λ h. let p : _≡_ {A = Parse} (is (u, ts)) (is (t, rest)) = simp h at e in (w, (eqb-true (lone w) 41 h, ap (λ (r : Tree × List (List ℕ)). is (r .0, w ∷ r .1)) (is-same p))))
+      (λ h. let p : refused (plain 15) ≡ is (t, rest) = simp h at e in not-is p)
 
-  parentheses-sound : (f d : ℕ) (w : List ℕ) (ts : List (List ℕ)) (t : Tree) (rest : List (List ℕ)) → Sound f → Some ts → lone w ≡ 40 → nested d (λ e. parseF f expression env e ts) ≡ done t rest → Read env factor d (w ∷ ts) t rest
-  parentheses-sound f zero w ts t rest ih b o e = not-done 18 t rest e
+  parentheses-sound : (f d : ℕ) (w : List ℕ) (ts : List (List ℕ)) (t : Tree) (rest : List (List ℕ)) → Sound f → Some ts → lone w ≡ 40 → nested d (λ e. parseF f expression env e ts) ≡ is (t, rest) → Read env factor d (w ∷ ts) t rest
+  parentheses-sound f zero w ts t rest ih b o e = not-is e
   parentheses-sound f (suc d) w ts t rest ih b o e =
       let c = closed-is (parseF f expression env d ts) t rest e in
       let r = ih expression d ts t (c .0 ∷ rest) b (c .1 .1) in
@@ -126,43 +132,42 @@ module _ (env : Env) where
         derives = parentheses (r .derives);
       }
 
-  factor-sound : (f d : ℕ) (ts : List (List ℕ)) (t : Tree) (rest : List (List ℕ)) → Sound f → Some ts → parseF (suc f) factor env d ts ≡ done t rest → Read env factor d ts t rest
+  factor-sound : (f d : ℕ) (ts : List (List ℕ)) (t : Tree) (rest : List (List ℕ)) → Sound f → Some ts → parseF (suc f) factor env d ts ≡ is (t, rest) → Read env factor d ts t rest
   unfolding parseF
-  factor-sound f d [] t rest ih b e = not-done 14 t rest e
+  factor-sound f d [] t rest ih b e = not-is e
   factor-sound f d (w ∷ ts) t rest ih b e =
       by-bool (eqb (lone w) 40)
       (λ h. let o = eqb-true (lone w) 40 h in parentheses-sound f d w ts t rest ih (b .1) o (sym (factor-opens f env w ts d o) ∙ e))
       (λ h. let o = eqb-false (lone w) 40 h in atom-sound d w ts t rest (b .0) o (sym (factor-atom f env w ts d o) ∙ e))
 
-  level-sound : (f l d : ℕ) (ts : List (List ℕ)) (t : Tree) (rest : List (List ℕ)) → Sound f → SoundMore f → Some ts → parseF (suc f) (suc l) env d ts ≡ done t rest → Read env (suc l) d ts t rest
-  level-sound f l d ts t rest ih more b e = go (parseF f l env d ts) refl
+  level-sound : (f l d : ℕ) (ts : List (List ℕ)) (t : Tree) (rest : List (List ℕ)) → Sound f → SoundMore f → Some ts → parseF (suc f) (suc l) env d ts ≡ is (t, rest) → Read env (suc l) d ts t rest
+  level-sound f l d ts t rest ih more b e =
+      let c = then-is (parseF f l env d ts) (moreF f l env d) (sym (level-up f l env d ts) ∙ e) in
+      go (c .0) (c .1) (c .2)
     where
-      go : (r : Parse) → parseF f l env d ts ≡ r → Read env (suc l) d ts t rest
-      go (refused n) q = not-done n t rest (sym (level-up f l env d ts ∙ ap (moreF f l env d) q ∙ more-refused f l env d n) ∙ e)
-      go (done u us) q =
+      go : (r : Tree × List (List ℕ)) → parseF f l env d ts ≡ is r → moreF f l env d r ≡ is (t, rest) → Read env (suc l) d ts t rest
+      go (u, us) q m =
           let r = ih l d ts u us b q in
-          let s = more l d (r .used) us u t rest (some-behind (r .used) us (subst Some (r .parts) b)) (alone (r .derives)) (sym (level-up f l env d ts ∙ ap (moreF f l env d) q) ∙ e) in
+          let s = more l d (r .used) us u t rest (some-behind (r .used) us (subst Some (r .parts) b)) (alone (r .derives)) m in
           record { used = s .used; parts = r .parts ∙ s .parts; derives = s .derives }
 
-  ends-sound : (l d : ℕ) (us ts : List (List ℕ)) (t u : Tree) (rest : List (List ℕ)) → Derives env (suc l) d us t → done t ts ≡ done u rest → Read env (suc l) d (us ++ ts) u rest
+  ends-sound : (l d : ℕ) (us ts : List (List ℕ)) (t u : Tree) (rest : List (List ℕ)) → Derives env (suc l) d us t → _≡_ {A = Parse} (is (t, ts)) (is (u, rest)) → Read env (suc l) d (us ++ ts) u rest
   ends-sound l d us ts t u rest h e =
-      let p : t ≡ u = cc in
-      let q : ts ≡ rest = cc in
-      record { used = us; parts = ap (λ (x : List (List ℕ)). us ++ x) q; derives = subst (λ (x : Tree). Derives env (suc l) d us x) p h }
+      let p = is-same e in
+      record { used = us; parts = ap (λ (r : Tree × List (List ℕ)). us ++ r .1) p; derives = subst (λ (r : Tree × List (List ℕ)). Derives env (suc l) d us (r .0)) p h }
 
-  more-sound : (f l d : ℕ) (us ts : List (List ℕ)) (t u : Tree) (rest : List (List ℕ)) → Sound f → SoundMore f → Some ts → Derives env (suc l) d us t → moreF (suc f) l env d (done t ts) ≡ done u rest → Read env (suc l) d (us ++ ts) u rest
+  more-sound : (f l d : ℕ) (us ts : List (List ℕ)) (t u : Tree) (rest : List (List ℕ)) → Sound f → SoundMore f → Some ts → Derives env (suc l) d us t → moreF (suc f) l env d (t, ts) ≡ is (u, rest) → Read env (suc l) d (us ++ ts) u rest
   unfolding parseF
   more-sound f l d us [] t u rest ih more b h e = ends-sound l d us [] t u rest h e
   more-sound f l d us (w ∷ ts) t u rest ih more b h e =
       by-bool (joins (suc l) (lone w))
-      (λ j. go j (parseF f l env d ts) refl)
+      (λ j. let c = then-is (parseF f l env d ts) (λ r. moreF f l env d (joined (operator (lone w)) t r)) (sym (more-joins f l env d t w ts j) ∙ e) in go j (c .0) (c .1) (c .2))
       (λ j. ends-sound l d us (w ∷ ts) t u rest h (sym (more-ends (suc f) l env d t (w ∷ ts) j) ∙ e))
     where
-      go : joins (suc l) (lone w) ≡ true → (r : Parse) → parseF f l env d ts ≡ r → Read env (suc l) d (us ++ w ∷ ts) u rest
-      go j (refused n) q = not-done n u rest (sym (more-joins f l env d t w ts j ∙ ap (λ (x : Parse). moreF f l env d (joined (operator (lone w)) t x)) q ∙ more-refused f l env d n) ∙ e)
-      go j (done v vs) q =
+      go : joins (suc l) (lone w) ≡ true → (r : Tree × List (List ℕ)) → parseF f l env d ts ≡ is r → moreF f l env d (joined (operator (lone w)) t r) ≡ is (u, rest) → Read env (suc l) d (us ++ w ∷ ts) u rest
+      go j (v, vs) q m =
           let r = ih l d ts v vs (b .1) q in
-          let s = more l d (us ++ w ∷ r .used) vs (bin (operator (lone w)) t v) u rest (some-behind (r .used) vs (subst Some (r .parts) (b .1))) (join h (operator-of (suc l) w j) (r .derives)) (sym (more-joins f l env d t w ts j ∙ ap (λ (x : Parse). moreF f l env d (joined (operator (lone w)) t x)) q) ∙ e) in
+          let s = more l d (us ++ w ∷ r .used) vs (bin (operator (lone w)) t v) u rest (some-behind (r .used) vs (subst Some (r .parts) (b .1))) (join h (operator-of (suc l) w j) (r .derives)) m in
           record {
             used = s .used;
             parts = ap (λ (x : List (List ℕ)). us ++ w ∷ x) (r .parts) ∙ sym (append-assoc us (w ∷ r .used) vs) ∙ s .parts;
@@ -171,7 +176,7 @@ module _ (env : Env) where
 
   both-sound : (f : ℕ) → Sound f × SoundMore f
   unfolding parseF
-  both-sound zero = (λ l d ts t rest b e. not-done 14 t rest e, λ l d us ts t u rest b h e. ends-sound l d us ts t u rest h e)
+  both-sound zero = (λ l d ts t rest b e. not-is e, λ l d us ts t u rest b h e. ends-sound l d us ts t u rest h e)
   both-sound (suc f) = let ih = both-sound f in (each (ih .0) (ih .1), λ l d us ts t u rest b h e. more-sound f l d us ts t u rest (ih .0) (ih .1) b h e)
     where
       each : Sound f → SoundMore f → Sound (suc f)
@@ -210,30 +215,27 @@ module _ (env : Env) where
       (rw append-assoc (turns w (j .0) (complete h (w ∷ us ++ rest) (operator-stops l w (us ++ rest) (j .0))) (full l d us u (complete g) rest s)))
 
 -- the tokens of an accepted expression, and those of a derivable one
-accepted-derives : (env : Env) (ts : List (List ℕ)) (t : Tree) → Some ts → parsed env ts ≡ done t [] → Derives env expression depth ts t
+accepted-derives : (env : Env) (ts : List (List ℕ)) (t : Tree) → Some ts → parsed env ts ≡ is (t, []) → Derives env expression depth ts t
 accepted-derives env ts t b e =
     let r = both-sound env (enough expression ts) .0 expression depth ts t [] b e in
     subst (λ (x : List (List ℕ)). Derives env expression depth x t) (sym (r .parts ∙ append-nil (r .used))) (r .derives)
 
-derives-accepted : (env : Env) (ts : List (List ℕ)) (t : Tree) → Derives env expression depth ts t → parsed env ts ≡ done t []
+derives-accepted : (env : Env) (ts : List (List ℕ)) (t : Tree) → Derives env expression depth ts t → parsed env ts ≡ is (t, [])
 derives-accepted env ts t h =
     let r = full env expression depth ts t (complete env h) [] (refl, (refl, tt)) in
     let e = append-nil ts in
-    subst (λ (x : List (List ℕ)). parsed env x ≡ done t []) e (r .same (enough expression (ts ++ [])) (omega arith))
+    subst (λ (x : List (List ℕ)). parsed env x ≡ is (t, [])) e (r .same (enough expression (ts ++ [])) (omega arith))
 
-not-tree : {P : Type 0} (n : ℕ) (t : Tree) → Outcome.refused (plain n) ≡ is t → P
-not-tree n t e = absurd (let z : _≡_ {A = ℕ} 0 1 = cc in omega arith)
+whole-is : (r : Parse) (t : Tree) → andThen r whole ≡ is t → r ≡ is (t, [])
+whole-is (is (u, [])) t e = ap (λ (x : Tree). is (x, [])) (is-same e)
+whole-is (is (u, w ∷ ts)) t e = not-is e
+whole-is (refused n) t e = not-is e
 
-whole-is : (r : Parse) (t : Tree) → whole r ≡ is t → r ≡ done t []
-whole-is (done u []) t e = let p : u ≡ t = cc in ap (λ (x : Tree). done x []) p
-whole-is (done u (w ∷ ts)) t e = not-tree 19 t e
-whole-is (refused n) t e = not-tree n t e
-
-pub meaning-whole : (env : Env) (s : List ℕ) → allowed s ≡ true → meaning env s ≡ whole (parsed env (tokens s))
+pub meaning-whole : (env : Env) (s : List ℕ) → allowed s ≡ true → meaning env s ≡ andThen (parsed env (tokens s)) whole
 unfolding meaning
 meaning-whole env s a = rw (a, meaning)
 
-pub meaning-not-allowed : (env : Env) (s : List ℕ) → allowed s ≡ false → meaning env s ≡ Outcome.refused (plain 13)
+pub meaning-not-allowed : (env : Env) (s : List ℕ) → allowed s ≡ false → meaning env s ≡ refused (plain 13)
 unfolding meaning
 meaning-not-allowed env s a = rw (a, meaning)
 
@@ -251,8 +253,8 @@ grammar env s t = (λ e. (tokens s, meaning-derives env s t e), λ h. back (h .0
     back : (ts : List (List ℕ)) → Tokens s ts → Derives env expression depth ts t → meaning env s ≡ is t
     back ts k h =
         let l = longest-match s ts .0 k in
-        meaning-whole env s (l .0) ∙ ap (λ (x : List (List ℕ)). whole (parsed env x)) (l .1) ∙ ap whole (derives-accepted env ts t h)
+        meaning-whole env s (l .0) ∙ ap (λ (x : List (List ℕ)). andThen (parsed env x) whole) (l .1) ∙ ap (λ (r : Parse). andThen r whole) (derives-accepted env ts t h)
 
 -- tokens are an expression with one tree alone
 pub unique : (env : Env) (ts : List (List ℕ)) (t u : Tree) → Derives env expression depth ts t → Derives env expression depth ts u → t ≡ u
-unique env ts t u g h = let p = derives-accepted env ts t g in let q = derives-accepted env ts u h in cc
+unique env ts t u g h = ap (λ (r : Tree × List (List ℕ)). r .0) (is-same (sym (derives-accepted env ts t g) ∙ derives-accepted env ts u h))

@@ -6,7 +6,8 @@ use mathlib.Core.Bool.{true, false}
 use native.Mathlib.Omega.{arith}
 use lib.ListN.{drop}
 use Rattle.numbered.specs.Numbered.{plain}
-use Rattle.numbered.specs.Outcome.{Outcome, is, refused}
+use Rattle.numbered.specs.declared.Numbered.{Numbered}
+use Rattle.base.specs.Outcome.{Outcome, is, refused, andThen}
 use Rattle.token.specs.Token.{allowed, scan, tokens}
 use Rattle.token.specs.Code.Places.{tokenAt, lastEnd}
 use Rattle.token.specs.declared.Token.{Token}
@@ -17,7 +18,7 @@ use Rattle.expression.specs.declared.ExprError.the-variants.{InvalidChar
 use Rattle.expression.specs.declared.Parsed.{Parsed}
 use Rattle.expression.specs.declared.Parsed.the-variants.{Done, Refused}
 use Rattle.expression.specs.Tree.{Tree}
-use Rattle.expression.specs.Parse.{Env, done, enough, parseF, moreF, whole, meaning, expression, depth}
+use Rattle.expression.specs.Parse.{Env, Parse, enough, parseF, moreF, whole, meaning, expression, depth}
 use Rattle.expression.specs.Code.Figures.{Figures}
 use Rattle.expression.specs.Code.Table.{Columns, columnsOf, Told, few, Holds}
 use Rattle.expression.specs.Answer.{exprErrorNumbered}
@@ -28,7 +29,7 @@ use Rattle.expression.proofs.Signs.{none-of, next-of}
 use Rattle.expression.proofs.Grammar.{meaning-whole, meaning-not-allowed}
 
 -- from what a text means to what is promised of it
-means : (s : List ℕ) (at : ℕ) (c : Columns) (r : Parsed) → EndsLast s r → ((env : Env) → Told s c (few (c .count)) env → (m : Outcome Tree) × ((meaning env (drop at s) ≡ m) × ((said r ≡ due m) × Short m))) → Answers s at c r
+means : (s : List ℕ) (at : ℕ) (c : Columns) (r : Parsed) → EndsLast s r → ((env : Env) → Told s c (few (c .count)) env → (m : Outcome Numbered Tree) × ((meaning env (drop at s) ≡ m) × ((said r ≡ due m) × Short m))) → Answers s at c r
 means s at c r o f = record {
   is = λ env h. let x = f env h in x .1 .1 .0 ∙ sym (ap due (x .1 .0));
   short = λ env h. let x = f env h in subst Short (sym (x .1 .0)) (x .1 .1 .1);
@@ -71,7 +72,7 @@ module _ (s : List ℕ) (at : ℕ) (c : Columns) (n : ℕ) (few-is : n ≡ few (
   pub refused-answers : {e : ExprError} → Meets s at (recount n c) expression depth (Refused e) → Answers s at c (Refused e)
   refused-answers {e} m = means s at c _ tt (λ env h.
       let x = m .means env (holds env h) in
-      (refused (plain (exprErrorNumbered e .number)), (meaning-whole env (drop at s) a ∙ ap whole (x .same (enough expression (tokens (drop at s))) (omega arith)), (refl, tt))))
+      (refused (exprErrorNumbered e), (meaning-whole env (drop at s) a ∙ ap (λ (p : Parse). andThen p whole) (x .same (enough expression (tokens (drop at s))) (omega arith)), (refl, tt))))
 
   pub done-answers : {v : Read} (ts : List (List ℕ)) → tokens (drop (v .next) s) ≡ ts → Meets s at (recount n c) expression depth (Done v) → Answers s at c (wholeRead ts v)
   done-answers {v} [] q m = means s at c _ (read-ends (m .fine) q) (λ env h.
@@ -79,13 +80,13 @@ module _ (s : List ℕ) (at : ℕ) (c : Columns) (n : ℕ) (few-is : n ≡ few (
       let f = x .1 .1 in (
         is (x .0),
         (
-          meaning-whole env (drop at s) a ∙ ap whole (x .1 .0 .same (enough expression (tokens (drop at s))) (omega arith) ∙ ap (done (x .0)) q),
+          meaning-whole env (drop at s) a ∙ ap (λ (p : Parse). andThen p whole) (x .1 .0 .same (enough expression (tokens (drop at s))) (omega arith) ∙ ap (λ (ts : List (List ℕ)). is (x .0, ts)) q),
           (figures-said f, f .short),
         ),
       ))
   done-answers {v} (w ∷ ts) q m = means s at c _ tt (λ env h.
       let x = m .means env (holds env h) in
-      (refused (plain 19), (meaning-whole env (drop at s) a ∙ ap whole (x .1 .0 .same (enough expression (tokens (drop at s))) (omega arith) ∙ ap (done (x .0)) q), (refl, tt))))
+      (refused (plain 19), (meaning-whole env (drop at s) a ∙ ap (λ (p : Parse). andThen p whole) (x .1 .0 .same (enough expression (tokens (drop at s))) (omega arith) ∙ ap (λ (ts : List (List ℕ)). is (x .0, ts)) q), (refl, tt))))
 
 -- the token that follows what was read
 module _ (s : List ℕ) (v : Read) (t : Token) (e : t ≡ tokenAt s (v .next)) where

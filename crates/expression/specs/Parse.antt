@@ -6,8 +6,8 @@ use mathlib.Core.Option.{Option, some, none}
 use lib.Dec.{eqb, ltb}
 use lib.ListN.{length}
 use Rattle.numbered.specs.Numbered.{plain}
-use Rattle.numbered.specs.Outcome as Outcome
-use Rattle.numbered.specs.Outcome.{Outcome, is}
+use Rattle.numbered.specs.declared.Numbered.{Numbered}
+use Rattle.base.specs.Outcome.{Outcome, is, refused, andThen}
 use Rattle.word.specs.Apply.{Binary, add, sub, mul, div}
 use Rattle.decimal.specs.Decimal.{allDigits, value}
 use Rattle.token.specs.Token.{allowed, tokens}
@@ -15,10 +15,9 @@ use Rattle.expression.specs.Tree.{Tree, num, bin}
 pub use Rattle.expression.specs.Environment.{Binding, Env, lookup}
 pub use Rattle.expression.specs.Grammar.{factor, term, expression, depth}
 
--- the tree that is read and the tokens that follow, or the number of a refusal
-pub data Parse : Type 0 where
-  done : Tree → List (List ℕ) → Parse
-  refused : ℕ → Parse
+-- the tree that is read and the tokens that follow, or the refusal
+abbrev pub Parse : Type 0
+Parse = Outcome Numbered (Tree × List (List ℕ))
 
 -- the byte of a token of one byte, else 0
 abbrev pub lone : List ℕ → ℕ
@@ -37,46 +36,43 @@ joins (suc (suc (suc l))) a = false
 abbrev pub operator : ℕ → Binary
 operator a = cond (eqb a 43) add (cond (eqb a 45) sub (cond (eqb a 42) mul div))
 
-abbrev pub joined : Binary → Tree → Parse → Parse
-joined op l (done r ts) = done (bin op l r) ts
-joined op l (refused n) = refused n
+abbrev pub joined : Binary → Tree → Tree × List (List ℕ) → Tree × List (List ℕ)
+joined op l (r, ts) = (bin op l r, ts)
 
 -- what is read behind `(`, with the `)` that is due
-abbrev pub closed : Parse → Parse
-closed (refused n) = refused n
-closed (done t []) = refused 14
-closed (done t (w ∷ ts)) = cond (eqb (lone w) 41) (done t ts) (refused 15)
+abbrev pub closed : Tree × List (List ℕ) → Parse
+closed (t, []) = refused (plain 14)
+closed (t, w ∷ ts) = cond (eqb (lone w) 41) (is (t, ts)) (refused (plain 15))
 
 -- `(` where d more parentheses may be open
 abbrev pub nested : ℕ → (ℕ → Parse) → Parse
-nested zero inner = refused 18
-nested (suc d) inner = closed (inner d)
+nested zero inner = refused (plain 18)
+nested (suc d) inner = andThen (inner d) closed
 
-abbrev pub named : Option Tree → List (List ℕ) → Parse
-named none ts = refused 17
-named (some t) ts = done t ts
+abbrev pub named : Option Tree → Outcome Numbered Tree
+named none = refused (plain 17)
+named (some t) = is t
 
-abbrev pub literal : List ℕ → List (List ℕ) → Parse
-literal w ts = cond (ltb (value w) (2 ^ 64)) (done (num (value w)) ts) (refused 16)
+abbrev pub literal : List ℕ → Outcome Numbered Tree
+literal w = cond (ltb (value w) (2 ^ 64)) (is (num (value w))) (refused (plain 16))
 
 -- a factor of one token
-abbrev pub atom : Env → List ℕ → List (List ℕ) → Parse
-atom env w ts = cond (allDigits w) (literal w ts) (named (lookup w env) ts)
+abbrev pub atom : Env → List ℕ → Outcome Numbered Tree
+atom env w = cond (allDigits w) (literal w) (named (lookup w env))
 
 -- Fuel, level, environment, how many parentheses more may be open, tokens. A fuel of 8 for each token and one more than the level is enough.
 unfoldable mutual
   pub parseF : ℕ → ℕ → Env → ℕ → List (List ℕ) → Parse
-  parseF zero l env d ts = refused 14
-  parseF (suc f) zero env d [] = refused 14
-  parseF (suc f) zero env d (w ∷ ts) = elim (eqb (lone w) 40) [ true ↦ nested d (λ e. parseF f expression env e ts) | false ↦ atom env w ts ]
-  parseF (suc f) (suc l) env d ts = moreF f l env d (parseF f l env d ts)
+  parseF zero l env d ts = refused (plain 14)
+  parseF (suc f) zero env d [] = refused (plain 14)
+  parseF (suc f) zero env d (w ∷ ts) = elim (eqb (lone w) 40) [ true ↦ nested d (λ e. parseF f expression env e ts) | false ↦ andThen (atom env w) (λ t. is (t, ts)) ]
+  parseF (suc f) (suc l) env d ts = andThen (parseF f l env d ts) (λ r. moreF f l env d r)
 
   -- what level l + 1 joins to a tree of it that is read
-  pub moreF : ℕ → ℕ → Env → ℕ → Parse → Parse
-  moreF zero l env d r = r
-  moreF (suc f) l env d (refused n) = refused n
-  moreF (suc f) l env d (done t []) = done t []
-  moreF (suc f) l env d (done t (w ∷ ts)) = elim (joins (suc l) (lone w)) [ true ↦ moreF f l env d (joined (operator (lone w)) t (parseF f l env d ts)) | false ↦ done t (w ∷ ts) ]
+  pub moreF : ℕ → ℕ → Env → ℕ → Tree × List (List ℕ) → Parse
+  moreF zero l env d r = is r
+  moreF (suc f) l env d (t, []) = is (t, [])
+  moreF (suc f) l env d (t, w ∷ ts) = elim (joins (suc l) (lone w)) [ true ↦ andThen (parseF f l env d ts) (λ r. moreF f l env d (joined (operator (lone w)) t r)) | false ↦ is (t, w ∷ ts) ]
 
 abbrev pub enough : ℕ → List (List ℕ) → ℕ
 enough l ts = 8 * length ts + suc l
@@ -85,11 +81,10 @@ enough l ts = 8 * length ts + suc l
 abbrev pub parsed : Env → List (List ℕ) → Parse
 parsed env ts = parseF (enough expression ts) expression env depth ts
 
-abbrev pub whole : Parse → Outcome Tree
-whole (done t []) = is t
-whole (done t (w ∷ ts)) = Outcome.refused (plain 19)
-whole (refused n) = Outcome.refused (plain n)
+abbrev pub whole : Tree × List (List ℕ) → Outcome Numbered Tree
+whole (t, []) = is t
+whole (t, w ∷ ts) = refused (plain 19)
 
 -- what a text means as a whole expression: its tree, or the refusal
-unfoldable pub meaning : Env → List ℕ → Outcome Tree
-meaning env s = elim (allowed s) [ true ↦ whole (parsed env (tokens s)) | false ↦ Outcome.refused (plain 13) ]
+unfoldable pub meaning : Env → List ℕ → Outcome Numbered Tree
+meaning env s = elim (allowed s) [ true ↦ andThen (parsed env (tokens s)) whole | false ↦ refused (plain 13) ]

@@ -11,7 +11,7 @@ use lib.Dec.{ltb, eqb}
 use Rattle.word.specs.Apply.{Binary, add, sub, mul, div, eq, lt, apply}
 use Rattle.kinds.specs.Kinds.{Operation, operation}
 use Rattle.kinds.proofs.ByKind.{Span, end, _&_, span}
-use Rattle.machine.specs.Machine.{stackLimitExceeded, outsideStorage, Frame, Effect, moves, jumps, ends, fails, Act, over, costs, Outcome, next, done, stop, storeAt, pushOf, valueOf, twoOf, dupOf, swapOf, jumpIfOf, storeOf, effectOf, priceOf, halt, settle, pay, actOf, machine, follow, runOf, start, whole}
+use Rattle.machine.specs.Machine.{stackLimitExceeded, outsideStorage, Frame, Effect, moves, jumps, ends, fails, Act, over, costs, next, done, stop, storeAt, pushOf, valueOf, twoOf, dupOf, swapOf, jumpIfOf, storeOf, effectOf, priceOf, halt, settle, pay, actOf, machine, follow, runOf, start, whole, Progress}
 use Rattle.machine.specs.Code.Alike.{holding, AlikeBut}
 use Rattle.machine.proofs.Program.{effect-high}
 use Rattle.machine.proofs.Runs.{unpaid, afforded}
@@ -137,7 +137,7 @@ module _ (R : List ℕ → List ℕ → Type 0) where
         act : Frame → Act
         act = machine program c room
 
-        go : (o o′ : Outcome) → AlikeBut R o o′ → ((h : ℕ) (f : Frame) (x : List ℕ) → R (f .storage) x → AlikeBut R (runOf act n h f) (runOf act n h (holding x f)))
+        go : (o o′ : Progress) → AlikeBut R o o′ → ((h : ℕ) (f : Frame) (x : List ℕ) → R (f .storage) x → AlikeBut R (runOf act n h f) (runOf act n h (holding x f)))
             → AlikeBut R (follow o (runOf act n)) (follow o′ (runOf act n))
         go (next h f) o′ w ih = rw (w .1) (ih h f (w .0) (w .2))
         go (done h f) o′ w ih = rw (w .1) (w .0, refl, w .2)

@@ -18,13 +18,13 @@ module _ {lo : ℕ} {effect : List ℕ → List ℕ → Effect} {r q : Regs} {s 
   pub fails-by : (code note : ℕ) → q ≡ stopped r code note → 2 ≤ code → lo ≤ r .pos + 1 → r .items ≤ 4096 → r .used ≤ length w
       → effect (down (r .items) s) (take (r .used) w) ≡ fails (faultOf code note (r .gas)) → Did lo effect r q s w s w
   fails-by code note e two pos items used f =
-      rw e (record { outcome = refused code note (r .gas) (frameOf s w r) two ∙ rw f; kept = omega arith })
+      rw e (record { progress = refused code note (r .gas) (frameOf s w r) two ∙ rw f; kept = omega arith })
 
   module _ {s′ w′ : List ℕ} where
     pub moves-by : (items used : ℕ) → q ≡ goneOn r (r .pos + 1) items used → lo ≤ r .pos + 1 → items ≤ 4096 → used ≤ length w
         → effect (down (r .items) s) (take (r .used) w) ≡ moves (down items s′) (take used w′) → Did lo effect r q s w s′ w′
-    moves-by items used e pos i u f = rw e (record { outcome = rw f; kept = omega arith })
+    moves-by items used e pos i u f = rw e (record { progress = rw f; kept = omega arith })
 
     pub jumps-by : (t items used : ℕ) → q ≡ goneOn r t items used → lo ≤ t → items ≤ 4096 → used ≤ length w
         → effect (down (r .items) s) (take (r .used) w) ≡ jumps t (down items s′) (take used w′) → Did lo effect r q s w s′ w′
-    jumps-by t items used e pos i u f = rw e (record { outcome = rw f; kept = omega arith })
+    jumps-by t items used e pos i u f = rw e (record { progress = rw f; kept = omega arith })

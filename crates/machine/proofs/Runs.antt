@@ -11,7 +11,7 @@ use lib.Dec.{ltb}
 use borrow.Author.Tests.{lt-ltb, le-ltb}
 use Rattle.kinds.specs.Kinds.{Operation, kindOf}
 use Rattle.kinds.proofs.ByKind.{priced as kind-priced}
-use Rattle.machine.specs.Machine.{outOfGas, Frame, Effect, moves, jumps, ends, fails, Act, over, costs, Outcome, next, done, stop, effectOf, halt, settle, pay, actOf, machine, follow, runOf, start, whole}
+use Rattle.machine.specs.Machine.{outOfGas, Frame, Effect, moves, jumps, ends, fails, Act, over, costs, Progress, next, done, stop, effectOf, halt, settle, pay, actOf, machine, follow, runOf, start, whole}
 use Rattle.machine.proofs.Program.{effect-high}
 
 -- an operation that goes on costs at least 1
@@ -58,14 +58,14 @@ unfolding runOf
 split act zero m g fr = rw zero-add
 split act (suc n) m g fr = rw suc-add (go (pay g fr (act fr)) (λ h f. split act n m h f))
   where
-    go : (o : Outcome) → ((h : ℕ) (f : Frame) → runOf act (n + m) h f ≡ follow (runOf act n h f) (runOf act m))
+    go : (o : Progress) → ((h : ℕ) (f : Frame) → runOf act (n + m) h f ≡ follow (runOf act n h f) (runOf act m))
         → follow o (runOf act (n + m)) ≡ follow (follow o (runOf act n)) (runOf act m)
     go (next h f) ih = ih h f
     go (done h f) ih = refl
     go (stop e) ih = refl
 
--- what an outcome has counted: a run that goes on has paid 1 or more for each operation, and a done one for each but a Halt
-abbrev pub Counted : ℕ → Outcome → Type 0
+-- what a run has counted: a run that goes on has paid 1 or more for each operation, and a done one for each but a Halt
+abbrev pub Counted : ℕ → Progress → Type 0
 Counted n (next h fr) = fr .ops + h ≤ n
 Counted n (done h fr) = fr .ops + h ≤ n + 1
 Counted n (stop f) = Unit {0}
@@ -76,7 +76,7 @@ unfolding runOf
 counted act pr zero g fr = omega arith
 counted act pr (suc n) g fr = go (act fr) (pr fr) (λ h f l. more (f .ops + h) (fr .ops + g) (runOf act n h f) l (counted act pr n h f))
   where
-    more : (a b : ℕ) (o : Outcome) → a ≤ b → Counted a o → Counted b o
+    more : (a b : ℕ) (o : Progress) → a ≤ b → Counted a o → Counted b o
     more a b (next h f) l q = omega arith
     more a b (done h f) l q = omega arith
     more a b (stop f) l q = tt
@@ -95,7 +95,7 @@ counted act pr (suc n) g fr = go (act fr) (pr fr) (λ h f l. more (f .ops + h) (
     go over one ih = omega arith
     go (costs p e) one ih = paid p e one ih (decLt g p)
 
-abbrev pub Ended : Outcome → Type 0
+abbrev pub Ended : Progress → Type 0
 Ended (next h fr) = ⊥
 Ended (done h fr) = Unit {0}
 Ended (stop f) = Unit {0}

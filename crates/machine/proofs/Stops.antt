@@ -10,7 +10,7 @@ use lib.Dec.{ltb, eqb}
 use Rattle.word.specs.Apply.{Binary, add, sub, mul, div, eq, lt, apply}
 use Rattle.kinds.specs.Kinds.{Operation, operation}
 use Rattle.kinds.proofs.ByKind.{Span, end, _&_, span}
-use Rattle.machine.specs.Machine.{Fault, outOfGas, stackUnderflow, stackLimitExceeded, divisionByZero, storageLimitExceeded, outsideStorage, Frame, Effect, moves, jumps, ends, fails, over, costs, Outcome, next, done, stop, storeAt, pushOf, valueOf, twoOf, dupOf, swapOf, jumpIfOf, loadOf, storeOf, requested, effectOf, priceOf, halt, settle, pay, actOf, machine, follow, runOf, start, whole}
+use Rattle.machine.specs.Machine.{Fault, outOfGas, stackUnderflow, stackLimitExceeded, divisionByZero, storageLimitExceeded, outsideStorage, Frame, Effect, moves, jumps, ends, fails, over, costs, next, done, stop, storeAt, pushOf, valueOf, twoOf, dupOf, swapOf, jumpIfOf, loadOf, storeOf, requested, effectOf, priceOf, halt, settle, pay, actOf, machine, follow, runOf, start, whole, Progress}
 use Rattle.machine.proofs.Program.{effect-high}
 use Rattle.machine.proofs.Runs.{unpaid, afforded}
 
@@ -100,7 +100,7 @@ module _ (g : ℕ) where
   Short outsideStorage = Unit {0}
 
   -- the gas left is never more than the limit
-  abbrev pub Stops : Outcome → Type 0
+  abbrev pub Stops : Progress → Type 0
   Stops (next h fr) = h ≤ g
   Stops (done h fr) = h ≤ g
   Stops (stop f) = Short f
@@ -142,7 +142,7 @@ module _ (g : ℕ) where
     run-stops zero h fr l = l
     run-stops (suc n) h fr l = go (pay h fr (machine program c room fr)) (step-stops h fr l) (λ i f k. run-stops n i f k)
       where
-        go : (o : Outcome) → Stops o → ((i : ℕ) (f : Frame) → i ≤ g → Stops (runOf (machine program c room) n i f)) → Stops (follow o (runOf (machine program c room) n))
+        go : (o : Progress) → Stops o → ((i : ℕ) (f : Frame) → i ≤ g → Stops (runOf (machine program c room) n i f)) → Stops (follow o (runOf (machine program c room) n))
         go (next i f) p ih = ih i f p
         go (done i f) p ih = p
         go (stop f) p ih = p

@@ -38,13 +38,13 @@ pub data Act : Type 0 where
   costs : ℕ → Effect → Act
 
 -- a run goes on, is done, or is refused; with the gas left
-pub data Outcome : Type 0 where
-  next : ℕ → Frame → Outcome
-  done : ℕ → Frame → Outcome
-  stop : Fault → Outcome
+pub data Progress : Type 0 where
+  next : ℕ → Frame → Progress
+  done : ℕ → Frame → Progress
+  stop : Fault → Progress
 
--- what comes after an outcome that goes on
-abbrev pub follow : Outcome → (ℕ → Frame → Outcome) → Outcome
+-- what comes after a run that goes on
+abbrev pub follow : Progress → (ℕ → Frame → Progress) → Progress
 follow (next g fr) k = k g fr
 follow (done g fr) k = done g fr
 follow (stop f) k = stop f
@@ -114,14 +114,14 @@ abbrev pub priceOf : Operation → (used : ℕ) → ℕ
 priceOf o used = kindOf (o .kind) .price
 
 -- what an effect makes of a frame, with the gas left after the price
-abbrev pub settle : ℕ → Frame → Effect → Outcome
+abbrev pub settle : ℕ → Frame → Effect → Progress
 settle g fr (moves s m) = next g (record { pos = fr .pos + 1; stack = s; storage = m; ops = fr .ops + 1 })
 settle g fr (jumps t s m) = next g (record { pos = t; stack = s; storage = m; ops = fr .ops + 1 })
 settle g fr ends = done g (record { pos = fr .pos; stack = fr .stack; storage = fr .storage; ops = fr .ops + 1 })
 settle g fr (fails f) = stop f
 
 -- the price is taken before anything else is looked at
-abbrev pub pay : ℕ → Frame → Act → Outcome
+abbrev pub pay : ℕ → Frame → Act → Progress
 pay g fr over = done g fr
 pay g fr (costs p e) = cond (ltb g p) (stop (outOfGas p g)) (settle (g - p) fr e)
 
@@ -142,7 +142,7 @@ abbrev pub machine : List Operation → (c room : ℕ) → Frame → Act
 machine program c room fr = cond (ltb (fr .pos) (length program)) (actOf c room (getD program (fr .pos) halt) fr) over
 
 -- at most n operations
-unfoldable pub runOf : (Frame → Act) → ℕ → ℕ → Frame → Outcome
+unfoldable pub runOf : (Frame → Act) → ℕ → ℕ → Frame → Progress
 runOf act zero g fr = next g fr
 runOf act (suc n) g fr = follow (pay g fr (act fr)) (runOf act n)
 
@@ -151,5 +151,5 @@ abbrev pub start : List ℕ → Frame
 start m = record { pos = 0; stack = []; storage = m; ops = 0 }
 
 -- a whole run under the limit g: an operation that goes on costs at least 1, so g + 1 operations end it
-unfoldable pub whole : List Operation → (c room g : ℕ) → List ℕ → Outcome
+unfoldable pub whole : List Operation → (c room g : ℕ) → List ℕ → Progress
 whole program c room g m = runOf (machine program c room) (g + 1) g (start m)

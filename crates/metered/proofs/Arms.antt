@@ -31,7 +31,7 @@ arm k lo price caller kind v {r = r} {p = p} {q = q} {w = w} e pe c le one side 
     let side′ : (r .pos + 1 ≤ lo) ⊎ (2 ≤ price) = rw c′ (rw pe at side) in
     let kept : Kept lo (length w) (paid r price) q = rw pe at (did .kept) in
     record {
-      outcome = rw (e, ← c′, le-ltb (r .gas) price le) (rw pe at (did .outcome));
+      progress = rw (e, ← c′, le-ltb (r .gas) price le) (rw pe at (did .progress));
       held = held-by (length w) lo price r q (run .held) (run .code) le (rw c′ one) side′ kept;
       gas = omega arith;
       falls = omega (arith, rw (← c′) at one);
@@ -39,17 +39,17 @@ arm k lo price caller kind v {r = r} {p = p} {q = q} {w = w} e pe c le one side 
 
 pub out-of-gas : {caller price n : ℕ} {op : Operation} {r q : Regs} {s w : List ℕ} → q ≡ stopped r 46 price → price ≡ kindOf (op .kind) .price → r .gas < price
     → Running r n (length w) → Stepped caller op r q s w s w
-out-of-gas {price = price} {r = r} e c lt run = rw e (record { outcome = rw (← c, lt-ltb (r .gas) price lt); held = omega arith; gas = omega arith; falls = omega arith })
+out-of-gas {price = price} {r = r} e c lt run = rw e (record { progress = rw (← c, lt-ltb (r .gas) price lt); held = omega arith; gas = omega arith; falls = omega arith })
 
 pub ends-by : (kind v : ℕ) {caller price n : ℕ} {r p q : Regs} {s w : List ℕ} → 15 ≤ kind → q ≡ ended p (p .ops + 1) → p ≡ paid r price → price ≡ kindOf kind .price → price ≤ r .gas
     → Running r n (length w) → Stepped caller (operation kind v) r q s w s w
 ends-by kind v {caller = caller} {price = price} {r = r} {w = w} h e pe c le run =
     let c′ : price ≡ 0 = c ∙ unpriced kind h in
-    rw (e, pe) (record { outcome = rw (effect-high caller (length w) kind v h, unpriced kind h, c′, le-ltb (r .gas) 0 (omega arith)); held = omega arith; gas = omega arith; falls = omega arith })
+    rw (e, pe) (record { progress = rw (effect-high caller (length w) kind v h, unpriced kind h, c′, le-ltb (r .gas) 0 (omega arith)); held = omega arith; gas = omega arith; falls = omega arith })
 
 -- a leaf of `step`
 pub at-kind : (k kind v : ℕ) {caller : ℕ} {r q : Regs} {s w s′ w′ : List ℕ} → kind ≡ k → Stepped caller (operation k v) r q s w s′ w′ → Stepped caller (operation kind v) r q s w s′ w′
 at-kind k kind v e d = rw e d
 
 pub at-halt : (kind v : ℕ) {caller : ℕ} {r q : Regs} {s w s′ w′ : List ℕ} → 15 ≤ kind → Stepped caller (operation 15 v) r q s w s′ w′ → Stepped caller (operation kind v) r q s w s′ w′
-at-halt kind v {caller = caller} {w = w} h d = record { outcome = rw (effect-high caller (length w) kind v h, unpriced kind h) (d .outcome); held = d .held; gas = d .gas; falls = d .falls }
+at-halt kind v {caller = caller} {w = w} h d = record { progress = rw (effect-high caller (length w) kind v h, unpriced kind h) (d .progress); held = d .held; gas = d .gas; falls = d .falls }

@@ -6,9 +6,9 @@ use mathlib.Core.List.{List}
 use lib.ListN.{length, getD}
 use borrow.Author.Tests.{lt-ltb, le-ltb}
 use Rattle.kinds.specs.Kinds.{operation}
-use Rattle.machine.specs.Machine.{decode, Frame, Act, over, Outcome, next, pay, actOf, machine, runOf}
+use Rattle.machine.specs.Machine.{decode, Frame, Act, over, Progress, next, pay, actOf, machine, runOf}
 use Rattle.machine.specs.declared.Regs.{Regs}
-use Rattle.machine.specs.Code.Registers.{frameOf, byCode, outcomeOf, Stepped}
+use Rattle.machine.specs.Code.Registers.{frameOf, byCode, progressOf, Stepped}
 use Rattle.machine.proofs.Program.{decode-length, decode-at}
 
 module _ (ks vs : List ℕ) (c room : ℕ) (fr : Frame) (same : length ks ≡ length vs) where
@@ -19,12 +19,12 @@ module _ (ks vs : List ℕ) (c room : ℕ) (fr : Frame) (same : length ks ≡ le
   act-over h = rw (decode-length ks vs same, le-ltb (fr .pos) (length ks) h)
 
 -- what every run that is long enough comes to
-abbrev pub ComesTo : (Frame → Act) → ℕ → Frame → Outcome → Type 0
+abbrev pub ComesTo : (Frame → Act) → ℕ → Frame → Progress → Type 0
 ComesTo act g fr o = (n : ℕ) → g < n → runOf act n g fr ≡ o
 
 -- a run comes to what it comes to from a later frame
 abbrev pub Leads : (Frame → Act) → ℕ → Frame → ℕ → Frame → Type 0
-Leads act g fr g′ fr′ = (o : Outcome) → ComesTo act g′ fr′ o → ComesTo act g fr o
+Leads act g fr g′ fr′ = (o : Progress) → ComesTo act g′ fr′ o → ComesTo act g fr o
 
 pub goes-on : (act : Frame → Act) (g g′ : ℕ) (fr fr′ : Frame) → pay g fr (act fr) ≡ next g′ fr′ → g′ < g → Leads act g fr g′ fr′
 unfolding runOf
@@ -42,6 +42,6 @@ ends-with act g (suc (suc code)) note g′ fr fr′ e l (suc n) h = rw e
 -- one step of the code is one step of the machine
 pub turn : (ks vs : List ℕ) (c room : ℕ) (r q : Regs) (s w s′ w′ : List ℕ) → length ks ≡ length vs → r .pos < length ks → length w ≡ room
     → Stepped c (operation (getD ks (r .pos) 0) (getD vs (r .pos) 0)) r q s w s′ w′
-    → pay (r .gas) (frameOf s w r) (machine (decode ks vs) c room (frameOf s w r)) ≡ outcomeOf s′ w′ q
+    → pay (r .gas) (frameOf s w r) (machine (decode ks vs) c room (frameOf s w r)) ≡ progressOf s′ w′ q
 turn ks vs c room r q s w s′ w′ same h e d =
-    ap (pay (r .gas) (frameOf s w r)) (act-at ks vs c room (frameOf s w r) same h) ∙ (rw (← e) (sym (d .outcome)))
+    ap (pay (r .gas) (frameOf s w r)) (act-at ks vs c room (frameOf s w r) same h) ∙ (rw (← e) (sym (d .progress)))

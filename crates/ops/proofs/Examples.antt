@@ -3,16 +3,17 @@ use mathlib.Core.Path.{_≡_, refl}
 use Prim.Native.Nat.{ℕ}
 use mathlib.Core.List.{List, [], _∷_}
 use Rattle.base.specs.Ascii.{ascii}
+use Rattle.base.specs.Outcome.{is}
 use Rattle.numbered.specs.declared.Numbered.{Numbered}
 use Rattle.numbered.specs.Numbered.{plain, carrying}
 use Rattle.kinds.specs.Kinds.{operation}
 use Rattle.ops.specs.Numbers.{parsedOpsNumbered}
-use Rattle.ops.specs.Ops.{ops, readText, answerOf}
+use Rattle.ops.specs.Ops.{readText, answerOf}
 
 -- document 01's tally
 tally :
     readText (ascii "# contract: tally\n# expected: 24\nPush 5\nPush 7\nAdd\nPush 2\nMul\nHalt\n") 6
-    ≡ ops
+    ≡ is
     (operation 0 5
     ∷ operation 0 7
     ∷ operation 1 0
@@ -27,7 +28,7 @@ abbrev said : List ℕ → ℕ → Numbered
 said text room = parsedOpsNumbered (answerOf (readText text room))
 
 -- E7
-plus-five : readText (ascii "Push +5") 1 ≡ ops (operation 0 5 ∷ [])
+plus-five : readText (ascii "Push +5") 1 ≡ is (operation 0 5 ∷ [])
 plus-five = refl
 
 plus-five-said : said (ascii "Push +5") 1 ≡ carrying 0 (1 ∷ [])

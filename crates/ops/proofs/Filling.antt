@@ -6,12 +6,14 @@ use native.Mathlib.Omega.{arith}
 use native.Mathlib.Nat.{min-le-left, min-le-right}
 use lib.ListN.{length, drop, set, length-set}
 use Rattle.base.specs.Overwrite.{overwrite}
+use Rattle.base.specs.Outcome.{is}
 use Rattle.base.proofs.Tests.{by-leb}
 use Rattle.base.proofs.Overwrite.{overwrite-none, overwrite-one, overwrite-then}
+use Rattle.base.proofs.Outcome.{not-is, is-same, then-is}
 use Rattle.lines.specs.Lines.{lines}
 use Rattle.kinds.specs.Kinds.{Operation, operation}
 use Rattle.ops.specs.Line.{Rule}
-use Rattle.ops.specs.Ops.{Reading, ops, refused, followedBy, thenRead, readLines, opsOf, kindsOf, operandsOf}
+use Rattle.ops.specs.Ops.{Reading, thenRead, readLines, opsOf, kindsOf, operandsOf}
 use Rattle.ops.specs.Code.Passes.{lineReadAt, readInto, Good, Filled}
 use Rattle.ops.specs.declared.OpsError.{OpsError}
 use Rattle.ops.specs.declared.line.LineRead.{LineRead}
@@ -36,7 +38,7 @@ pub record Filling (rule : Rule) (text kinds₀ operands₀ kinds operands : Lis
   pub sameKinds : length kinds ≡ length kinds₀
   pub sameOperands : length operands ≡ length operands₀
   pub rest : List Operation
-  pub is : readLines rule text line (lines (drop at text)) (min (length kinds₀) (length operands₀) - n) ≡ ops rest
+  pub is : readLines rule text line (lines (drop at text)) (min (length kinds₀) (length operands₀) - n) ≡ is rest
   pub inKinds : Half (overwrite 0 (kindsOf (opsOf (readInto rule text kinds₀ operands₀))) kinds₀) kinds n (kindsOf rest)
   pub inOperands : Half (overwrite 0 (operandsOf (opsOf (readInto rule text kinds₀ operands₀))) operands₀) operands n (operandsOf rest)
 
@@ -59,14 +61,11 @@ module _ {rule : Rule} {text kinds₀ operands₀ kinds operands : List ℕ} {at
   -- at the end
   pub filled : length text ≤ at → Filled rule text kinds₀ operands₀ kinds operands
   filled h =
-      let z : p .rest ≡ [] = nothing (sym (p .is) ∙ ended (p .stands) rule _ h) in
+      let z = is-same (sym (p .is) ∙ ended (p .stands) rule _ h) in
       record {
         inKinds = half-all _ kinds n (p .inKinds ∙ ap (λ (os : List Operation). overwrite n (kindsOf os) kinds) z);
         inOperands = half-all _ operands n (p .inOperands ∙ ap (λ (os : List Operation). overwrite n (operandsOf os) operands) z);
       }
-    where
-      nothing : ops (p .rest) ≡ ops [] → p .rest ≡ []
-      nothing e = cc
 
   -- at a line
   module _ (h : at < length text) (r : Reached) (e : r ≡ lineReadAt rule text at (line + 1)) where
@@ -76,7 +75,7 @@ module _ {rule : Rule} {text kinds₀ operands₀ kinds operands : List ℕ} {at
     abbrev more : ℕ → Reading
     more m = readLines rule text (line + 1) (lines (drop (r .next) text)) m
 
-    says : (x : LineRead) → r .read ≡ x → thenRead (line + 1) (room - n) more x ≡ ops (p .rest)
+    says : (x : LineRead) → r .read ≡ x → thenRead (line + 1) (room - n) more x ≡ is (p .rest)
     says x q = ap (thenRead (line + 1) (room - n) more) (sym q) ∙ sym (read-on (p .stands) rule h r e (room - n)) ∙ p .is
 
     pub fill-skip : r .read ≡ Skip → Filling rule text kinds₀ operands₀ kinds operands (r .next) (line + 1) n
@@ -93,23 +92,17 @@ module _ {rule : Rule} {text kinds₀ operands₀ kinds operands : List ℕ} {at
 
     -- no line is refused
     pub fill-bad : {P : Type 0} (x : OpsError) → r .read ≡ Bad x → P
-    fill-bad x q = absurd (never (says (Bad x) q))
-      where
-        never : refused x ≡ ops (p .rest) → ⊥
-        never e = let z : _≡_ {A = ℕ} 0 1 = cc in omega arith
+    fill-bad x q = not-is (says (Bad x) q)
 
     module _ (k v : ℕ) (q : r .read ≡ Op k v) where
       -- there is room
       pub fill-room : n < room
       fill-room = by-leb room n (λ g. absurd (full g)) (λ g. g)
         where
-          never : (x : OpsError) → refused x ≡ ops (p .rest) → ⊥
-          never x e = let z : _≡_ {A = ℕ} 0 1 = cc in omega arith
-
           full : room ≤ n → ⊥
           full g =
               let m : 0 ≡ room - n = omega arith in
-              never _ (ap (λ (m : ℕ). thenRead (line + 1) m more (Op k v)) m ∙ says (Op k v) q)
+              not-is (ap (λ (m : ℕ). thenRead (line + 1) m more (Op k v)) m ∙ says (Op k v) q)
 
       pub room-kinds : n < length kinds
       room-kinds = let f = fill-room in let s = p .sameKinds in omega (arith, min-le-left (length kinds₀) (length operands₀))
@@ -121,15 +114,12 @@ module _ {rule : Rule} {text kinds₀ operands₀ kinds operands : List ℕ} {at
       fill-op =
           let f = fill-room in
           let m : suc (room - (n + 1)) ≡ room - n = omega arith in
-          go (more (room - (n + 1))) refl (ap (λ (m : ℕ). thenRead (line + 1) m more (Op k v)) m ∙ says (Op k v) q)
+          let t = then-is (more (room - (n + 1))) (λ os. is (operation k v ∷ os)) (ap (λ (m : ℕ). thenRead (line + 1) m more (Op k v)) m ∙ says (Op k v) q) in
+          go (t .0) (t .1) (t .2)
         where
-          o : Operation
-          o = operation k v
-
-          go : (x : Reading) → more (room - (n + 1)) ≡ x → followedBy o x ≡ ops (p .rest) → Filling rule text kinds₀ operands₀ (set kinds n k) (set operands n v) (r .next) (line + 1) (n + 1)
-          go (refused x) y w = absurd (let z : _≡_ {A = ℕ} 0 1 = cc in omega arith)
-          go (ops os) y w =
-              let z : p .rest ≡ o ∷ os = cc in
+          go : (os : List Operation) → more (room - (n + 1)) ≡ is os → _≡_ {A = Reading} (is (operation k v ∷ os)) (is (p .rest)) → Filling rule text kinds₀ operands₀ (set kinds n k) (set operands n v) (r .next) (line + 1) (n + 1)
+          go os y w =
+              let z = sym (is-same w) in
               record {
                 stands = moved (p .stands) rule h r e;
                 sameKinds = length-set kinds n k ∙ p .sameKinds;

@@ -6,8 +6,9 @@ use native.Mathlib.Omega.{arith}
 use lib.ListN.{length, take, drop, length-append}
 use lib.Seq.{take-at}
 use Rattle.base.specs.Overwrite.{overwrite}
+use Rattle.base.specs.Outcome.{is, refused}
 use Rattle.kinds.specs.Kinds.{Operation}
-use Rattle.ops.specs.Ops.{Reading, ops, refused, readText, answerOf, opsOf, kindsOf, operandsOf, Parsed}
+use Rattle.ops.specs.Ops.{Reading, readText, answerOf, opsOf, kindsOf, operandsOf, Parsed}
 use Rattle.ops.specs.declared.ParsedOps.{ParsedOps}
 use Rattle.ops.specs.declared.ParsedOps.the-variants.{Read}
 
@@ -32,7 +33,7 @@ module _ (f : Operation → ℕ) (os : List Operation) (buffer after : List ℕ)
 
 -- the number of operations is that of the answer
 pub count : (x : Reading) (n : ℕ) → Read n ≡ answerOf x → n ≡ length (opsOf x)
-count (ops os) n e = cc
+count (is os) n e = cc
 count (refused x) n e = absurd (let z : _≡_ {A = ℕ} 0 1 = cc in omega arith)
 
 -- after reading, n being that number, or 0 where it was refused

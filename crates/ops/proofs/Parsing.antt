@@ -6,10 +6,11 @@ use mathlib.Core.Bool.{true, false}
 use native.Mathlib.Omega.{arith}
 use lib.ListN.{length}
 use Rattle.base.specs.Overwrite.{overwrite}
+use Rattle.base.specs.Outcome.{is, refused, andThen}
 use Rattle.utf8.specs.Utf8.{utf8}
 use Rattle.kinds.specs.Kinds.{Operation}
 use Rattle.ops.specs.Line.{fromStr}
-use Rattle.ops.specs.Ops.{Reading, ops, refused, someRead, readText, answerOf, opsOf, kindsOf, operandsOf, Parsed}
+use Rattle.ops.specs.Ops.{Reading, readText, answerOf, opsOf, kindsOf, operandsOf, Parsed, notEmpty}
 use Rattle.ops.specs.Numbers.{parsedOpsNumbered}
 use Rattle.ops.specs.Code.Passes.{readInto, Good, Passed}
 use Rattle.ops.specs.declared.OpsError.{OpsError}
@@ -18,13 +19,13 @@ use Rattle.ops.specs.declared.ParsedOps.{ParsedOps}
 use Rattle.ops.specs.declared.ParsedOps.the-variants.{Read, Refused}
 
 -- what an answer says of the reading that it is of
-read-is : (x : Reading) (n : ℕ) → answerOf (someRead x) ≡ Read n → (os : List Operation) × (x ≡ ops os) × (someRead x ≡ x)
-read-is (ops []) n e = absurd (let z : _≡_ {A = ℕ} 0 1 = cc in omega arith)
-read-is (ops (o ∷ os)) n e = (o ∷ os, refl, refl)
+read-is : (x : Reading) (n : ℕ) → answerOf (andThen x notEmpty) ≡ Read n → (os : List Operation) × (x ≡ is os) × (andThen x notEmpty ≡ x)
+read-is (is []) n e = absurd (let z : _≡_ {A = ℕ} 0 1 = cc in omega arith)
+read-is (is (o ∷ os)) n e = (o ∷ os, refl, refl)
 read-is (refused x) n e = absurd (let z : _≡_ {A = ℕ} 0 1 = cc in omega arith)
 
 refused-is : (x : Reading) (e : OpsError) → answerOf x ≡ Refused e → x ≡ refused e
-refused-is (ops os) e p = absurd (let z : _≡_ {A = ℕ} 0 1 = cc in omega arith)
+refused-is (is os) e p = absurd (let z : _≡_ {A = ℕ} 0 1 = cc in omega arith)
 refused-is (refused x) e p = let z : x ≡ e = cc in ap refused z
 
 module _ (text kinds operands : List ℕ) where
@@ -39,15 +40,15 @@ module _ (text kinds operands : List ℕ) where
 
   -- after the first pass, which writes nothing
   module _ (u : utf8 text ≡ true) (k o : List ℕ) (r : ParsedOps) (f : Passed fromStr text kinds operands k o false r) where
-    whole : readText text (min (length kinds) (length operands)) ≡ someRead (readInto fromStr text kinds operands)
+    whole : readText text (min (length kinds) (length operands)) ≡ andThen (readInto fromStr text kinds operands) notEmpty
     whole = simp u
 
     pub is-refused : (x : OpsError) → r ≡ Refused x → Parsed text kinds operands k o r
     is-refused x p =
-        parsed (refused x) r k o (whole ∙ refused-is (someRead (readInto fromStr text kinds operands)) x (sym (f .answer) ∙ p)) p (f .keptKinds refl) (f .keptOperands refl)
+        parsed (refused x) r k o (whole ∙ refused-is (andThen (readInto fromStr text kinds operands) notEmpty) x (sym (f .answer) ∙ p)) p (f .keptKinds refl) (f .keptOperands refl)
 
     module _ (n : ℕ) (p : r ≡ Read n) where
-      good : (os : List Operation) × (readInto fromStr text kinds operands ≡ ops os) × (someRead (readInto fromStr text kinds operands) ≡ readInto fromStr text kinds operands)
+      good : (os : List Operation) × (readInto fromStr text kinds operands ≡ is os) × (andThen (readInto fromStr text kinds operands) notEmpty ≡ readInto fromStr text kinds operands)
       good = read-is (readInto fromStr text kinds operands) n (sym (f .answer) ∙ p)
 
       pub is-good : Good fromStr text k o

@@ -5,10 +5,11 @@ use mathlib.Core.List.{List}
 use mathlib.Core.Bool.{Bool, true, false}
 use native.Mathlib.Omega.{arith}
 use lib.ListN.{length, set, length-set}
+use Rattle.base.specs.Outcome.{andThen}
 use Rattle.base.proofs.Tests.{never}
 use Rattle.lines.specs.Lines.{lines}
 use Rattle.ops.specs.Line.{Rule}
-use Rattle.ops.specs.Ops.{readLines, someRead, answerOf}
+use Rattle.ops.specs.Ops.{readLines, notEmpty, answerOf}
 use Rattle.ops.specs.Code.Passes.{lineReadAt, Good, Filled, Passed}
 use Rattle.ops.specs.declared.OpsError.{OpsError}
 use Rattle.ops.specs.declared.OpsError.the-variants.{Full, Empty}
@@ -42,11 +43,11 @@ pass-first rule text kinds operands writing room m g =
     }
 
 module _ {rule : Rule} {text kinds₀ operands₀ kinds operands : List ℕ} {writing : Bool} {room at line n : ℕ} (p : Passing rule text kinds₀ operands₀ writing room kinds operands at line n) where
-  ends : (r : ParsedOps) → r ≡ answerOf (someRead (readLines rule text 0 (lines text) room)) → (writing ≡ true → Filled rule text kinds₀ operands₀ kinds operands)
+  ends : (r : ParsedOps) → r ≡ answerOf (andThen (readLines rule text 0 (lines text) room) notEmpty) → (writing ≡ true → Filled rule text kinds₀ operands₀ kinds operands)
       → Passed rule text kinds₀ operands₀ kinds operands writing r
   ends r e f =
       record {
-        answer = e ∙ ap (λ (m : ℕ). answerOf (someRead (readLines rule text 0 (lines text) m))) (p .roomIs);
+        answer = e ∙ ap (λ (m : ℕ). answerOf (andThen (readLines rule text 0 (lines text) m) notEmpty)) (p .roomIs);
         keptKinds = p .keptKinds;
         keptOperands = p .keptOperands;
         filled = f;

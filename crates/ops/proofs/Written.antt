@@ -5,6 +5,7 @@ use mathlib.Core.List.{List, [], _∷_, _++_, map, append-assoc}
 use mathlib.Core.Bool.{Bool, true, false, cond}
 use native.Mathlib.Omega.{arith}
 use lib.ListN.{length}
+use Rattle.base.specs.Outcome.{is, refused, andThen}
 use Rattle.utf8.specs.Utf8.{utf8}
 use Rattle.utf8.proofs.Lead.{one-is}
 use Rattle.utf8.proofs.Encoding.{append}
@@ -16,7 +17,7 @@ use Rattle.decimal.proofs.Laws.{allDigits-decimal, length-positive, round-trip}
 use Rattle.kinds.specs.Kinds.{kindOf, Operation, operation}
 use Rattle.ops.specs.Kinds.{follows}
 use Rattle.ops.specs.Line.{Rule, fromStr, ReadsDigits, lineOf}
-use Rattle.ops.specs.Ops.{Reading, ops, refused, startOf, followedBy, thenRead, readLines, someRead, readBy, readText}
+use Rattle.ops.specs.Ops.{Reading, startOf, thenRead, readLines, notEmpty, readBy, readText}
 use Rattle.ops.specs.Written.{shown, written, writtenAll, remark, remarks, cleared, IsOperation, IsRemark, Each, none, one}
 use Rattle.ops.specs.declared.line.LineRead.the-variants.{Op}
 use Rattle.ops.specs.declared.OpsError.the-variants.{NotUtf8}
@@ -46,13 +47,13 @@ written-lines o p t = ap lines (append-assoc (shown o) (10 ∷ []) t) ∙ plain-
 
 -- the lines of operations
 pub read-written : (rule : Rule) → ReadsDigits rule → (text : List ℕ) (n : ℕ) {os : List Operation} → Each IsOperation os → (room : ℕ) → length os ≤ room
-    → readLines rule text n (lines (writtenAll os)) room ≡ ops (map cleared os)
+    → readLines rule text n (lines (writtenAll os)) room ≡ is (map cleared os)
 read-written rule plain text n none room h = refl
 read-written rule plain text n (one {a = o} {l = os} p ps) zero h = absurd (omega arith)
 read-written rule plain text n (one {a = o} {l = os} p ps) (suc room) h =
     ap (λ (ls : List (List ℕ)). readLines rule text n ls (suc room)) (written-lines o p (writtenAll os))
     ∙ ap (thenRead (n + 1) (suc room) (readLines rule text (n + 1) (lines (writtenAll os)))) (shown-read rule plain o p (n + 1) (startOf n text))
-    ∙ ap (followedBy (cleared o)) (read-written rule plain text (n + 1) ps room (omega arith))
+    ∙ ap (λ (x : Reading). andThen x (λ os. is (cleared o ∷ os))) (read-written rule plain text (n + 1) ps room (omega arith))
 
 -- a remark is skipped
 remark-line : (x : List ℕ) → IsRemark x → (t : List ℕ) → (y : List ℕ) × (lines (remark x ++ t) ≡ (35 ∷ y) ∷ lines t)
@@ -86,20 +87,20 @@ writtenAll-utf8 (one {a = o} {l = os} p ps) = append (written o) (writtenAll os)
 
 -- reading the written operations, one or more, behind any remarks, gives them, an operand that is not used being 0
 pub reads-written-by : (rule : Rule) → ReadsDigits rule → {xs : List (List ℕ)} {os : List Operation} → Each IsRemark xs → Each IsOperation os → 0 < length os
-    → (room : ℕ) → length os ≤ room → readBy rule (remarks xs ++ writtenAll os) room ≡ ops (map cleared os)
+    → (room : ℕ) → length os ≤ room → readBy rule (remarks xs ++ writtenAll os) room ≡ is (map cleared os)
 reads-written-by rule plain {xs} {os} ps qs h room k =
     let text = remarks xs ++ writtenAll os in
     let u : utf8 text ≡ true = remarks-utf8 ps (writtenAll os) ∙ writtenAll-utf8 qs in
     let e = read-remarks rule text 0 ps (writtenAll os) room ∙ read-written rule plain text (0 + length xs) qs room k in
-    ap (λ (b : Bool). cond b (someRead (readLines rule text 0 (lines text) room)) (refused NotUtf8)) u ∙ ap someRead e ∙ some os h
+    ap (λ (b : Bool). cond b (andThen (readLines rule text 0 (lines text) room) notEmpty) (refused NotUtf8)) u ∙ ap (λ (x : Reading). andThen x notEmpty) e ∙ some os h
   where
-    some : (os : List Operation) → 0 < length os → someRead (ops (map cleared os)) ≡ ops (map cleared os)
+    some : (os : List Operation) → 0 < length os → notEmpty (map cleared os) ≡ is (map cleared os)
     some [] h = absurd (omega arith)
     some (o ∷ os) h = refl
 
 -- by document 01's rule
 pub reads-written : {xs : List (List ℕ)} {os : List Operation} → Each IsRemark xs → Each IsOperation os → 0 < length os → (room : ℕ) → length os ≤ room
-    → readText (remarks xs ++ writtenAll os) room ≡ ops (map cleared os)
+    → readText (remarks xs ++ writtenAll os) room ≡ is (map cleared os)
 reads-written ps qs h room k = reads-written-by fromStr (λ operand d e. refl) ps qs h room k
 
 -- where it is 0 already, they are the same

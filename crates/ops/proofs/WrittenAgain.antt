@@ -7,7 +7,9 @@ use borrow.Author.Tests.{ltb-true}
 use native.Mathlib.Omega.{arith}
 use lib.Dec.{ltb}
 use lib.ListN.{length}
+use Rattle.base.specs.Outcome.{is, refused, andThen}
 use Rattle.base.proofs.Tests.{by-bool, never}
+use Rattle.base.proofs.Outcome.{not-is, is-same, then-is}
 use Rattle.utf8.specs.Utf8.{utf8}
 use Rattle.lines.specs.Lines.{lines}
 use Rattle.trim.specs.Trim.{startTrimmed, trimmed}
@@ -17,7 +19,7 @@ use Rattle.decimal.specs.declared.Number.the-variants.{Is, Invalid}
 use Rattle.kinds.specs.Kinds.{kindOf, Operation, operation}
 use Rattle.ops.specs.Kinds.{follows, parted}
 use Rattle.ops.specs.Line.{Rule, fromStr, ReadsDigits, ReadsWords, ofNumber, partRead, skipped, lineOf}
-use Rattle.ops.specs.Ops.{Reading, ops, refused, startOf, followedBy, thenRead, readLines, someRead, readBy, readText}
+use Rattle.ops.specs.Ops.{Reading, startOf, thenRead, readLines, notEmpty, readBy, readText}
 use Rattle.ops.specs.Written.{writtenAll, cleared, IsOperation, IsRead, Each, none, one}
 use Rattle.ops.specs.declared.kind.Parted.{Parted}
 use Rattle.ops.specs.declared.kind.Parted.the-variants.{Alone, Before}
@@ -94,45 +96,38 @@ module _ (rule : Rule) (words : ReadsWords rule) where
       part k b = cond b (Before k (length (kindOf k .word) + 1)) (Alone k)
 
   -- the operations of lines
-  joined-read : (o : Operation) (x : Reading) → IsRead o → ((os : List Operation) → x ≡ ops os → Each IsRead os)
-      → (os : List Operation) → followedBy o x ≡ ops os → Each IsRead os
-  joined-read o (ops ps) p more os e = let z : o ∷ ps ≡ os = cc in subst (Each IsRead) z (one p (more ps refl))
-  joined-read o (refused x) p more os e = absurd (let z : _≡_ {A = ℕ} 0 1 = cc in omega arith)
-
   then-read : (line room : ℕ) (more : ℕ → Reading) (x : LineRead) → ((k v : ℕ) → x ≡ Op k v → IsRead (operation k v))
-      → ((room : ℕ) (os : List Operation) → more room ≡ ops os → Each IsRead os)
-      → (os : List Operation) → thenRead line room more x ≡ ops os → Each IsRead os
+      → ((room : ℕ) (os : List Operation) → more room ≡ is os → Each IsRead os)
+      → (os : List Operation) → thenRead line room more x ≡ is os → Each IsRead os
   then-read line room more Skip here later os e = later room os e
-  then-read line zero more (Op k v) here later os e = absurd (let z : _≡_ {A = ℕ} 0 1 = cc in omega arith)
-  then-read line (suc room) more (Op k v) here later os e = joined-read (operation k v) (more room) (here k v refl) (later room) os e
-  then-read line room more (Bad x) here later os e = absurd (let z : _≡_ {A = ℕ} 0 1 = cc in omega arith)
+  then-read line zero more (Op k v) here later os e = not-is e
+  then-read line (suc room) more (Op k v) here later os e =
+      let t = then-is (more room) (λ ps. is (operation k v ∷ ps)) e in
+      subst (Each IsRead) (is-same (t .2)) (one (here k v refl) (later room (t .0) (t .1)))
+  then-read line room more (Bad x) here later os e = not-is e
 
-  lines-read : (text : List ℕ) (n : ℕ) (ls : List (List ℕ)) (room : ℕ) (os : List Operation) → readLines rule text n ls room ≡ ops os → Each IsRead os
-  lines-read text n [] room os e = let z : [] ≡ os = cc in subst (Each IsRead) z none
+  lines-read : (text : List ℕ) (n : ℕ) (ls : List (List ℕ)) (room : ℕ) (os : List Operation) → readLines rule text n ls room ≡ is os → Each IsRead os
+  lines-read text n [] room os e = subst (Each IsRead) (is-same e) none
   lines-read text n (l ∷ ls) room os e =
       then-read (n + 1) room (readLines rule text (n + 1) ls) (lineOf rule (n + 1) (startOf n text) l)
       (line-read (n + 1) (startOf n text) l) (λ room os e. lines-read text (n + 1) ls room os e) os e
 
   -- what is read: one operation or more
-  pub is-read : (text : List ℕ) (room : ℕ) (os : List Operation) → readBy rule text room ≡ ops os → Each IsRead os × (0 < length os)
+  pub is-read : (text : List ℕ) (room : ℕ) (os : List Operation) → readBy rule text room ≡ is os → Each IsRead os × (0 < length os)
   is-read text room os e =
       by-bool (utf8 text)
-      (λ u. some (readLines rule text 0 (lines text) room) refl (sym (ap (whole (readLines rule text 0 (lines text) room)) u) ∙ e))
-      (λ u. absurd (no-refusal (sym (ap (whole (readLines rule text 0 (lines text) room)) u) ∙ e)))
+      (λ u. let t = then-is read notEmpty (sym (ap whole u) ∙ e) in some (t .0) (t .1) (t .2))
+      (λ u. not-is (sym (ap whole u) ∙ e))
     where
-      whole : Reading → Bool → Reading
-      whole x b = cond b (someRead x) (refused NotUtf8)
+      read : Reading
+      read = readLines rule text 0 (lines text) room
 
-      no-refusal : {x : OpsError} → refused x ≡ ops os → ⊥
-      no-refusal e = let z : _≡_ {A = ℕ} 0 1 = cc in omega arith
+      whole : Bool → Reading
+      whole b = cond b (andThen read notEmpty) (refused NotUtf8)
 
-      same : (ps : List Operation) → ops ps ≡ ops os → ps ≡ os
-      same ps e = cc
-
-      some : (x : Reading) → readLines rule text 0 (lines text) room ≡ x → someRead x ≡ ops os → Each IsRead os × (0 < length os)
-      some (ops []) q e = absurd (no-refusal e)
-      some (ops (o ∷ ps)) q e = (lines-read text 0 (lines text) room os (q ∙ e), omega (arith, ap length (same (o ∷ ps) e)))
-      some (refused x) q e = absurd (no-refusal e)
+      some : (ps : List Operation) → read ≡ is ps → notEmpty ps ≡ is os → Each IsRead os × (0 < length os)
+      some [] q e = not-is e
+      some (o ∷ ps) q e = (lines-read text 0 (lines text) room os (q ∙ e), omega (arith, ap length (is-same e)))
 
 operations : {os : List Operation} → Each IsRead os → Each IsOperation os
 operations none = none
@@ -143,13 +138,13 @@ all-same none = refl
 all-same (one {a = o} {l = os} p ps) = ap₂ (λ o os. o ∷ os) (p .unused) (all-same ps)
 
 -- what one rule read is, when written, read the same by every rule that reads digits
-pub read-again : (rule again : Rule) → ReadsWords rule → ReadsDigits again → (text : List ℕ) (room : ℕ) (os : List Operation) → readBy rule text room ≡ ops os
-    → (wide : ℕ) → length os ≤ wide → readBy again (writtenAll os) wide ≡ ops os
+pub read-again : (rule again : Rule) → ReadsWords rule → ReadsDigits again → (text : List ℕ) (room : ℕ) (os : List Operation) → readBy rule text room ≡ is os
+    → (wide : ℕ) → length os ≤ wide → readBy again (writtenAll os) wide ≡ is os
 read-again rule again words plain text room os e wide h =
     let r = is-read rule words text room os e in
-    reads-written-by again plain none (operations (r .0)) (r .1) wide h ∙ ap ops (all-same (r .0))
+    reads-written-by again plain none (operations (r .0)) (r .1) wide h ∙ ap is (all-same (r .0))
 
 -- by document 01's rule
-pub text-again : (text : List ℕ) (room : ℕ) (os : List Operation) → readText text room ≡ ops os
-    → (wide : ℕ) → length os ≤ wide → readText (writtenAll os) wide ≡ ops os
+pub text-again : (text : List ℕ) (room : ℕ) (os : List Operation) → readText text room ≡ is os
+    → (wide : ℕ) → length os ≤ wide → readText (writtenAll os) wide ≡ is os
 text-again text room os e wide h = read-again fromStr fromStr from-str-words (λ operand d e. refl) text room os e wide h

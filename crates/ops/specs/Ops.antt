@@ -7,6 +7,7 @@ use lib.Dec.{leb}
 use lib.ListN.{length, getD, drop}
 pub use Rattle.kinds.specs.Kinds.{Operation}
 use Rattle.base.specs.Overwrite.{overwrite}
+use Rattle.base.specs.Outcome.{Outcome, is, refused, andThen}
 use Rattle.utf8.specs.Utf8.{utf8}
 use Rattle.lines.specs.Lines.{lines}
 use Rattle.lines.specs.Cursor.{span}
@@ -21,24 +22,18 @@ use Rattle.ops.specs.declared.ParsedOps.the-variants.{Read, Refused}
 use Rattle.ops.specs.declared.line.LineRead.{LineRead}
 use Rattle.ops.specs.declared.line.LineRead.the-variants.{Skip, Op, Bad}
 
-pub data Reading : Type 0 where
-  ops : List Operation → Reading
-  refused : OpsError → Reading
+abbrev pub Reading : Type 0
+Reading = Outcome OpsError (List Operation)
 
 -- where a line starts that has n lines before it; the text's end where there is none
 abbrev pub startOf : ℕ → List ℕ → ℕ
 startOf zero s = 0
 startOf (suc n) s = span s + startOf n (drop (span s) s)
 
--- one operation in front
-abbrev pub followedBy : Operation → Reading → Reading
-followedBy o (ops os) = ops (o ∷ os)
-followedBy o (refused e) = refused e
-
 -- a good operation, with room for as many
 abbrev pub withRoom : ℕ → ℕ → (ℕ → Reading) → Operation → Reading
 withRoom line zero more o = refused (Full line)
-withRoom line (suc room) more o = followedBy o (more room)
+withRoom line (suc room) more o = andThen (more room) (λ os. is (o ∷ os))
 
 -- what a line says, and then what the lines after it say with the room that is left
 abbrev pub thenRead : ℕ → ℕ → (ℕ → Reading) → LineRead → Reading
@@ -48,18 +43,17 @@ thenRead line room more (Bad e) = refused e
 
 -- the lines of a text, n of its lines being before them
 abbrev pub readLines : Rule → List ℕ → ℕ → List (List ℕ) → ℕ → Reading
-readLines rule text n [] room = ops []
+readLines rule text n [] room = is []
 readLines rule text n (l ∷ ls) room =
     thenRead (n + 1) room (readLines rule text (n + 1) ls) (lineOf rule (n + 1) (startOf n text) l)
 
-abbrev pub someRead : Reading → Reading
-someRead (ops []) = refused Empty
-someRead (ops (o ∷ os)) = ops (o ∷ os)
-someRead (refused e) = refused e
+abbrev pub notEmpty : List Operation → Reading
+notEmpty [] = refused Empty
+notEmpty (o ∷ os) = is (o ∷ os)
 
 -- a text by a rule for operands, with room for as many operations
 abbrev pub readBy : Rule → List ℕ → ℕ → Reading
-readBy rule text room = cond (utf8 text) (someRead (readLines rule text 0 (lines text) room)) (refused NotUtf8)
+readBy rule text room = cond (utf8 text) (andThen (readLines rule text 0 (lines text) room) notEmpty) (refused NotUtf8)
 
 -- by document 01's rule
 abbrev pub readText : List ℕ → ℕ → Reading
@@ -67,11 +61,11 @@ readText text room = readBy fromStr text room
 
 -- the answer, and the operations where there is no refusal
 abbrev pub answerOf : Reading → ParsedOps
-answerOf (ops os) = Read (length os)
+answerOf (is os) = Read (length os)
 answerOf (refused e) = Refused e
 
 abbrev pub opsOf : Reading → List Operation
-opsOf (ops os) = os
+opsOf (is os) = os
 opsOf (refused e) = []
 
 abbrev pub kindsOf : List Operation → List ℕ

@@ -11,9 +11,9 @@ use lib.Dec.{leb, ltb}
 use Rattle.machine.specs.declared.Regs.{Regs}
 use Rattle.checks.specs.declared.Refusal.{Refusal}
 use Rattle.checks.specs.Numbers.{refusalNumbered}
-use Rattle.machine.specs.Machine.{Outcome, next, done, stop, decode, whole}
+use Rattle.machine.specs.Machine.{Progress, next, done, stop, decode, whole}
 use Rattle.machine.specs.Code.Alike.{AlikeBut}
-use Rattle.machine.specs.Code.Registers.{down, frameOf, outcomeOf, faultOf, Ran}
+use Rattle.machine.specs.Code.Registers.{down, frameOf, progressOf, faultOf, Ran}
 use Rattle.machine.proofs.Stack.{length-down}
 use Rattle.machine.proofs.Effects.{refused}
 use Rattle.perform.specs.declared.Answer.{Answer}
@@ -34,12 +34,12 @@ pub on-work : (x : Call) (w₀ s w : List ℕ) (from r : Regs) → Lent (x .kind
     → Copied (λ j. needed (x .kinds) (x .operands) (x .state .used) j && ltb j (x .state .used)) (x .storage) (x .work) w₀
     → from ≡ record { pos = 0; gas = x .limit; items = 0; used = x .state .used; ops = 0; code = 0; note = 0 }
     → Ran (decode (x .kinds) (x .operands)) (x .caller) from r (x .stack) w₀ s w
-    → AlikeBut (Serves (x .kinds) (x .operands) (x .state .used) (x .storage)) (outcomeOf s w r) (whole (decode (x .kinds) (x .operands)) (x .caller) (length (x .storage)) (x .limit) (take (x .state .used) (x .storage)))
+    → AlikeBut (Serves (x .kinds) (x .operands) (x .state .used) (x .storage)) (progressOf s w r) (whole (decode (x .kinds) (x .operands)) (x .caller) (length (x .storage)) (x .limit) (take (x .state .used) (x .storage)))
 unfolding whole down
 on-work x w₀ s w from r lent long p e ran =
     let start : Regs = record { pos = 0; gas = x .limit; items = 0; used = x .state .used; ops = 0; code = 0; note = 0 } in
     let all : Ran (decode (x .kinds) (x .operands)) (x .caller) start r (x .stack) w₀ s w = rw e at ran in
-    let q : outcomeOf s w r ≡ whole (decode (x .kinds) (x .operands)) (x .caller) (length (x .storage)) (x .limit) (take (x .state .used) w₀) = rw (← lent .same, ← long) (all .outcome (x .limit + 1) (omega arith)) in
+    let q : progressOf s w r ≡ whole (decode (x .kinds) (x .operands)) (x .caller) (length (x .storage)) (x .limit) (take (x .state .used) w₀) = rw (← lent .same, ← long) (all .progress (x .limit + 1) (omega arith)) in
     rw q (served (x .kinds) (x .operands) (x .state .used) (x .caller) (x .limit) (x .storage) (x .work) w₀ (lent .program) p (lent .within) (lent .same))
 
 -- a buffer that is cleared from its start
@@ -48,8 +48,8 @@ all-zero s s′ e = e ∙ rw sub-zero
 
 -- the call x, and the buffers as finish leaves them
 module _ (x : Call) (r : Regs) (s′ w′ : List ℕ) (same : length (x .work) ≡ length (x .storage)) (ew : w′ ≡ take 0 (x .work) ++ replicate (length (x .work) - 0) 0) where
-  -- the run's outcome is o but for the storage
-  module _ (o : Outcome) (like : AlikeBut (Serves (x .kinds) (x .operands) (x .state .used) (x .storage)) (outcomeOf (x .stack) (x .work) r) o) where
+  -- the run's progress is o but for the storage
+  module _ (o : Progress) (like : AlikeBut (Serves (x .kinds) (x .operands) (x .state .used) (x .storage)) (progressOf (x .stack) (x .work) r) o) where
     pub succeeded : (y m′ : List ℕ) → r .code ≡ 1 → r .items ≤ length (x .stack) → r .used ≤ length (x .work) → s′ ≡ take (r .items) (x .stack) ++ replicate (length (x .stack) - r .items) 0
         → Copied (λ j. changed (x .kinds) (x .operands) (x .state .used) j && ltb j (x .state .used)) (x .work) (x .storage) y → Copied (λ j. leb (x .state .used) j && ltb j (r .used)) (x .work) y m′
         → Meets (ofRun x o) (x .state) (Success (x .limit - r .gas) (r .ops) (r .items) (record { used = r .used })) s′ w′ m′
@@ -76,7 +76,7 @@ module _ (x : Call) (r : Regs) (s′ w′ : List ℕ) (same : length (x .work) �
 abbrev pub lending : List ℕ → List ℕ → Call → Call
 lending s w x = record { kinds = x .kinds; operands = x .operands; caller = x .caller; limit = x .limit; state = x .state; stack = s; work = w; storage = x .storage }
 
-pub carried : (x : Call) (s w : List ℕ) (o : Outcome) {a : Answer} {s′ w′ m′ : List ℕ} → length s ≡ length (x .stack) → length w ≡ length (x .work)
+pub carried : (x : Call) (s w : List ℕ) (o : Progress) {a : Answer} {s′ w′ m′ : List ℕ} → length s ≡ length (x .stack) → length w ≡ length (x .work)
     → Meets (ofRun (lending s w x) o) (x .state) a s′ w′ m′ → Meets (ofRun x o) (x .state) a s′ w′ m′
 carried x s w (next h fr) p q d = rw (← p, ← q) d
 carried x s w (done h fr) p q d = rw (← p, ← q) d

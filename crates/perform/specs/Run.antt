@@ -3,7 +3,7 @@ use Prim.Native.Nat.{ℕ, _-_}
 use mathlib.Core.Path.{_≡_}
 use mathlib.Core.List.{List, _++_, reverse}
 use lib.ListN.{length, take, drop, replicate}
-use Rattle.machine.specs.Machine.{Fault, outOfGas, stackUnderflow, stackLimitExceeded, divisionByZero, storageLimitExceeded, outsideStorage, Outcome, next, done, stop, decode, whole}
+use Rattle.machine.specs.Machine.{Fault, outOfGas, stackUnderflow, stackLimitExceeded, divisionByZero, storageLimitExceeded, outsideStorage, Progress, next, done, stop, decode, whole}
 use Rattle.checks.specs.declared.Refusal.{Refusal}
 use Rattle.checks.specs.declared.Refusal.the-variants.{OutOfGas, StackUnderflow, StackLimitExceeded, DivisionByZero, StorageLimitExceeded, OutsideStorage}
 use Rattle.perform.specs.declared.State.{State}
@@ -34,8 +34,8 @@ undone f x =
     let zeros : List ℕ → List ℕ = λ buffer. replicate (length buffer) 0 in
     record { answer = Refused f; state = x .state; stack = zeros (x .stack); work = zeros (x .work); storage = x .storage }
 
--- a run's outcome, the stack with its bottom first; a whole run is never left unfinished
-abbrev pub ofRun : Call → Outcome → Result
+-- a run's progress, the stack with its bottom first; a whole run is never left unfinished
+abbrev pub ofRun : Call → Progress → Result
 ofRun x (next h fr) = undone (OutOfGas 0 h) x
 ofRun x (stop f) = undone (refusalOf f) x
 ofRun x (done h fr) =

@@ -3,9 +3,9 @@
 ghost use mathlib.Core.Path.{_≡_};
 ghost use Prim.Native.Nat.{ℕ, _≤_};
 ghost use lib.ListN.{length};
-ghost use Rattle.machine.specs.Machine.{Outcome};
+ghost use Rattle.machine.specs.Machine.{Progress};
 ghost use Rattle.machine.specs.Code.Alike.{AlikeBut};
-ghost use Rattle.machine.specs.Code.Registers.{outcomeOf, faultOf, Held};
+ghost use Rattle.machine.specs.Code.Registers.{progressOf, faultOf, Held};
 ghost use Rattle.perform.specs.Numbers.{answerNumbered};
 ghost use Rattle.perform.specs.Run.{Meets, performed, ofRun, refusalOf};
 ghost use Rattle.perform.specs.Lent.{Lent};
@@ -115,9 +115,9 @@ fn finish(
 ) -> Answer
     requires { ⌜ Lent (now kinds) (now operands) (now stack) (now work) (now storage) (state .used) ⌝ }
     requires { ⌜ Held (length (now work)) r × (1 ≤ r .code) × (r .gas ≤ «gas_limit») ⌝ }
-    ensures { λ a. ⌜ ((c : ℕ) (o : Outcome) → AlikeBut
+    ensures { λ a. ⌜ ((c : ℕ) (o : Progress) → AlikeBut
         (Serves (now (kinds .entry)) (now (operands .entry)) (state .used) (now (storage .entry)))
-        (outcomeOf (now (stack .entry)) (now (work .entry)) r) o
+        (progressOf (now (stack .entry)) (now (work .entry)) r) o
         → Meets (ofRun (record {
           kinds = now (kinds .entry);
           operands = now (operands .entry);

@@ -22,7 +22,8 @@ use Rattle.ops.specs.Kinds.{follows, partOf, partedFrom, parted}
 use Rattle.ops.specs.Kinds as Kinds
 use Rattle.ops.specs.Line.{Rule, fromStr, badNumber, ofNumber, partRead, skipped, lineOf}
 use Rattle.ops.specs.Numbers.{opsErrorNumbered, parsedOpsNumbered}
-use Rattle.ops.specs.Ops.{Reading, ops, refused, startOf, followedBy, thenRead, readLines, someRead, readBy, answerOf, opsOf}
+use Rattle.base.specs.Outcome.{is, refused, andThen}
+use Rattle.ops.specs.Ops.{Reading, startOf, thenRead, readLines, notEmpty, readBy, answerOf, opsOf}
 use Rattle.ops.specs.Written.{Each, none, one}
 use Rattle.ops.specs.declared.kind.Parted.{Parted}
 use Rattle.ops.specs.declared.kind.Parted.the-variants.{Alone, Before, Unknown}
@@ -114,15 +115,15 @@ record Refused (count room number : ℕ) : Type 0 where
   roomy : count ≤ room → Among (28 ∷ 29 ∷ 30 ∷ 31 ∷ []) number
 
 abbrev Gives : (count bytes room : ℕ) → Reading → Type 0
-Gives count bytes room (ops os) = Got bytes room os
+Gives count bytes room (is os) = Got bytes room os
 Gives count bytes room (refused e) = Refused count room (opsErrorNumbered e .number)
 
 skip-gives : (count bytes n room : ℕ) (r : Reading) → Gives count bytes room r → Gives (suc count) (n + 1 + bytes) room r
-skip-gives count bytes n room (ops os) g = record { kinds = g .kinds; within = g .within; third = omega (arith, g .third) }
+skip-gives count bytes n room (is os) g = record { kinds = g .kinds; within = g .within; third = omega (arith, g .third) }
 skip-gives count bytes n room (refused e) g = record { gives = g .gives; roomy = λ h. g .roomy (omega arith) }
 
-op-gives : (count bytes n room : ℕ) (o : Operation) (r : Reading) → o .kind ≤ 15 → 2 ≤ n → Gives count bytes room r → Gives (suc count) (n + 1 + bytes) (suc room) (followedBy o r)
-op-gives count bytes n room o (ops os) k l g = record { kinds = one k (g .kinds); within = omega (arith, g .within); third = omega (arith, g .third) }
+op-gives : (count bytes n room : ℕ) (o : Operation) (r : Reading) → o .kind ≤ 15 → 2 ≤ n → Gives count bytes room r → Gives (suc count) (n + 1 + bytes) (suc room) (andThen r (λ os. is (o ∷ os)))
+op-gives count bytes n room o (is os) k l g = record { kinds = one k (g .kinds); within = omega (arith, g .within); third = omega (arith, g .third) }
 op-gives count bytes n room o (refused e) k l g = record { gives = g .gives; roomy = λ h. g .roomy (omega arith) }
 
 line-gives : (count bytes n line room : ℕ) (more : ℕ → Reading) (x : LineRead) → Says n x → ((r : ℕ) → Gives count bytes r (more r)) → Gives (suc count) (n + 1 + bytes) room (thenRead line room more x)
@@ -146,9 +147,9 @@ record Told (count bytes room : ℕ) (r : Reading) : Type 0 where
   gives : Among (0 ∷ 27 ∷ 28 ∷ 29 ∷ 30 ∷ 31 ∷ 32 ∷ 33 ∷ []) (parsedOpsNumbered (answerOf r) .number)
   roomy : count ≤ room → Among (0 ∷ 27 ∷ 28 ∷ 29 ∷ 30 ∷ 31 ∷ 33 ∷ []) (parsedOpsNumbered (answerOf r) .number)
 
-some-told : (count bytes room : ℕ) (r : Reading) → Gives count bytes room r → Told count bytes room (someRead r)
-some-told count bytes room (ops []) g = record { kinds = none; within = omega arith; third = omega arith; gives = refl; roomy = λ h. refl }
-some-told count bytes room (ops (o ∷ os)) g = record { kinds = g .kinds; within = g .within; third = g .third; gives = refl; roomy = λ h. refl }
+some-told : (count bytes room : ℕ) (r : Reading) → Gives count bytes room r → Told count bytes room (andThen r notEmpty)
+some-told count bytes room (is []) g = record { kinds = none; within = omega arith; third = omega arith; gives = refl; roomy = λ h. refl }
+some-told count bytes room (is (o ∷ os)) g = record { kinds = g .kinds; within = g .within; third = g .third; gives = refl; roomy = λ h. refl }
 some-told count bytes room (refused e) g = record {
   kinds = none;
   within = omega arith;
@@ -161,7 +162,7 @@ some-told count bytes room (refused e) g = record {
 text-told : (rule : Rule) (text : List ℕ) (room : ℕ) → Told (length (lines text)) (size (lines text)) room (readBy rule text room)
 text-told rule text room = go (utf8 text)
   where
-    go : (b : Bool) → Told (length (lines text)) (size (lines text)) room (cond b (someRead (readLines rule text 0 (lines text) room)) (refused NotUtf8))
+    go : (b : Bool) → Told (length (lines text)) (size (lines text)) room (cond b (andThen (readLines rule text 0 (lines text) room) notEmpty) (refused NotUtf8))
     go true = some-told (length (lines text)) (size (lines text)) room (readLines rule text 0 (lines text) room) (lines-give rule text 0 (lines text) room)
     go false = record { kinds = none; within = omega arith; third = omega arith; gives = refl; roomy = λ h. refl }
 

@@ -16,7 +16,7 @@ use Rattle.kinds.specs.Kinds.{Operation, operation}
 use Rattle.kinds.proofs.ByKind.{Span, end, _&_, span, priced, unpriced}
 use Rattle.context.specs.declared.Gate.{Gate}
 use Rattle.context.specs.declared.Gate.the-variants as gate
-use Rattle.machine.specs.Machine.{Fault, outOfGas, stackLimitExceeded, storageLimitExceeded, outsideStorage, Frame, Effect, moves, jumps, ends, fails, over, costs, Outcome, next, done, stop, storeAt, pushOf, valueOf, twoOf, dupOf, swapOf, jumpIfOf, storeOf, requested, effectOf, priceOf, settle, pay, actOf, decode, halt, machine, follow, runOf, start, whole}
+use Rattle.machine.specs.Machine.{Fault, outOfGas, stackLimitExceeded, storageLimitExceeded, outsideStorage, Frame, Effect, moves, jumps, ends, fails, over, costs, next, done, stop, storeAt, pushOf, valueOf, twoOf, dupOf, swapOf, jumpIfOf, storeOf, requested, effectOf, priceOf, settle, pay, actOf, decode, halt, machine, follow, runOf, start, whole, Progress}
 use Rattle.machine.proofs.Program.{effect-high}
 use Rattle.machine.proofs.Runs.{unpaid, afforded, Ended, whole-ends}
 use Rattle.ops.specs.Written as Written
@@ -26,7 +26,7 @@ use Rattle.checks.specs.declared.Refusal.the-variants.{BufferLengths, EmptyProg
 use Rattle.checks.specs.declared.Check.{Check}
 use Rattle.checks.specs.declared.Check.the-variants as check
 use Rattle.checks.specs.Numbers.{checkNumbered}
-use Rattle.checks.specs.Verify.{andThen, buffersFit, gateCheck, targetFits, operationCheck, operationsCheck, verifyOf}
+use Rattle.checks.specs.Verify.{thenCheck, buffersFit, gateCheck, targetFits, operationCheck, operationsCheck, verifyOf}
 use Rattle.perform.specs.Call.{Call}
 use Rattle.perform.specs.Lent.{Lent}
 use Rattle.perform.specs.Numbers.{answerNumbered}
@@ -53,7 +53,7 @@ each f [] = Written.none
 each f (a ∷ l) = Written.one (f a) (each f l)
 
 -- the run of a call
-abbrev pub ran : Call → Outcome
+abbrev pub ran : Call → Progress
 ran x = whole (decode (x .kinds) (x .operands)) (x .caller) (length (x .storage)) (x .limit) (take (x .state .used) (x .storage))
 
 -- the number that a call whose own test is `own` answers
@@ -72,7 +72,7 @@ module _ (P : ℕ → Type 0) where
   need-gives true f c h g = g
   need-gives false f c h g = h refl
 
-  then-gives : (c d : Check) → Gives c → Gives d → Gives (andThen c d)
+  then-gives : (c d : Check) → Gives c → Gives d → Gives (thenCheck c d)
   then-gives check.Passed d p q = q
   then-gives (check.Refused f) d p q = p
 
@@ -122,7 +122,7 @@ module _ (P : ℕ → Type 0) where
   Fails ends = Unit {0}
   Fails (fails f) = P (faultNumber f)
 
-  abbrev Stops : Outcome → Type 0
+  abbrev Stops : Progress → Type 0
   Stops (next h fr) = Unit {0}
   Stops (done h fr) = Unit {0}
   Stops (stop f) = P (faultNumber f)
@@ -227,7 +227,7 @@ module _ (P : ℕ → Type 0) where
       run-stops zero h fr = tt
       run-stops (suc n) h fr = go (pay h fr (machine program c room fr)) (step-stops h fr) (λ i f. run-stops n i f)
         where
-          go : (x : Outcome) → Stops x → ((i : ℕ) (f : Frame) → Stops (runOf (machine program c room) n i f)) → Stops (follow x (runOf (machine program c room) n))
+          go : (x : Progress) → Stops x → ((i : ℕ) (f : Frame) → Stops (runOf (machine program c room) n i f)) → Stops (follow x (runOf (machine program c room) n))
           go (next i f) p ih = ih i f
           go (done i f) p ih = tt
           go (stop f) p ih = p
@@ -242,10 +242,10 @@ module _ (P : ℕ → Type 0) where
       let v = verifyOf (x .kinds) (x .operands) (x .state .used) in
       let t = then-gives v check.Passed (verify-gives (x .kinds) (x .operands) (x .state .used) h) (h .zero) in
       go (checksOf own check.Passed x) (ran x)
-      (then-gives (lengthsCheck x) (andThen own (andThen v check.Passed)) b (then-gives own (andThen v check.Passed) q t))
+      (then-gives (lengthsCheck x) (thenCheck own (thenCheck v check.Passed)) b (then-gives own (thenCheck v check.Passed) q t))
       r (whole-ends (decode (x .kinds) (x .operands)) (x .caller) (length (x .storage)) (x .limit) (take (x .state .used) (x .storage)))
     where
-      go : (c : Check) (o : Outcome) → Gives c → Stops o → Ended o → P (answerNumbered (afterCheck c x (ofRun x o) .answer) .number)
+      go : (c : Check) (o : Progress) → Gives c → Stops o → Ended o → P (answerNumbered (afterCheck c x (ofRun x o) .answer) .number)
       go (check.Refused f) o p q z = p
       go check.Passed (next i fr) p q z = absurd z
       go check.Passed (done i fr) p q z = p
@@ -335,7 +335,7 @@ module _ (ns : List ℕ) (own : Check) (x : Call) (o : Gives (Among ns) own) (v 
       (each-of (λ op p e l q. absurd (let z = p e l in omega arith)) (h .stores)) (x .limit) (take (x .state .used) (x .storage)))
 
 -- under the limit 0 a run is over at its first operation: a Halt, or no kind, ends it, and any other can't be paid for
-abbrev OverAt : ℕ → Outcome → Type 0
+abbrev OverAt : ℕ → Progress → Type 0
 OverAt k o = (15 ≤ k → (h : ℕ) × (fr : Frame) × (o ≡ done h fr)) × (k < 15 → (price : ℕ) × (o ≡ stop (outOfGas price 0)))
 
 first-over : (c room : ℕ) (fr : Frame) (o : Operation) → OverAt (o .kind) (pay 0 fr (actOf c room o fr))
@@ -350,7 +350,7 @@ first-over c room fr o = (
     after : Frame
     after = record { pos = fr .pos; stack = fr .stack; storage = fr .storage; ops = fr .ops + 1 }
 
-follow-over : (k : ℕ) (o : Outcome) (more : ℕ → Frame → Outcome) → OverAt k o → OverAt k (follow o more)
+follow-over : (k : ℕ) (o : Progress) (more : ℕ → Frame → Progress) → OverAt k o → OverAt k (follow o more)
 follow-over k o more h = (λ l. (h .0 l .0, h .0 l .1, rw (h .0 l .2)), λ l. (h .1 l .0, rw (h .1 l .1)))
 
 unmetered-over : (program : List Operation) (c room : ℕ) (m : List ℕ) → OverAt (getD program 0 halt .kind) (whole program c room 0 m)
@@ -363,7 +363,7 @@ unmetered-over (op ∷ program) c room m =
 unmetered-stops : (P : ℕ → Type 0) → P 46 → (program : List Operation) (c room : ℕ) (m : List ℕ) → Stops P (whole program c room 0 m)
 unmetered-stops P g program c room m = go (decLt (getD program 0 halt .kind) 15) (unmetered-over program c room m)
   where
-    go : {o : Outcome} → Dec (getD program 0 halt .kind < 15) → OverAt (getD program 0 halt .kind) o → Stops P o
+    go : {o : Progress} → Dec (getD program 0 halt .kind < 15) → OverAt (getD program 0 halt .kind) o → Stops P o
     go (yes h) e = rw (e .1 h .1) g
     go (no h) e = rw (e .0 (omega arith) .2) tt
 
@@ -372,7 +372,7 @@ need-passed : (b : Bool) (f : Refusal) (c : Check) → need b (check.Refused f) 
 need-passed true f c e = (refl, e)
 need-passed false f c e = absurd (let z : _≡_ {A = ℕ} 0 1 = cc in omega arith)
 
-then-passed : (c d : Check) → andThen c d ≡ check.Passed → (c ≡ check.Passed) × (d ≡ check.Passed)
+then-passed : (c d : Check) → thenCheck c d ≡ check.Passed → (c ≡ check.Passed) × (d ≡ check.Passed)
 then-passed check.Passed d e = (refl, e)
 then-passed (check.Refused f) d e = absurd (let z : _≡_ {A = ℕ} 0 1 = cc in omega arith)
 
@@ -402,7 +402,7 @@ verified-first ks vs used e =
 abbrev ByFirst : ℕ → ℕ → Type 0
 ByFirst k n = (k ≡ 15 → n ≡ 0) × ((k ≡ 15 → ⊥) → n ≡ 46)
 
-over-number : (x : Call) (k : ℕ) (o : Outcome) → k ≤ 15 → OverAt k o → ByFirst k (answerNumbered (ofRun x o .answer) .number)
+over-number : (x : Call) (k : ℕ) (o : Progress) → k ≤ 15 → OverAt k o → ByFirst k (answerNumbered (ofRun x o .answer) .number)
 over-number x k o l h = (λ e. rw (h .0 (omega arith) .2), λ e. rw (h .1 (omega arith) .1))
 
 passed-number : (own : Check) (x : Call) → x .limit ≡ 0 → checksOf own check.Passed x ≡ check.Passed
@@ -414,8 +414,8 @@ passed-number own x z e =
     first : First (x .kinds) (x .operands)
     first =
         let v = verifyOf (x .kinds) (x .operands) (x .state .used) in
-        let a = then-passed (lengthsCheck x) (andThen own (andThen v check.Passed)) e .1 in
-        let b = then-passed own (andThen v check.Passed) a .1 in
+        let a = then-passed (lengthsCheck x) (thenCheck own (thenCheck v check.Passed)) e .1 in
+        let b = then-passed own (thenCheck v check.Passed) a .1 in
         verified-first (x .kinds) (x .operands) (x .state .used) (then-passed v check.Passed b .0)
 
     over-first : OverAt (getD (x .kinds) 0 0) (ran x)

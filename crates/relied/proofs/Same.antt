@@ -5,7 +5,7 @@ use mathlib.Core.Path.{_≡_, refl, sym, ap, _∙_}
 use mathlib.Core.List.{List}
 use lib.ListN.{length, take, drop}
 use lib.Seq.{take-at}
-use Rattle.machine.specs.Machine.{Outcome, next, done, stop}
+use Rattle.machine.specs.Machine.{Progress, next, done, stop}
 use Rattle.checks.specs.declared.Refusal.{Refusal}
 use Rattle.checks.specs.declared.Check.{Check}
 use Rattle.checks.specs.declared.Check.the-variants as check
@@ -38,15 +38,15 @@ module _ (own : Check) (x : Call) (stack work storage : List ℕ)
     storage = storage;
   }
 
-  result : Call → Check → Outcome → Result
+  result : Call → Check → Progress → Result
   result z c o = afterCheck c z (ofRun z o)
 
-  by-outcome : (c : Check) (o : Outcome) → SameRun (result x c o) (result other c o)
+  by-progress : (c : Check) (o : Progress) → SameRun (result x c o) (result other c o)
   unfolding result
-  by-outcome (check.Refused f) o = refused _ _ f refl refl
-  by-outcome check.Passed (next h fr) = refused _ _ _ refl refl
-  by-outcome check.Passed (stop f) = refused _ _ _ refl refl
-  by-outcome check.Passed (done h fr) = record {
+  by-progress (check.Refused f) o = refused _ _ f refl refl
+  by-progress check.Passed (next h fr) = refused _ _ _ refl refl
+  by-progress check.Passed (stop f) = refused _ _ _ refl refl
+  by-progress check.Passed (done h fr) = record {
     answer = refl;
     success = λ spent operations items after e.
         let a : _≡_ {A = State} (record { used = length (fr .storage) }) after = cc in
@@ -54,8 +54,8 @@ module _ (own : Check) (x : Call) (stack work storage : List ℕ)
         (rw ls, rw lw, take-at (fr .storage) (drop (length (fr .storage)) (x .storage)) (after .used) j ∙ sym (take-at (fr .storage) (drop (length (fr .storage)) storage) (after .used) j));
   }
 
-  by-both : (c c′ : Check) (o o′ : Outcome) → c ≡ c′ → o ≡ o′ → SameRun (result x c o) (result other c′ o′)
-  by-both c c′ o o′ p q = rw (← p, ← q) (by-outcome c o)
+  by-both : (c c′ : Check) (o o′ : Progress) → c ≡ c′ → o ≡ o′ → SameRun (result x c o) (result other c′ o′)
+  by-both c c′ o o′ p q = rw (← p, ← q) (by-progress c o)
 
   pub same-run : SameRun (runUnder own check.Passed (λ r. r) x) (runUnder own check.Passed (λ r. r) other)
   unfolding result

@@ -12,7 +12,7 @@ use borrow.Author.Tests.{ltb-true}
 use Rattle.word.specs.Apply.{Binary, add, sub, mul, div, eq, lt, apply}
 use Rattle.kinds.specs.Kinds.{Operation, operation}
 use Rattle.kinds.proofs.ByKind.{Span, end, _&_, span}
-use Rattle.machine.specs.Machine.{outOfGas, stackLimitExceeded, storageLimitExceeded, outsideStorage, Frame, Effect, moves, jumps, ends, fails, over, costs, Outcome, next, done, stop, storeAt, pushOf, valueOf, twoOf, dupOf, swapOf, jumpIfOf, storeOf, requested, effectOf, priceOf, settle, pay, actOf, decode, halt, machine, follow, runOf, start, whole}
+use Rattle.machine.specs.Machine.{outOfGas, stackLimitExceeded, storageLimitExceeded, outsideStorage, Frame, Effect, moves, jumps, ends, fails, over, costs, next, done, stop, storeAt, pushOf, valueOf, twoOf, dupOf, swapOf, jumpIfOf, storeOf, requested, effectOf, priceOf, settle, pay, actOf, decode, halt, machine, follow, runOf, start, whole, Progress}
 use Rattle.machine.proofs.Program.{effect-high}
 use Rattle.machine.proofs.Slots.{store-length}
 use Rattle.checks.specs.declared.Refusal.{Refusal}
@@ -37,7 +37,7 @@ module _ (room : ℕ) where
   Leaves ends = Unit {0}
   Leaves (fails f) = Unit {0}
 
-  abbrev Reaches : Outcome → Type 0
+  abbrev Reaches : Progress → Type 0
   Reaches (next h fr) = Inside (fr .stack) (fr .storage)
   Reaches (done h fr) = Inside (fr .stack) (fr .storage)
   Reaches (stop f) = Unit {0}
@@ -150,7 +150,7 @@ module _ (room : ℕ) where
     run-reaches zero g fr i = i
     run-reaches (suc n) g fr i = go (pay g fr (machine program c room fr)) (step-reaches g fr i) (λ h f j. run-reaches n h f j)
       where
-        go : (x : Outcome) → Reaches x → ((h : ℕ) (f : Frame) → Inside (f .stack) (f .storage) → Reaches (runOf (machine program c room) n h f))
+        go : (x : Progress) → Reaches x → ((h : ℕ) (f : Frame) → Inside (f .stack) (f .storage) → Reaches (runOf (machine program c room) n h f))
             → Reaches (follow x (runOf (machine program c room) n))
         go (next h f) p ih = ih h f p
         go (done h f) p ih = p
@@ -173,7 +173,7 @@ success-within own x spent operations items after =
     not-success : {A : Type 0} (f : Refusal) → Refused f ≡ Success spent operations items after → A
     not-success f e = let z : _≡_ {A = ℕ} 0 1 = cc in absurd (omega arith)
 
-    go : (c : Check) (o : Outcome) → Reaches (length (x .storage)) o → afterCheck c x (ofRun x o) .answer ≡ Success spent operations items after
+    go : (c : Check) (o : Progress) → Reaches (length (x .storage)) o → afterCheck c x (ofRun x o) .answer ≡ Success spent operations items after
         → (items ≤ 4096) × (after .used ≤ length (x .storage))
     go (check.Refused f) o p e = not-success f e
     go check.Passed (next h fr) p e = not-success _ e

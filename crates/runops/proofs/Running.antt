@@ -4,7 +4,7 @@ use native.Mathlib.Omega.{arith}
 use mathlib.Core.Path.{_≡_, refl, sym, ap, _∙_}
 use mathlib.Core.List.{List, [], reverse}
 use lib.ListN.{length, getD, replicate, length-append, length-reverse}
-use Rattle.machine.specs.Machine.{Outcome, next, done, stop, decode, whole}
+use Rattle.machine.specs.Machine.{Progress, next, done, stop, decode, whole}
 use Rattle.checks.specs.declared.Refusal.{Refusal}
 use Rattle.checks.specs.declared.Check.{Check}
 use Rattle.checks.specs.declared.Check.the-variants as check
@@ -35,7 +35,7 @@ items-fit ks vs s a spent operations items after r e =
     not-success : {A : Type 0} (f : Refusal) → Refused f ≡ Success spent operations items after → A
     not-success f e = let z : _≡_ {A = ℕ} 0 1 = cc in absurd (omega arith)
 
-    go : (c : Check) (o : Outcome) → afterCheck c (call ks vs) (ofRun (call ks vs) o) .answer ≡ Success spent operations items after
+    go : (c : Check) (o : Progress) → afterCheck c (call ks vs) (ofRun (call ks vs) o) .answer ≡ Success spent operations items after
         → s ≡ afterCheck c (call ks vs) (ofRun (call ks vs) o) .stack → items ≤ length s
     go (check.Refused f) o e k = not-success f e
     go check.Passed (next h fr) e k = not-success _ e

@@ -8,7 +8,8 @@ use lib.ListN.{length, getD, replicate}
 use Rattle.base.specs.Ascii.{ascii}
 use Rattle.base.specs.Overwrite.{overwrite}
 use Rattle.decimal.specs.Decimal.{decimal}
-use Rattle.ops.specs.Ops.{Reading, ops, refused, readText, kindsOf, operandsOf}
+use Rattle.ops.specs.Ops.{Reading, readText, kindsOf, operandsOf}
+use Rattle.base.specs.Outcome.{is, refused}
 use Rattle.ops.specs.Numbers.{opsErrorNumbered}
 use Rattle.perform.specs.declared.Answer.{Answer}
 use Rattle.perform.specs.declared.Answer.the-variants.{Success, Refused}
@@ -66,7 +67,7 @@ abbrev pub runReport : (kinds operands : List ℕ) → Report
 runReport kinds operands = answered (ran kinds operands .answer) (ran kinds operands .stack)
 
 abbrev pub readingReport : Reading → Report
-readingReport (ops os) = runReport (kindsOf os) (operandsOf os)
+readingReport (is os) = runReport (kindsOf os) (operandsOf os)
 readingReport (refused e) = refusedWith (opsErrorNumbered e .number)
 
 -- over 65,536 bytes prints 27

@@ -17,7 +17,7 @@ use Rattle.checks.specs.declared.Refusal.{Refusal}
 use Rattle.checks.specs.declared.Refusal.the-variants.{BufferLengths, EmptyProgram, ProgramTooLarge, StorageTooLarge, UnknownKind, JumpOutOfRange, OutOfGas, StackUnderflow, StackLimitExceeded, DivisionByZero, StorageLimitExceeded, OutsideStorage}
 use Rattle.checks.specs.declared.Check.{Check}
 use Rattle.checks.specs.declared.Check.the-variants as check
-use Rattle.checks.specs.Verify.{andThen, buffersFit, gateCheck, targetFits, operationCheck, operationsCheck, verifyOf}
+use Rattle.checks.specs.Verify.{thenCheck, buffersFit, gateCheck, targetFits, operationCheck, operationsCheck, verifyOf}
 use Rattle.perform.specs.Call.{Call}
 use Rattle.perform.specs.Run.{refusalOf}
 use Rattle.vm.specs.Transition.{lengthsCheck, checksOf}
@@ -32,7 +32,7 @@ need-tested : (b : Bool) (f : Refusal) (c : Check) → Tested (check.Refused f) 
 need-tested true f c p q = q
 need-tested false f c p q = p
 
-then-tested : (c d : Check) → Tested c → Tested d → Tested (andThen c d)
+then-tested : (c d : Check) → Tested c → Tested d → Tested (thenCheck c d)
 then-tested check.Passed d p q = q
 then-tested (check.Refused f) d p q = p
 

@@ -4,7 +4,7 @@ use native.Mathlib.Omega.{arith}
 use mathlib.Core.Path.{_≡_, refl, ap}
 use lib.ListN.{length, take}
 use Rattle.context.specs.declared.Gate.{Gate}
-use Rattle.machine.specs.Machine.{Outcome, next, done, stop, decode, whole}
+use Rattle.machine.specs.Machine.{Progress, next, done, stop, decode, whole}
 use Rattle.machine.proofs.Runs.{Counted, whole-counted, Ended, whole-ends}
 use Rattle.machine.proofs.Stops.{Stops, whole-stops}
 use Rattle.checks.specs.declared.Refusal.{Refusal}
@@ -31,17 +31,17 @@ pub record Books (book : Result → Result) : Type 0 where
 
 -- a call with its own tests before and behind the verifier, which give only 34 to 45, and with what it books
 module _ (before behind : Check) (book : Result → Result) (books : Books book) (x : Call) where
-  abbrev ran : Outcome
+  abbrev ran : Progress
   ran = whole (decode (x .kinds) (x .operands)) (x .caller) (length (x .storage)) (x .limit) (take (x .state .used) (x .storage))
 
-  abbrev result : Check → Outcome → Result
+  abbrev result : Check → Progress → Result
   result c o = afterCheck c x (book (ofRun x o))
 
   pub leaves : Tested before → Tested behind → (f : Refusal) → runUnder before behind book x .answer ≡ Refused f → Leaves f x (runUnder before behind book x)
   leaves p q f =
       go (checksOf before behind x) ran (checks-tested before behind x p q) (whole-stops (x .limit) (decode (x .kinds) (x .operands)) (x .caller) (length (x .storage)) (take (x .state .used) (x .storage))) (whole-ends (decode (x .kinds) (x .operands)) (x .caller) (length (x .storage)) (x .limit) (take (x .state .used) (x .storage)))
     where
-      go : (c : Check) (o : Outcome) → Tested c → Stops (x .limit) o → Ended o → result c o .answer ≡ Refused f → Leaves f x (result c o)
+      go : (c : Check) (o : Progress) → Tested c → Stops (x .limit) o → Ended o → result c o .answer ≡ Refused f → Leaves f x (result c o)
       go (check.Refused r) o t s z e =
           let i : r ≡ f = cc in
           let t′ : Tested (check.Refused f) = rw i at t in
@@ -59,7 +59,7 @@ module _ (before behind : Check) (book : Result → Result) (books : Books book)
   bounded spent operations items after =
       go (checksOf before behind x) ran (whole-counted (decode (x .kinds) (x .operands)) (x .caller) (length (x .storage)) (x .limit) (take (x .state .used) (x .storage))) (whole-stops (x .limit) (decode (x .kinds) (x .operands)) (x .caller) (length (x .storage)) (take (x .state .used) (x .storage)))
     where
-      go : (c : Check) (o : Outcome) → Counted (x .limit) o → Stops (x .limit) o → result c o .answer ≡ Success spent operations items after → (operations ≤ spent + 1) × (spent ≤ x .limit)
+      go : (c : Check) (o : Progress) → Counted (x .limit) o → Stops (x .limit) o → result c o .answer ≡ Success spent operations items after → (operations ≤ spent + 1) × (spent ≤ x .limit)
       go (check.Refused r) o b q e = not-success r e
       go check.Passed (next h fr) b q e = not-success _ (rw (books .refused _ x) at e)
       go check.Passed (stop r) b q e = not-success _ (rw (books .refused _ x) at e)

@@ -8,7 +8,7 @@ use Rattle.checks.specs.declared.Refusal.{Refusal}
 use Rattle.checks.specs.declared.Refusal.the-variants.{BufferLengths}
 use Rattle.checks.specs.declared.Check.{Check}
 use Rattle.checks.specs.declared.Check.the-variants as check
-use Rattle.checks.specs.Verify.{andThen, buffersFit, gateCheck, verifyOf}
+use Rattle.checks.specs.Verify.{thenCheck, buffersFit, gateCheck, verifyOf}
 use Rattle.perform.specs.declared.Answer.the-variants.{Refused}
 use Rattle.perform.specs.Call.{Call}
 use Rattle.perform.specs.Run.{Result, performed}
@@ -25,7 +25,7 @@ lengthsCheck x =
 -- what is tested before the run: the lengths, what the call asks before the verifier, the verifier, what it asks behind it
 abbrev pub checksOf : (before behind : Check) → Call → Check
 checksOf before behind x =
-    andThen (lengthsCheck x) (andThen before (andThen (verifyOf (x .kinds) (x .operands) (x .state .used)) behind))
+    thenCheck (lengthsCheck x) (thenCheck before (thenCheck (verifyOf (x .kinds) (x .operands) (x .state .used)) behind))
 
 abbrev pub afterCheck : Check → Call → Result → Result
 afterCheck check.Passed x r = r

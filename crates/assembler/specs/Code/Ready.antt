@@ -5,7 +5,8 @@ use mathlib.Core.List.{List}
 use mathlib.Core.Bool.{true}
 use lib.ListN.{length}
 use Rattle.contract.specs.declared.assembly.Assembly as Code
-use Rattle.numbered.specs.Outcome.{Outcome}
+use Rattle.numbered.specs.declared.Numbered.{Numbered}
+use Rattle.base.specs.Outcome.{Outcome}
 use Rattle.expression.specs.Tree.{Tree}
 use Rattle.contract.specs.Code.Concluded.{Accepts}
 use Rattle.contract.specs.Output.{stemFits, named}
@@ -16,9 +17,9 @@ use Rattle.assembler.specs.Answers.{Assembles}
 pub record Ready (s stem : List ℕ) (a : Code.Assembly) : Type 0 where
   pub short : length stem ≤ 255
   pub vector : List ℕ
-  pub o : Outcome (ℕ × Tree)
+  pub o : Outcome Numbered (ℕ × Tree)
   pub accepts : Accepts s vector o a
 
 -- what is accepted is written where the stem fits
 pub record Writes (s stem : List ℕ) (a : Code.Assembly) (out after : List ℕ) (r : Answer) : Type 0 where
-  pub is : (vector : List ℕ) (o : Outcome (ℕ × Tree)) → Accepts s vector o a → stemFits stem ≡ true → Assembles (named o stem (length out)) out after r
+  pub is : (vector : List ℕ) (o : Outcome Numbered (ℕ × Tree)) → Accepts s vector o a → stemFits stem ≡ true → Assembles (named o stem (length out)) out after r

@@ -8,7 +8,8 @@ use Rattle.source.specs.declared.function.Places.{Places}
 use Rattle.source.specs.declared.function.Function.the-variants.{Found}
 use Rattle.source.specs.Function.{functionOf}
 use Rattle.expression.specs.Tree.{Tree}
-use Rattle.numbered.specs.Outcome.{Outcome, is, refused, andThen}
+use Rattle.numbered.specs.declared.Numbered.{Numbered}
+use Rattle.base.specs.Outcome.{Outcome, is, refused, andThen}
 use Rattle.contract.specs.declared.assembly.Assembly.{Assembly}
 use Rattle.contract.specs.declared.refusal.Refusal.{Refusal}
 use Rattle.contract.specs.declared.state.Status.{Status}
@@ -31,7 +32,7 @@ pub record Reached (s vector : List ℕ) (a : Code.State) : Type 0 where
   pub place : placeOf (a .last) ≡ lastReturn s places
 
 -- the state's last return means the tree t, which is accepted
-pub record Accepts (s vector : List ℕ) (o : Outcome (ℕ × Tree)) (r : Assembly) : Type 0 where
+pub record Accepts (s vector : List ℕ) (o : Outcome Numbered (ℕ × Tree)) (r : Assembly) : Type 0 where
   pub reached : Reached s vector (r .state)
   pub t : Tree
   pub last : reached .st .last ≡ some t
@@ -42,16 +43,16 @@ pub record Accepts (s vector : List ℕ) (o : Outcome (ℕ × Tree)) (r : Assemb
 abbrev pub rejectedFor : Refusal → Assembly
 rejectedFor why = record { state = refusedAs nothingYet why; expected = 0 }
 
-abbrev pub ConcludesBy : Status → List ℕ → List ℕ → Outcome (ℕ × Tree) → Assembly → Type 0
+abbrev pub ConcludesBy : Status → List ℕ → List ℕ → Outcome Numbered (ℕ × Tree) → Assembly → Type 0
 ConcludesBy Going s vector o r = Accepts s vector o r
 ConcludesBy (Refused why) s vector o r = (o ≡ refused (refusalNumbered why)) × (r ≡ rejectedFor why)
 
 -- the answer r says o of the contract s and its vector: its state holds the tree that is accepted, or the refusal
-pub record Concludes (s vector : List ℕ) (o : Outcome (ℕ × Tree)) (r : Assembly) : Type 0 where
+pub record Concludes (s vector : List ℕ) (o : Outcome Numbered (ℕ × Tree)) (r : Assembly) : Type 0 where
   pub by : ConcludesBy (r .state .status) s vector o r
 
 -- what the body's last return makes of it
-abbrev pub concluded : ℕ → Outcome State → Outcome (ℕ × Tree)
+abbrev pub concluded : ℕ → Outcome Numbered State → Outcome Numbered (ℕ × Tree)
 concluded expected o = andThen o (λ st. returned expected (st .last))
 
 -- what is made of a state and the expected value, wherever the state was read

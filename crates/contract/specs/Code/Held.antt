@@ -5,7 +5,8 @@ use mathlib.Core.List.{List}
 use mathlib.Core.Bool.{Bool, true, false}
 use mathlib.Core.Option.{Option, some, none}
 use lib.ListN.{length}
-use Rattle.numbered.specs.Outcome.{Outcome, is, refused}
+use Rattle.numbered.specs.declared.Numbered.{Numbered}
+use Rattle.base.specs.Outcome.{Outcome, is, refused}
 use Rattle.source.specs.declared.parameters.Span.{Span}
 use Rattle.expression.specs.Tree.{Tree, kOf}
 use Rattle.expression.specs.Parse.{Env, meaning}
@@ -59,22 +60,22 @@ pub record Good (s : List ℕ) (a : Code.State) : Type 0 where
   pub st : State
   pub represents : Represents s a st
 
-abbrev pub LeadsBy : Status → List ℕ → Code.State → Outcome State → (State → Outcome State) → Type 0
+abbrev pub LeadsBy : Status → List ℕ → Code.State → Outcome Numbered State → (State → Outcome Numbered State) → Type 0
 LeadsBy Going s a whole rest = (st : State) × (Represents s a st × (whole ≡ rest st))
 LeadsBy (Refused why) s a whole rest = whole ≡ refused (refusalNumbered why)
 
 -- the whole has come to a, and what is left to do of it is the rest; or a is its refusal
-pub record Leads (s : List ℕ) (a : Code.State) (whole : Outcome State) (rest : State → Outcome State) : Type 0 where
+pub record Leads (s : List ℕ) (a : Code.State) (whole : Outcome Numbered State) (rest : State → Outcome Numbered State) : Type 0 where
   pub by : LeadsBy (a .status) s a whole rest
 
 -- r is what f makes of a
-pub record Follows (s : List ℕ) (a : Code.State) (f : State → Outcome State) (t : List ℕ) (r : Code.State) : Type 0 where
+pub record Follows (s : List ℕ) (a : Code.State) (f : State → Outcome Numbered State) (t : List ℕ) (r : Code.State) : Type 0 where
   pub leads : (st : State) → Represents s a st → Leads t r (f st) is
 
 -- the figures of an expression on a line, whose k is 32,768 at most; or its refusal
-abbrev pub Checks : Outcome Tree → ℕ → Checked → Type 0
+abbrev pub Checks : Outcome Numbered Tree → ℕ → Checked → Type 0
 Checks m line (Checked.Is v) = (t : Tree) × ((m ≡ is t) × ((kOf t ≤ 32768) × Figures t v))
-Checks m line (Checked.Refused why) = (follows : Tree → Outcome State) → treeOr m line follows ≡ refused (refusalNumbered why)
+Checks m line (Checked.Refused why) = (follows : Tree → Outcome Numbered State) → treeOr m line follows ≡ refused (refusalNumbered why)
 
 -- in every environment that the table holds
 pub record ChecksAll (s : List ℕ) (c : Columns) (line : ℕ) (t : List ℕ) (r : Checked) : Type 0 where
@@ -93,6 +94,6 @@ pub record LetWithin (s : List ℕ) (name expr : Span) : Type 0 where
   pub between : name .end ≤ expr .start
   pub within : Within s (expr .start) (expr .end)
 
-abbrev pub keyedAs : Number → Outcome ℕ
+abbrev pub keyedAs : Number → Outcome Numbered ℕ
 keyedAs (Number.Is n) = is n
 keyedAs (Number.Refused why) = refused (refusalNumbered why)

@@ -4,7 +4,7 @@ use mathlib.Core.Path.{_≡_}
 use mathlib.Core.List.{List}
 use lib.ListN.{length, getD, take, drop}
 use lib.Seq.{slice}
-use Rattle.numbered.specs.Outcome.{is}
+use Rattle.base.specs.Outcome.{is}
 use Rattle.expression.specs.Tree.{Tree}
 use Rattle.expression.specs.Parse.{meaning}
 use Rattle.expression.specs.Code.Source.{Sources, treeIn, envOf, treeOf, AllStand}

@@ -4,7 +4,8 @@ use mathlib.Core.Path.{_≡_}
 use mathlib.Core.List.{List}
 use lib.ListN.{drop}
 use mathlib.Core.Option.{Option}
-use Rattle.numbered.specs.Outcome.{Outcome, is, refused}
+use Rattle.numbered.specs.declared.Numbered.{Numbered}
+use Rattle.base.specs.Outcome.{Outcome, is, refused}
 use Rattle.token.specs.Code.Places.{lastEnd}
 use Rattle.expression.specs.declared.Parsed.{Parsed}
 use Rattle.expression.specs.declared.Parsed.the-variants as Parsed
@@ -24,12 +25,12 @@ abbrev pub said : Parsed → Answer
 said (Parsed.Done v) = figures (v .k) (v .p) (optionOf (v .value)) (v .len)
 said (Parsed.Refused e) = refusal (exprErrorNumbered e .number)
 
-abbrev pub due : Outcome Tree → Answer
+abbrev pub due : Outcome Numbered Tree → Answer
 due (is t) = figures (kOf t) (pOf t) (valueOf t) (lenOf t)
 due (refused r) = refusal (r .number)
 
 -- a tree's text is short: a line has at most 26 bytes, and an operator's at most 4
-abbrev pub Short : Outcome Tree → Type 0
+abbrev pub Short : Outcome Numbered Tree → Type 0
 Short (is t) = lenOf t + 4 ≤ 30 * kOf t
 Short (refused r) = Unit {0}
 

@@ -4,12 +4,14 @@ use mathlib.Core.Path.{_≡_}
 use mathlib.Core.List.{List}
 use mathlib.Core.Bool.{false}
 use lib.ListN.{length, getD, drop}
+use Rattle.base.specs.Outcome.{is, refused}
+use Rattle.numbered.specs.declared.Numbered.{Numbered}
 use Rattle.token.specs.Token.{space, tokens}
 use Rattle.expression.specs.declared.figures.Read.{Read}
 use Rattle.expression.specs.declared.Parsed.{Parsed}
 use Rattle.expression.specs.declared.Parsed.the-variants.{Done, Refused}
 use Rattle.expression.specs.Tree.{Tree}
-use Rattle.expression.specs.Parse.{Env, done, refused, parseF, enough}
+use Rattle.expression.specs.Parse.{Env, parseF, enough}
 use Rattle.expression.specs.Answer.{exprErrorNumbered}
 use Rattle.expression.specs.Code.Table.{Columns, Holds}
 use Rattle.expression.specs.Code.Figures.{Figures}
@@ -18,10 +20,10 @@ module _ (env : Env) (l d : ℕ) (ts : List (List ℕ)) where
   -- the parser reads the tree t and leaves rest, with every fuel that is enough
   pub record Reads (t : Tree) (rest : List (List ℕ)) : Type 0 where
     pub fewer : length rest < length ts
-    pub same : (f : ℕ) → enough l ts ≤ f → parseF f l env d ts ≡ done t rest
+    pub same : (f : ℕ) → enough l ts ≤ f → parseF f l env d ts ≡ is (t, rest)
 
-  pub record Refuses (n : ℕ) : Type 0 where
-    pub same : (f : ℕ) → enough l ts ≤ f → parseF f l env d ts ≡ refused n
+  pub record Refuses (r : Numbered) : Type 0 where
+    pub same : (f : ℕ) → enough l ts ≤ f → parseF f l env d ts ≡ refused r
 
 -- what is read ends within the text, with a byte of a token; the bounds exclude that a sum overflows
 pub record Placed (s : List ℕ) (at : ℕ) (v : Read) : Type 0 where
@@ -38,7 +40,7 @@ Fine s at (Refused e) = Unit {0}
 
 abbrev pub Means : List ℕ → ℕ → Env → ℕ → ℕ → Parsed → Type 0
 Means s at env l d (Done v) = (t : Tree) × (Reads env l d (tokens (drop at s)) t (tokens (drop (v .next) s)) × Figures t v)
-Means s at env l d (Refused e) = Refuses env l d (tokens (drop at s)) (exprErrorNumbered e .number)
+Means s at env l d (Refused e) = Refuses env l d (tokens (drop at s)) (exprErrorNumbered e)
 
 -- in every environment that the table holds
 pub record Meets (s : List ℕ) (at : ℕ) (c : Columns) (l d : ℕ) (r : Parsed) : Type 0 where

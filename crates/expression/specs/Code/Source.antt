@@ -5,7 +5,8 @@ use mathlib.Core.List.{List, [], _∷_}
 use mathlib.Core.Bool.{cond}
 use lib.Dec.{eqb}
 use lib.ListN.{length, getD, take, drop}
-use Rattle.numbered.specs.Outcome.{Outcome, is, refused}
+use Rattle.numbered.specs.declared.Numbered.{Numbered}
+use Rattle.base.specs.Outcome.{Outcome, is, refused}
 use Rattle.expression.specs.declared.Bindings.{Bindings}
 use Rattle.expression.specs.declared.Values.{Values}
 use Rattle.expression.specs.Tree.{Tree, num}
@@ -28,7 +29,7 @@ abbrev pub sources : Bindings → Values → Sources
 sources b v = sourcesOf (b .«name_start») (b .«name_len») (v .tag) (b .«expr_start») (b .«expr_len») (v .value)
 
 -- the tree of what means one
-abbrev pub treeIn : Outcome Tree → Tree
+abbrev pub treeIn : Outcome Numbered Tree → Tree
 treeIn (is t) = t
 treeIn (refused r) = num 0
 

@@ -6,7 +6,7 @@ use lib.ListN.{length, getD, take}
 use Rattle.word.specs.Apply.{Binary, add, sub, mul, div, eq, lt}
 use Rattle.machine.specs.declared.Regs.{Regs}
 use Rattle.kinds.specs.Kinds.{Operation}
-use Rattle.machine.specs.Machine.{Fault, outOfGas, stackUnderflow, stackLimitExceeded, divisionByZero, storageLimitExceeded, outsideStorage, Frame, Effect, Outcome, next, done, stop, settle, pay, actOf, machine, runOf}
+use Rattle.machine.specs.Machine.{Fault, outOfGas, stackUnderflow, stackLimitExceeded, divisionByZero, storageLimitExceeded, outsideStorage, Frame, Effect, Progress, next, done, stop, settle, pay, actOf, machine, runOf}
 
 -- the first n of a buffer, the last of them first
 unfoldable pub down : ℕ → List ℕ → List ℕ
@@ -24,13 +24,13 @@ faultOf code note left =
     (outOfGas note left)
 
 -- code 0 goes on, 1 is done, any other is a refusal
-abbrev pub byCode : ℕ → ℕ → ℕ → Frame → Outcome
+abbrev pub byCode : ℕ → ℕ → ℕ → Frame → Progress
 byCode zero note g fr = next g fr
 byCode (suc zero) note g fr = done g fr
 byCode (suc (suc n)) note g fr = stop (faultOf (suc (suc n)) note g)
 
-abbrev pub outcomeOf : List ℕ → List ℕ → Regs → Outcome
-outcomeOf s w r = byCode (r .code) (r .note) (r .gas) (frameOf s w r)
+abbrev pub progressOf : List ℕ → List ℕ → Regs → Progress
+progressOf s w r = byCode (r .code) (r .note) (r .gas) (frameOf s w r)
 
 -- registers that go on to a place, that end well, and that end with a refusal
 abbrev pub goneOn : Regs → ℕ → ℕ → ℕ → Regs
@@ -73,7 +73,7 @@ pub record Kept (lo room : ℕ) (r q : Regs) : Type 0 where
 -- Free are the stack buffer above the items and the work buffer past the used slots, and the note where the code is 0 or 1.
 -- After a refusal both buffers are free; items, used, position and count are so within `Kept`, and of code and note what `faultOf` leaves
 pub record Did (lo : ℕ) (effect : List ℕ → List ℕ → Effect) (r q : Regs) (s w s′ w′ : List ℕ) : Type 0 where
-  pub outcome : outcomeOf s′ w′ q ≡ settle (r .gas) (frameOf s w r) (effect (down (r .items) s) (take (r .used) w))
+  pub progress : progressOf s′ w′ q ≡ settle (r .gas) (frameOf s w r) (effect (down (r .items) s) (take (r .used) w))
   pub kept : Kept lo (length w) r q
 
 -- the same where the work buffer is neither read nor written
@@ -88,7 +88,7 @@ pub record Running (r : Regs) (stack work : ℕ) : Type 0 where
 
 -- one operation, paid for and done; what `Did` leaves free is free here, within `Held`
 pub record Stepped (c : ℕ) (op : Operation) (r q : Regs) (s w s′ w′ : List ℕ) : Type 0 where
-  pub outcome : outcomeOf s′ w′ q ≡ pay (r .gas) (frameOf s w r) (actOf c (length w) op (frameOf s w r))
+  pub progress : progressOf s′ w′ q ≡ pay (r .gas) (frameOf s w r) (actOf c (length w) op (frameOf s w r))
   pub held : Held (length w) q
   pub gas : q .gas ≤ r .gas
   pub falls : q .gas + 1 ≤ r .gas + q .code
@@ -99,7 +99,7 @@ binaryOf k = getD (lt ∷ add ∷ sub ∷ mul ∷ div ∷ lt ∷ lt ∷ lt ∷ l
 
 -- a run to its end: with more operations than gas it is the machine's; what `Did` leaves free is free here, within `Held`
 pub record Ran (program : List Operation) (c : ℕ) (r q : Regs) (s w s′ w′ : List ℕ) : Type 0 where
-  pub outcome : (n : ℕ) → r .gas < n → outcomeOf s′ w′ q ≡ runOf (machine program c (length w)) n (r .gas) (frameOf s w r)
+  pub progress : (n : ℕ) → r .gas < n → progressOf s′ w′ q ≡ runOf (machine program c (length w)) n (r .gas) (frameOf s w r)
   pub held : Held (length w) q
   pub over : 1 ≤ q .code
   pub gas : q .gas ≤ r .gas

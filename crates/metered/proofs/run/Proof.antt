@@ -5,7 +5,7 @@ use native.Mathlib.Omega.{arith}
 use native.Mathlib.Nat.{le-trans}
 use lib.ListN.{length}
 use Rattle.machine.specs.Machine.{decode, done, machine, pay}
-use Rattle.machine.specs.Code.Registers.{frameOf, outcomeOf, Running}
+use Rattle.machine.specs.Code.Registers.{frameOf, progressOf, Running}
 use Rattle.metered.proofs.Turns.{act-over, Leads, goes-on, ends-with, turn}
 use borrow.Author.Needs.{needs}
 use Rattle.metered.proofs.run.Statement.{statement}
@@ -25,7 +25,7 @@ abbrev μ-loop : tie.MeasureT-loop
 -- the turn of the loop that has just been made
 here : (c : tie.After-step Inv-loop μ-loop)
     → pay (c .before .before .before .before .before .before .before .loop .r .gas) (frameOf (c .before .before .before .before .before .before .before .loop .stack) (c .before .before .before .before .before .before .before .loop .work) (c .before .before .before .before .before .before .before .loop .r)) (machine (decode (c .before .before .before .before .before .before .before .before .before .before .before .before .args .kinds .now) (c .before .before .before .before .before .before .before .before .before .before .before .before .args .operands .now)) (c .before .before .before .before .before .before .before .before .before .before .before .before .args .caller) (length (c .before .before .before .before .before .before .before .before .before .before .before .before .args .work .now)) (frameOf (c .before .before .before .before .before .before .before .loop .stack) (c .before .before .before .before .before .before .before .loop .work) (c .before .before .before .before .before .before .before .loop .r)))
-    ≡ outcomeOf (c .step .last .1 .1 .1 .0) (c .step .last .1 .1 .1 .1 .0) (c .step .result)
+    ≡ progressOf (c .step .last .1 .1 .1 .0) (c .step .last .1 .1 .1 .1 .0) (c .step .result)
 here c =
     let a = c .before .before .before .before .before .before .before .before .before .before .before .before .args in
     let l = c .before .before .before .before .before .before .before .loop in
@@ -60,9 +60,9 @@ returns c =
     let q = d .result in
     let one : 1 ≤ q .code = positive (q .code) (c .if2 .taken) in
     record {
-      outcome =
+      progress =
           λ n h.
-          sym (l .inv .4 (outcomeOf (d .last .1 .1 .1 .0) (d .last .1 .1 .1 .1 .0) q) (ends-with (machine (decode (a .kinds .now) (a .operands .now)) (a .caller) (length (a .work .now))) (l .r .gas) (q .code) (q .note) (q .gas) (frameOf (l .stack) (l .work) (l .r)) _ (here (c .before .before .before .before .before .before)) one) n h);
+          sym (l .inv .4 (progressOf (d .last .1 .1 .1 .0) (d .last .1 .1 .1 .1 .0) q) (ends-with (machine (decode (a .kinds .now) (a .operands .now)) (a .caller) (length (a .work .now))) (l .r .gas) (q .code) (q .note) (q .gas) (frameOf (l .stack) (l .work) (l .r)) _ (here (c .before .before .before .before .before .before)) one) n h);
       held = rw (l .inv .2) at (d .ensures .held);
       over = one;
       gas = le-trans (d .ensures .gas) (l .inv .3);
@@ -105,7 +105,7 @@ returns-2 c =
     let act = machine (decode (a .kinds .now) (a .operands .now)) (a .caller) (length (a .work .now)) in
     let over = ap (pay (l .r .gas) fr) (act-over (a .kinds .now) (a .operands .now) (a .caller) (length (a .work .now)) fr (c .before .before .before .before .before .before .before .before .pre .0) (c .before .if1 .left)) in
     rw (c .end .ensures) (record {
-      outcome = λ n h. sym (i .4 (done (l .r .gas) fr) (ends-with act (l .r .gas) 1 0 (l .r .gas) fr fr over (omega arith)) n h);
+      progress = λ n h. sym (i .4 (done (l .r .gas) fr) (ends-with act (l .r .gas) 1 0 (l .r .gas) fr fr over (omega arith)) n h);
       held = omega arith;
       over = omega arith;
       gas = omega arith;

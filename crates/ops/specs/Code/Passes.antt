@@ -5,6 +5,7 @@ use mathlib.Core.List.{List, [], _∷_, _++_}
 use mathlib.Core.Bool.{Bool, true, false, cond}
 use lib.ListN.{length, drop}
 use Rattle.base.specs.Overwrite.{overwrite}
+use Rattle.base.specs.Outcome.{is, andThen}
 use Rattle.search.specs.First.{prefixOf}
 use Rattle.decimal.specs.Decimal.{allDigits, numberOf}
 use Rattle.decimal.specs.declared.Number.the-variants.{Is}
@@ -14,7 +15,7 @@ use Rattle.trim.specs.Code.Blank.{blanksEnd}
 use Rattle.kinds.specs.Kinds.{kindOf, Operation}
 use Rattle.ops.specs.Kinds.{follows, lineWith}
 use Rattle.ops.specs.Line.{Rule, ReadsDigits, lineOf}
-use Rattle.ops.specs.Ops.{Reading, ops, readLines, someRead, answerOf, opsOf, kindsOf, operandsOf}
+use Rattle.ops.specs.Ops.{Reading, readLines, answerOf, opsOf, kindsOf, operandsOf, notEmpty}
 use Rattle.ops.specs.declared.ParsedOps.{ParsedOps}
 use Rattle.ops.specs.declared.line.LineRead.the-variants as LineRead
 use Rattle.ops.specs.declared.line.Reached.{Reached}
@@ -73,7 +74,7 @@ readInto rule text kinds operands = readLines rule text 0 (lines text) (min (len
 -- no line is refused
 pub record Good (rule : Rule) (text kinds operands : List ℕ) : Type 0 where
   pub read : List Operation
-  pub is : readInto rule text kinds operands ≡ ops read
+  pub is : readInto rule text kinds operands ≡ is read
 
 -- the operations are written
 pub record Filled (rule : Rule) (text kinds operands kindsAfter operandsAfter : List ℕ) : Type 0 where
@@ -82,7 +83,7 @@ pub record Filled (rule : Rule) (text kinds operands kindsAfter operandsAfter : 
 
 -- one pass: the answer, and the buffers by whether it writes
 pub record Passed (rule : Rule) (text kinds operands kindsAfter operandsAfter : List ℕ) (writing : Bool) (r : ParsedOps) : Type 0 where
-  pub answer : r ≡ answerOf (someRead (readInto rule text kinds operands))
+  pub answer : r ≡ answerOf (andThen (readInto rule text kinds operands) notEmpty)
   pub keptKinds : writing ≡ false → kindsAfter ≡ kinds
   pub keptOperands : writing ≡ false → operandsAfter ≡ operands
   pub filled : writing ≡ true → Filled rule text kinds operands kindsAfter operandsAfter

@@ -4,7 +4,8 @@ use Prim.Native.Nat.{ℕ}
 use mathlib.Core.Path.{sym, ap, subst, _∙_}
 use borrow.Author.Tests.{not-true, not-false}
 use denote.Ref.{now}
-use Rattle.numbered.specs.Outcome.{Outcome, andThen}
+use Rattle.numbered.specs.declared.Numbered.{Numbered}
+use Rattle.base.specs.Outcome.{Outcome, andThen}
 use Rattle.source.specs.declared.function.Function.{Function}
 use Rattle.expression.specs.Tree.{Tree}
 use Rattle.contract.specs.Assembled.{functionRead, placesOf}
@@ -51,7 +52,7 @@ returns-3 : tie.Need-returns-3
 returns-3 c = let a = c .before .before .before .before .before .before .before .before .before .before .before .args in let s = now (a .contract) in let v = now (a .vector) in concludes-off (c .rejected3 .ensures) (both-readable s v (sym (c .before .before .before .before .before .before .before .before .is-readable .ensures) ∙ not-false _ (c .before .before .before .before .before .before .before .if1 .left)) (sym (c .before .before .before .before .before .before .is-readable2 .ensures) ∙ not-false _ (c .before .before .before .before .before .if2 .left)) ∙ ap (λ (f : Function). andThen (placesOf f) (functionRead s v)) (sym (c .before .before .before .before .find-function .ensures .0) ∙ c .before .before .function .given .1))
 
 returns-4 : tie.Need-returns-4
-returns-4 c = let a = c .before .before .before .before .before .before .before .before .before .before .before .args in let s = now (a .contract) in let v = now (a .vector) in subst (λ (o : Outcome (ℕ × Tree)). Concludes s v o (c .read-function .result)) (sym (both-readable s v (sym (c .before .before .before .before .before .before .before .before .is-readable .ensures) ∙ not-false _ (c .before .before .before .before .before .before .before .if1 .left)) (sym (c .before .before .before .before .before .before .is-readable2 .ensures) ∙ not-false _ (c .before .before .before .before .before .if2 .left)) ∙ ap (λ (f : Function). andThen (placesOf f) (functionRead s v)) (sym (c .before .before .before .before .find-function .ensures .0) ∙ c .before .before .function2 .given .1))) (c .read-function .ensures)
+returns-4 c = let a = c .before .before .before .before .before .before .before .before .before .before .before .args in let s = now (a .contract) in let v = now (a .vector) in subst (λ (o : Outcome Numbered (ℕ × Tree)). Concludes s v o (c .read-function .result)) (sym (both-readable s v (sym (c .before .before .before .before .before .before .before .before .is-readable .ensures) ∙ not-false _ (c .before .before .before .before .before .before .before .if1 .left)) (sym (c .before .before .before .before .before .before .is-readable2 .ensures) ∙ not-false _ (c .before .before .before .before .before .if2 .left)) ∙ ap (λ (f : Function). andThen (placesOf f) (functionRead s v)) (sym (c .before .before .before .before .find-function .ensures .0) ∙ c .before .before .function2 .given .1))) (c .read-function .ensures)
 
 pub checked-spec : {M : Type 1} → statement M
 checked-spec =

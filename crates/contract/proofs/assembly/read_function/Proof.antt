@@ -3,7 +3,8 @@
 use Prim.Native.Nat.{ℕ}
 use mathlib.Core.Path.{sym, ap, subst, _∙_}
 use denote.Ref.{now}
-use Rattle.numbered.specs.Outcome.{Outcome, andThen}
+use Rattle.numbered.specs.declared.Numbered.{Numbered}
+use Rattle.base.specs.Outcome.{Outcome, andThen}
 use Rattle.expression.specs.Tree.{Tree}
 use Rattle.contract.specs.Code.Held.{keyedAs}
 use Rattle.contract.specs.Assembled.{bodyRead}
@@ -35,10 +36,10 @@ conclude-requires : tie.Need-conclude-requires
 conclude-requires c κs = search needs
 
 returns : tie.Need-returns
-returns c = let a = c .before .before .before .before .before .before .before .before in let s = now (a .args .contract) in let v = now (a .args .vector) in let p = a .args .places in concludes-off (c .rejected .ensures) (ap (λ (k : Outcome ℕ). andThen k (λ expected. concluded expected (bodyRead s v p))) (sym (sym (ap keyedAs (c .before .before .number .given .1)) ∙ c .before .before .before .before .number-for .ensures)))
+returns c = let a = c .before .before .before .before .before .before .before .before in let s = now (a .args .contract) in let v = now (a .args .vector) in let p = a .args .places in concludes-off (c .rejected .ensures) (ap (λ (k : Outcome Numbered ℕ). andThen k (λ expected. concluded expected (bodyRead s v p))) (sym (sym (ap keyedAs (c .before .before .number .given .1)) ∙ c .before .before .before .before .number-for .ensures)))
 
 returns-2 : tie.Need-returns-2
-returns-2 c = let a = c .before .before .before .before .before .before .before .before .before in let s = now (a .args .contract) in let v = now (a .args .vector) in let p = a .args .places in subst (λ (o : Outcome (ℕ × Tree)). Concludes s v o (c .conclude .result)) (ap (λ (k : Outcome ℕ). andThen k (λ expected. concluded expected (bodyRead s v p))) (sym (ap keyedAs (c .before .before .before .number2 .given .1)) ∙ c .before .before .before .before .before .number-for .ensures)) (c .conclude .ensures .is s v p (a .pre .found) (c .before .read-places .ensures .0) (c .before .read-places .ensures .1))
+returns-2 c = let a = c .before .before .before .before .before .before .before .before .before in let s = now (a .args .contract) in let v = now (a .args .vector) in let p = a .args .places in subst (λ (o : Outcome Numbered (ℕ × Tree)). Concludes s v o (c .conclude .result)) (ap (λ (k : Outcome Numbered ℕ). andThen k (λ expected. concluded expected (bodyRead s v p))) (sym (ap keyedAs (c .before .before .before .number2 .given .1)) ∙ c .before .before .before .before .before .number-for .ensures)) (c .conclude .ensures .is s v p (a .pre .found) (c .before .read-places .ensures .0) (c .before .read-places .ensures .1))
 
 pub read-function-spec : {M : Type 1} → statement M
 read-function-spec =

@@ -36,7 +36,7 @@ returns-2 : tie.Need-returns-2
 returns-2 c =
     let a = c .before .before .before .before .before .before .before .args in
     let e = down-pop (a .r .items) (a .stack .now) (c .before .before .before .before .before .if1 .left) in
-    λ w h. let d = c .before .before .push .ensures w h in record { outcome = rw e (rw e at (d .outcome)); kept = d .kept }
+    λ w h. let d = c .before .before .push .ensures w h in record { progress = rw e (rw e at (d .progress)); kept = d .kept }
 
 pub dup-spec : {M : Type 1} → statement M
 dup-spec =

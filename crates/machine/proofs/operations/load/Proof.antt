@@ -23,7 +23,7 @@ returns : tie.Need-returns
 returns c =
     let a = c .before .before .before .before .before .before .before .before .args in
     let d = c .before .before .push .ensures (a .work .now) (omega arith) in
-    record { outcome = rw (getD-take (a .r .used) (a .work .now) (a .slot) 0 (c .before .before .before .before .before .if1 .taken)) (d .outcome); kept = d .kept }
+    record { progress = rw (getD-take (a .r .used) (a .work .now) (a .slot) 0 (c .before .before .before .before .before .if1 .taken)) (d .progress); kept = d .kept }
 
 push-requires-2 : tie.Need-push-requires-2
 push-requires-2 c κs = search needs
@@ -36,7 +36,7 @@ returns-2 c =
     let a = c .before .before .before .before .before .before .before .args in
     let d = c .before .before .push2 .ensures (a .work .now) (omega arith) in
     let n : length (take (a .r .used) (a .work .now)) ≤ a .slot = simp length-take (omega arith) in
-    record { outcome = rw (List·getD-eq-default (take (a .r .used) (a .work .now)) 0 n) (d .outcome); kept = d .kept }
+    record { progress = rw (List·getD-eq-default (take (a .r .used) (a .work .now)) 0 n) (d .progress); kept = d .kept }
 
 pub load-spec : {M : Type 1} → statement M
 load-spec =
