@@ -1,2 +1,4 @@
 pub mod Tests
 pub mod Parts
+pub mod Lists
+pub mod Stack

@@ -4,3 +4,5 @@ pub mod Need
 pub mod Range
 pub mod Part
 pub mod Texts
+pub mod Lists
+pub mod Code

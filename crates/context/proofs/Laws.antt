@@ -2,32 +2,26 @@
 use Prim.Native.Nat.{ℕ, suc, _+_, _<_}
 use mathlib.Core.Path.{_≡_, refl, sym, ap, ap₂, _∙_}
 use mathlib.Core.List.{List, [], _∷_}
-use mathlib.Core.Bool.{Bool, true, false, not, _&&_}
+use mathlib.Core.Bool.{Bool, true, false, not, _&&_, and-false}
 use lib.Dec.{eqb}
 use lib.ListN.{length, getD, drop}
 use borrow.Author.Tests.{eq-eqb, eqb-true, not-true, not-false}
 use Rattle.base.proofs.Tests.{never, and-left, and-right}
 use Rattle.base.proofs.Parts.{next}
+use Rattle.base.proofs.Lists.{all-more}
 use Rattle.base.specs.Equal.{equal}
-use Rattle.context.specs.Gate.{isHexDigit, allHexDigits}
+use Rattle.base.specs.Lists.{all}
+use Rattle.context.specs.Gate.{isHexDigit}
 
 -- lists of different lengths differ
 pub equal-lengths : (s t : List ℕ) → (length s ≡ length t → ⊥) → equal s t ≡ false
 equal-lengths [] [] n = absurd (n refl)
 equal-lengths [] (b ∷ t) n = refl
 equal-lengths (a ∷ s) [] n = refl
-equal-lengths (a ∷ s) (b ∷ t) n = go (eqb a b) (equal-lengths s t (λ e. n (ap suc e)))
-  where
-    go : (p : Bool) → equal s t ≡ false → (p && equal s t) ≡ false
-    go true e = e
-    go false e = refl
+equal-lengths (a ∷ s) (b ∷ t) n = rw (equal-lengths s t (λ e. n (ap suc e))) (and-false (eqb a b))
 
 equal-next : (s t : List ℕ) (i : ℕ) → i < length s → i < length t → equal (drop i s) (drop i t) ≡ (eqb (getD s i 0) (getD t i 0) && equal (drop (i + 1) s) (drop (i + 1) t))
 equal-next s t i h k = rw (next s i (i + 1) h refl, next t i (i + 1) k refl)
-
-pub and-true : (p : Bool) → (p && true) ≡ p
-and-true true = refl
-and-true false = refl
 
 -- two tests joined, where the first is known
 pub joined-on : (w r q : Bool) → w ≡ (r && q) → r ≡ true → w ≡ q
@@ -45,8 +39,8 @@ joined w false p q r e f = rw f e
 pub equal-step : (s t : List ℕ) (i : ℕ) (w all r : Bool) → i < length s → i < length t → w ≡ (all && equal (drop i s) (drop i t)) → r ≡ (all && eqb (getD s i 0) (getD t i 0)) → w ≡ (r && equal (drop (i + 1) s) (drop (i + 1) t))
 equal-step s t i w all r h k e f = joined w all (eqb (getD s i 0) (getD t i 0)) (equal (drop (i + 1) s) (drop (i + 1) t)) r (e ∙ ap (λ x. all && x) (equal-next s t i h k)) f
 
-pub hex-step : (s : List ℕ) (i : ℕ) (w all p r : Bool) → i < length s → p ≡ isHexDigit (getD s i 0) → w ≡ (all && allHexDigits (drop i s)) → r ≡ (all && p) → w ≡ (r && allHexDigits (drop (i + 1) s))
-hex-step s i w all p r h d e f = joined w all p (allHexDigits (drop (i + 1) s)) r (e ∙ ap (λ x. all && x) (rw (next s i (i + 1) h refl, sym d))) f
+pub hex-step : (s : List ℕ) (i : ℕ) (w so p r : Bool) → i < length s → p ≡ isHexDigit (getD s i 0) → w ≡ (so && all isHexDigit (drop i s)) → r ≡ (so && p) → w ≡ (r && all isHexDigit (drop (i + 1) s))
+hex-step s i w so p r h d e f = joined w so p (all isHexDigit (drop (i + 1) s)) r (e ∙ ap (λ x. so && x) (rw d (all-more isHexDigit s i h))) f
 
 -- the test says equality
 pub equal-refl : (s : List ℕ) → equal s s ≡ true

@@ -8,9 +8,10 @@ use borrow.Author.Tests.{eqb-true, eqb-false}
 use lib.Dec.{eqb, ltb}
 use Rattle.numbered.specs.Outcome as Outcome
 use Rattle.numbered.specs.Outcome.{Outcome, is}
+use Rattle.base.specs.Lists.{all}
 use Rattle.base.proofs.Tests.{by-bool}
 use Rattle.word.specs.Apply.{Binary}
-use Rattle.decimal.specs.Decimal.{allDigits, value}
+use Rattle.decimal.specs.Decimal.{digit, value}
 use Rattle.token.specs.Token.{allowed, tokens}
 use Rattle.expression.specs.Tree.{Tree}
 use Rattle.expression.specs.Parse.{Env, lookup, Parse, done, refused, lone, expression, joins, operator, joined, closed, nested, named, literal, atom, parseF, moreF, enough, parsed, whole, meaning, depth}
@@ -44,7 +45,7 @@ literal-ranged : (w : List ℕ) (ts : List (List ℕ)) → Ranged (literal w ts)
 literal-ranged w ts = by-bool (ltb (value w) (2 ^ 64)) (λ e. rw e tt) (λ e. rw e (omega arith, omega arith))
 
 atom-ranged : (env : Env) (w : List ℕ) (ts : List (List ℕ)) → Ranged (atom env w ts)
-atom-ranged env w ts = by-bool (allDigits w) (λ e. rw e (literal-ranged w ts)) (λ e. rw e (named-ranged (lookup w env) ts))
+atom-ranged env w ts = by-bool (all digit w) (λ e. rw e (literal-ranged w ts)) (λ e. rw e (named-ranged (lookup w env) ts))
 
 abbrev pub WrongIn : Outcome Tree → Type 0
 WrongIn (is t) = Unit {0}

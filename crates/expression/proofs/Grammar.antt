@@ -12,9 +12,10 @@ use lib.ListN.{length}
 use Rattle.numbered.specs.Numbered.{plain}
 use Rattle.numbered.specs.Outcome as Outcome
 use Rattle.numbered.specs.Outcome.{is}
+use Rattle.base.specs.Lists.{all}
 use Rattle.base.proofs.Tests.{never, by-bool, by-or, between, and-left}
 use Rattle.word.specs.Apply.{Binary, add, sub, mul, div}
-use Rattle.decimal.specs.Decimal.{digit, allDigits, value}
+use Rattle.decimal.specs.Decimal.{digit, value}
 use Rattle.token.specs.Token.{allowed, tokens}
 use Rattle.token.specs.Code.Places.{first}
 use Rattle.token.specs.Tokens.{IsToken, Tokens}
@@ -74,9 +75,9 @@ tokens-some (Tokens.parted e h) = tokens-some h
 tokens-some (Tokens.token t l h) = (token-some t, tokens-some h)
 
 -- a literal is no parenthesis
-pub digits-no-parenthesis : (w : List ℕ) → allDigits w ≡ true → lone w ≡ 40 → ⊥
+pub digits-no-parenthesis : (w : List ℕ) → all digit w ≡ true → lone w ≡ 40 → ⊥
 digits-no-parenthesis [] e o = omega arith
-digits-no-parenthesis (a ∷ []) e o = let b = between 48 57 a (and-left (digit a) (allDigits []) e) in omega arith
+digits-no-parenthesis (a ∷ []) e o = let b = between 48 57 a (and-left (digit a) (all digit []) e) in omega arith
 digits-no-parenthesis (a ∷ b ∷ w) e o = omega arith
 
 module _ (env : Env) where
@@ -89,7 +90,7 @@ module _ (env : Env) where
   -- a factor of one token
   atom-sound : (d : ℕ) (w : List ℕ) (ts : List (List ℕ)) (t : Tree) (rest : List (List ℕ)) → 0 < length w → (lone w ≡ 40 → ⊥) → atom env w ts ≡ done t rest → Read env factor d (w ∷ ts) t rest
   atom-sound d w ts t rest b o e =
-      by-bool (allDigits w)
+      by-bool (all digit w)
       (λ a. by-bool (ltb (value w) (2 ^ 64))
       (λ h.
       let p : done (num (value w)) ts ≡ done t rest = simp (a, h) at e in
@@ -99,7 +100,7 @@ module _ (env : Env) where
       (λ h. not-done 16 t rest (simp (a, h) at e)))
       (λ a. found a (lookup w env) refl (simp a at e))
     where
-      found : allDigits w ≡ false → (o : Option Tree) → lookup w env ≡ o → named (lookup w env) ts ≡ done t rest → Read env factor d (w ∷ ts) t rest
+      found : all digit w ≡ false → (o : Option Tree) → lookup w env ≡ o → named (lookup w env) ts ≡ done t rest → Read env factor d (w ∷ ts) t rest
       found a none q p = not-done 17 t rest (rw q at p)
       found a (some u) q p =
           let p′ : done u ts ≡ done t rest = rw q at p in

@@ -9,7 +9,8 @@ use Rattle.numbered.specs.Numbered.{plain}
 use Rattle.numbered.specs.Outcome as Outcome
 use Rattle.numbered.specs.Outcome.{Outcome, is}
 use Rattle.word.specs.Apply.{Binary, add, sub, mul, div}
-use Rattle.decimal.specs.Decimal.{allDigits, value}
+use Rattle.base.specs.Lists.{all}
+use Rattle.decimal.specs.Decimal.{digit, value}
 use Rattle.token.specs.Token.{allowed, tokens}
 use Rattle.expression.specs.Tree.{Tree, num, bin}
 pub use Rattle.expression.specs.Environment.{Binding, Env, lookup}
@@ -61,7 +62,7 @@ literal w ts = cond (ltb (value w) (2 ^ 64)) (done (num (value w)) ts) (refused 
 
 -- a factor of one token
 abbrev pub atom : Env → List ℕ → List (List ℕ) → Parse
-atom env w ts = cond (allDigits w) (literal w ts) (named (lookup w env) ts)
+atom env w ts = cond (all digit w) (literal w ts) (named (lookup w env) ts)
 
 -- Fuel, level, environment, how many parentheses more may be open, tokens. A fuel of 8 for each token and one more than the level is enough.
 unfoldable mutual

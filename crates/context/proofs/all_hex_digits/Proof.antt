@@ -1,20 +1,22 @@
 -- `context::all_hex_digits` meets its contract: the test of the bytes passed, joined with that of what is left.
 use Prim.Native.Nat.{_-_, _≤_}
 use mathlib.Core.Path.{_≡_, refl, sym, ap, _∙_}
-use mathlib.Core.Bool.{_&&_}
+use mathlib.Core.Bool.{_&&_, and-true}
 use native.Mathlib.Omega.{arith}
-use lib.ListN.{length, drop, drop-of-length-le}
-use Rattle.context.specs.Gate.{allHexDigits}
-use Rattle.context.proofs.Laws.{and-true, hex-step}
+use lib.ListN.{length, drop}
+use Rattle.base.specs.Lists.{all}
+use Rattle.base.proofs.Lists.{all-end}
+use Rattle.context.specs.Gate.{isHexDigit}
+use Rattle.context.proofs.Laws.{hex-step}
 use borrow.Author.Needs.{needs}
 use Rattle.context.proofs.all_hex_digits.Statement.{statement}
 use Rattle.context.proofs.all_hex_digits.Tie as tie
 
 abbrev Inv-loop : tie.InvT-loop
-Inv-loop s all₀ i₀ all i = (i ≤ length s) × (allHexDigits s ≡ (all && allHexDigits (drop i s)))
+Inv-loop s so₀ i₀ so i = (i ≤ length s) × (all isHexDigit s ≡ (so && all isHexDigit (drop i s)))
 
 abbrev μ-loop : tie.MeasureT-loop
-μ-loop s all₀ i₀ all i = length s - i
+μ-loop s so₀ i₀ so i = length s - i
 
 loop-holds : tie.Need-loop-holds Inv-loop μ-loop
 loop-holds c = (omega arith, refl)
@@ -43,7 +45,7 @@ loop-again c =
 returns : tie.Need-returns Inv-loop μ-loop
 returns c =
     let l = c .before .loop in
-    sym (l .inv .1 ∙ ap (λ s. l .all && allHexDigits s) (drop-of-length-le _ (c .loop-test .left)) ∙ and-true (l .all))
+    sym (l .inv .1 ∙ ap (λ p. l .all && p) (all-end isHexDigit _ _ (c .loop-test .left)) ∙ and-true (l .all))
 
 pub all-hex-digits-spec : {M : Type 1} → statement M
 all-hex-digits-spec =
