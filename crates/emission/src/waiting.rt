@@ -2,8 +2,9 @@
 ghost use mathlib.Core.Path.{_≡_};
 ghost use Prim.Native.Nat.{_+_, _≤_};
 ghost use lib.ListN.{length};
+ghost use Rattle.base.specs.Code.Stack.{stackOf};
 ghost use Rattle.writer.specs.Code.Pieces.{operatorsText};
-ghost use Rattle.emission.specs.Code.Waiting.{levelOf, most, popped, stackOf, Pops};
+ghost use Rattle.emission.specs.Code.Waiting.{levelOf, most, popped, Pops};
 use expression::DEPTH;
 use expression::parts::is_product;
 use expression::parts::is_sum;

@@ -5,13 +5,14 @@ use mathlib.Core.List.{List, _∷_}
 use mathlib.Core.Bool.{cond}
 use lib.Dec.{eqb, leb}
 use lib.ListN.{length, take, drop}
+use Rattle.base.specs.Code.Stack.{stackOf}
 use Rattle.token.specs.Token.{tokens}
 use Rattle.token.specs.Code.Places.{tokenAt, first}
 use Rattle.expression.specs.Grammar.{levels}
 use Rattle.expression.specs.Parse.{lone}
 use Rattle.writer.specs.Code.Pieces.{Put, operatorsText}
 use Rattle.emission.specs.declared.operator.Turn.{Turn}
-use Rattle.emission.specs.Code.Waiting.{levelOf, most, popped, left, stackOf}
+use Rattle.emission.specs.Code.Waiting.{levelOf, most, popped, left}
 
 -- the sign from a place on, in an expression that ends at a place of the text; 0 where no token is left
 abbrev pub signAt : List ℕ → ℕ → ℕ → ℕ
