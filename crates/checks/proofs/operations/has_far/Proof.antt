@@ -1,7 +1,8 @@
 -- `operations::has_far` meets its contract: known kinds with operands below the program's length pass.
 use mathlib.Core.Path.{sym, _∙_}
 use lib.ListN.{length, getD}
-use Rattle.checks.proofs.Blocks.{or-left, or-right, near-passes, block-passes}
+use Rattle.base.proofs.Tests.{or-left, or-right}
+use Rattle.checks.proofs.Blocks.{near-passes, block-passes}
 use borrow.Author.Needs.{needs}
 use Rattle.checks.proofs.operations.has_far.Statement.{statement}
 use Rattle.checks.proofs.operations.has_far.Tie as tie
