@@ -5,7 +5,7 @@ use base::in_range;
 use base::pick;
 ghost use mathlib.Core.Path.{_≡_};
 ghost use mathlib.Core.Bool.{true, cond};
-ghost use Prim.Native.Nat.{ℕ, _+_, _≤_, _<_};
+ghost use Prim.Native.Nat.{_+_, _≤_, _<_};
 ghost use lib.ListN.{length, getD};
 ghost use Rattle.utf8.specs.Utf8.{utf8, tail, two, three, four};
 ghost use Rattle.utf8.specs.Code.Passed.{Step, Passed, Bound, Ascii};
