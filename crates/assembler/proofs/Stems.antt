@@ -1,16 +1,16 @@
 -- Whether a stem fits, test by test.
 use Prim.Native.Nat.{ℕ, _+_, _<_, _≤_}
-use mathlib.Core.Path.{_≡_, refl, sym, ap, _∙_}
-use mathlib.Core.List.{List, _∷_}
+use mathlib.Core.Path.{_≡_, sym, _∙_}
+use mathlib.Core.List.{List}
 use mathlib.Core.Bool.{true, false}
 use native.Mathlib.Omega.{arith}
-use borrow.Author.Tests.{lt-ltb, le-ltb, le-leb, lt-leb}
-use lib.ListN.{length, getD, drop, drop-of-length-le}
+use borrow.Author.Tests.{lt-ltb, le-ltb, le-leb, lt-leb, eq-eqb, ne-eqb}
+use lib.ListN.{length, getD, drop}
 use Rattle.base.proofs.Tests.{never, by-leb, by-eqb}
-use Rattle.base.proofs.Parts.{next}
+use Rattle.base.specs.Lists.{isNot}
+use Rattle.base.proofs.Lists.{all-more, all-end}
 use Rattle.utf8.specs.Utf8.{utf8}
 use Rattle.lines.specs.Lines.{feedFree}
-use Rattle.lines.proofs.Written.{free-cons}
 use Rattle.contract.specs.Output.{stemFits}
 
 pub stem-empty : (stem : List ℕ) → length stem ≡ 0 → false ≡ stemFits stem
@@ -34,10 +34,10 @@ stem-short stem f =
 -- from a place on, byte by byte
 module _ (s : List ℕ) (i : ℕ) where
   pub feed-here : i < length s → getD s i 0 ≡ 10 → false ≡ feedFree (drop i s)
-  feed-here h e = sym (ap feedFree (next s i (i + 1) h refl) ∙ ap (λ (a : ℕ). feedFree (a ∷ drop (i + 1) s)) e)
+  feed-here h e = sym (all-more (isNot 10) s i h ∙ simp (eq-eqb (getD s i 0) 10 e))
 
   pub feed-next : i < length s → (getD s i 0 ≡ 10 → ⊥) → feedFree (drop i s) ≡ feedFree (drop (i + 1) s)
-  feed-next h e = ap feedFree (next s i (i + 1) h refl) ∙ free-cons (getD s i 0) (drop (i + 1) s) e
+  feed-next h e = all-more (isNot 10) s i h ∙ simp (ne-eqb (getD s i 0) 10 e)
 
   pub feed-end : length s ≤ i → true ≡ feedFree (drop i s)
-  feed-end h = sym (ap feedFree (drop-of-length-le s {i = i} h))
+  feed-end h = sym (all-end (isNot 10) s i h)

@@ -5,3 +5,5 @@ pub mod Cursor
 pub mod Bytes
 pub mod Overwrite
 pub mod Outcome
+pub mod Lists
+pub mod Stack

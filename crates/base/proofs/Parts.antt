@@ -1,6 +1,6 @@
 -- Parts of a list: what stands from a place on, and what stands before one.
 use Prim.Native.Nat.{ℕ, suc, _+_, _-_, _<_, _≤_}
-use mathlib.Core.Path.{_≡_, sym, ap, _∙_}
+use mathlib.Core.Path.{_≡_, refl, sym, ap, _∙_}
 use mathlib.Core.List.{List, [], _∷_, _++_, reverse, reverse-append}
 use native.Mathlib.Omega.{arith}
 use lib.ListN.{length, getD, take, drop, length-drop, take-append-drop}
@@ -33,3 +33,10 @@ middle s i e h k =
     let n = length-take-le e s k in
     let p : drop i s ≡ drop i (take e s) ++ drop e s = ap (drop i) (sym (take-append-drop e s)) ∙ drop-append-le i (take e s) (drop e s) (omega arith) in
     ap (take (e - i)) p ∙ take-at (drop i (take e s)) (drop e s) (e - i) (omega (arith, length-drop i (take e s)))
+
+pub length-part : (s : List ℕ) (i e : ℕ) → i ≤ e → e ≤ length s → length (take (e - i) (drop i s)) ≡ e - i
+length-part s i e h k = length-take-le (e - i) (drop i s) (omega (arith, length-drop i s))
+
+pub length-zero : (s : List ℕ) → length s ≡ 0 → s ≡ []
+length-zero [] e = refl
+length-zero (a ∷ s) e = absurd (omega arith)

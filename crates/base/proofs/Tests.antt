@@ -1,7 +1,7 @@
 -- What a test says, and tests that are joined.
 use Prim.Native.Nat.{ℕ, _<_, _≤_}
-use mathlib.Core.Path.{_≡_, refl, sym}
-use mathlib.Core.Bool.{Bool, true, false, cond, _&&_, _||_}
+use mathlib.Core.Path.{_≡_, refl, sym, _∙_}
+use mathlib.Core.Bool.{Bool, true, false, cond, _&&_, _||_, and-false, or-true}
 use borrow.Author.Tests.{le-leb, lt-leb, leb-true, leb-false, eqb-true, eqb-false}
 use native.Mathlib.Omega.{arith}
 use lib.Dec.{leb, eqb}
@@ -20,6 +20,24 @@ and-right false q e = never e
 
 pub and-both : (p q : Bool) → p ≡ true → q ≡ true → (p && q) ≡ true
 and-both p q e f = rw e f
+
+pub and-false-left : (p q : Bool) → (p && q) ≡ false → q ≡ true → p ≡ false
+and-false-left true q e h = sym h ∙ e
+and-false-left false q e h = refl
+
+pub or-left : (p q : Bool) → (p || q) ≡ false → p ≡ false
+or-left true q e = e
+or-left false q e = refl
+
+pub or-right : (p q : Bool) → (p || q) ≡ false → q ≡ false
+or-right true q e = never (sym e)
+or-right false q e = e
+
+pub or-by-left : (p q : Bool) → p ≡ true → (p || q) ≡ true
+or-by-left p q e = rw e
+
+pub or-by-right : (p q : Bool) → q ≡ true → (p || q) ≡ true
+or-by-right p q e = rw e (or-true p)
 
 pub by-or : {P : Type 0} (p q : Bool) → (p || q) ≡ true → (p ≡ true → P) → (q ≡ true → P) → P
 by-or true q e y n = y refl
@@ -53,11 +71,7 @@ pub below : (lo hi a : ℕ) → a < lo → within lo hi a ≡ false
 below lo hi a p = simp (lt-leb lo a p)
 
 pub above : (lo hi a : ℕ) → hi < a → within lo hi a ≡ false
-above lo hi a p = go (leb lo a) (lt-leb a hi p)
-  where
-    go : (b : Bool) → leb a hi ≡ false → (b && leb a hi) ≡ false
-    go true e = e
-    go false e = refl
+above lo hi a p = rw (lt-leb a hi p) (and-false (leb lo a))
 
 pub between : (lo hi a : ℕ) → within lo hi a ≡ true → (lo ≤ a) × (a ≤ hi)
 between lo hi a w = (leb-true lo a (and-left (leb lo a) (leb a hi) w), leb-true a hi (and-right (leb lo a) (leb a hi) w))
@@ -66,3 +80,7 @@ between lo hi a w = (leb-true lo a (and-left (leb lo a) (leb a hi) w), leb-true 
 pub choice : {A : Type 0} (b : Bool) (x y : A) → elim b as (λ _. A) [ true ↦ x | false ↦ y ] ≡ cond b x y
 choice true x y = refl
 choice false x y = refl
+
+-- a test of a number against 0
+pub positive : (n : ℕ) → (n ≡ 0 → ⊥) → 0 < n
+positive n h = omega arith

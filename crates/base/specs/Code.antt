@@ -1,2 +1,3 @@
 pub mod Skips
 pub mod Cursor
+pub mod Stack

@@ -7,3 +7,4 @@ pub mod Range
 pub mod Part
 pub mod Texts
 pub mod Code
+pub mod Lists

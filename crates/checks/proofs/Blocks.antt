@@ -1,31 +1,19 @@
 -- Blocks of operations that are passed at once.
 use Prim.Native.Nat.{ℕ, _+_, _≤_, _<_}
 use native.Mathlib.Omega.{arith}
-use mathlib.Core.Path.{_≡_, refl, sym, _∙_}
+use mathlib.Core.Path.{_≡_, refl, _∙_}
 use mathlib.Core.List.{List}
 use mathlib.Core.Bool.{Bool, true, false, cond, _&&_, _||_}
 use lib.Dec.{eqb, leb, ltb}
 use lib.ListN.{length, getD}
 use borrow.Author.Tests.{lt-ltb, le-leb, eqb-false, ltb-false}
 use Rattle.base.specs.Code.Skips.{Skips}
-use Rattle.base.proofs.Tests.{never, by-leb}
+use Rattle.base.proofs.Tests.{by-leb, and-false-left, or-left, or-right}
 use Rattle.kinds.specs.Kinds.{target, takes, operation}
 use Rattle.checks.specs.declared.Check.the-variants.{Passed}
 use Rattle.checks.specs.Verify.{targetFits, operationCheck}
 use Rattle.checks.specs.Code.Blocks.{checkFrom}
 use Rattle.checks.proofs.Laws.{check-at, no-jump}
-
-pub or-left : (p q : Bool) → (p || q) ≡ false → p ≡ false
-or-left true q e = e
-or-left false q e = refl
-
-pub or-right : (p q : Bool) → (p || q) ≡ false → q ≡ false
-or-right true q e = never (sym e)
-or-right false q e = e
-
-pub and-false : (p q : Bool) → (p && q) ≡ false → q ≡ true → p ≡ false
-and-false true q e h = sym h ∙ e
-and-false false q e h = refl
 
 -- an operand below the program's length is no target out of range
 near-fits : (n k v : ℕ) → v < n → targetFits n (operation k v) ≡ true
@@ -46,7 +34,7 @@ good-passes n k v e =
   where
     far : k ≤ 15 → n ≤ v → operationCheck n (operation k v) ≡ Passed
     far known h =
-        let j : ((eqb k 7 || eqb k 8) || eqb k 14) ≡ false = and-false ((eqb k 7 || eqb k 8) || eqb k 14) (leb n v) (or-right (ltb 15 k) _ e) (le-leb n v h) in
+        let j : ((eqb k 7 || eqb k 8) || eqb k 14) ≡ false = and-false-left ((eqb k 7 || eqb k 8) || eqb k 14) (leb n v) (or-right (ltb 15 k) _ e) (le-leb n v h) in
         let i : (eqb k 7 || eqb k 8) ≡ false = or-left (eqb k 7 || eqb k 8) (eqb k 14) j in
         rw (le-leb k 15 known, no-jump n k v (eqb-false k 7 (or-left (eqb k 7) (eqb k 8) i)) (eqb-false k 8 (or-right (eqb k 7) (eqb k 8) i)) (eqb-false k 14 (or-right (eqb k 7 || eqb k 8) (eqb k 14) j)))
 

@@ -2,12 +2,13 @@
 use Prim.Native.Nat.{ℕ, _<_, _≤_}
 use mathlib.Core.Path.{_≡_, refl, sym, ap, _∙_}
 use mathlib.Core.List.{List, [], _∷_, _++_, map, append-nil}
-use mathlib.Core.Bool.{Bool, true, false, _&&_}
+use mathlib.Core.Bool.{Bool, true, _&&_}
 use borrow.Author.Tests.{ne-eqb, le-leb}
 use native.Mathlib.Omega.{arith}
 use lib.Dec.{eqb}
 use lib.ListN.{length}
-use Rattle.base.proofs.Tests.{between, by-leb, and-left, and-right, never}
+use Rattle.base.proofs.Tests.{between, by-leb, and-left, and-right}
+use Rattle.base.proofs.Parts.{length-zero}
 use Rattle.lines.specs.Lines.{front, feedNext, lines}
 use Rattle.lines.proofs.Laws.{lines-other, no-return, by-start}
 use Rattle.utf8.specs.Utf8.{tail}
@@ -55,14 +56,10 @@ front-encodes c (l ∷ ls) = sym (fronts-some (encode c) (encodes l) (map encode
 pub lead-high : (c : ℕ) (x : Char c) → 0x7F < c → 0x7F < x .lead
 lead-high c x h = by-leb (x .lead) 0x7F (λ g. absurd (alone g)) (λ g. g)
   where
-    empty : (s : List ℕ) → length s ≡ 0 → s ≡ []
-    empty [] e = refl
-    empty (a ∷ s) e = absurd (omega arith)
-
     alone : x .lead ≤ 0x7F → ⊥
     alone g =
         let n : length (x .rest) ≡ 0 = x .many ∙ simp (le-leb (x .lead) 0x7F g) in
-        let e : x .lead ≡ c = sym (ap (λ (s : List ℕ). value (x .lead ∷ s)) (empty (x .rest) n)) ∙ x .code in
+        let e : x .lead ≡ c = sym (ap (λ (s : List ℕ). value (x .lead ∷ s)) (length-zero (x .rest) n)) ∙ x .code in
         omega arith
 
 past-ascii : (c : ℕ) (s : List ℕ) → 0x7F < c → lines (encode c ++ s) ≡ fronts (encode c) (lines s)

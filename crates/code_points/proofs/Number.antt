@@ -7,33 +7,34 @@ use borrow.Author.Tests.{ne-eqb}
 use native.Mathlib.Omega.{arith}
 use lib.Dec.{ltb}
 use lib.ListN.{length}
+use Rattle.base.specs.Lists.{all}
 use Rattle.base.proofs.Tests.{by-bool, by-leb, by-eqb, above, between, and-left, and-right}
 use Rattle.utf8.specs.Encode.{encode, encodes}
-use Rattle.decimal.specs.Decimal.{digit, allDigits, value, withoutPlus, fromDigits, numberOf}
+use Rattle.decimal.specs.Decimal.{digit, value, withoutPlus, fromDigits, numberOf}
 use Rattle.decimal.specs.declared.Number.the-variants.{Is, Invalid}
 use Rattle.code_points.proofs.Chars.{char}
 use Rattle.code_points.proofs.Lines.{ascii, lead-high}
 
 -- a character past ASCII is no digit, and its first byte is none
-all-digits : (cs : List ℕ) → allDigits (encodes cs) ≡ allDigits cs
+all-digits : (cs : List ℕ) → all digit (encodes cs) ≡ all digit cs
 all-digits [] = refl
 all-digits (c ∷ cs) =
     by-leb c 0x7F
-    (λ h. ap (λ (l : List ℕ). allDigits (l ++ encodes cs)) (ascii c h) ∙ ap (λ (b : Bool). digit c && b) (all-digits cs))
+    (λ h. ap (λ (l : List ℕ). all digit (l ++ encodes cs)) (ascii c h) ∙ ap (λ (b : Bool). digit c && b) (all-digits cs))
     (λ h.
     let x = char c in
-    ap (λ (l : List ℕ). allDigits (l ++ encodes cs)) (x .is)
-    ∙ ap (λ (b : Bool). b && allDigits (x .rest ++ encodes cs)) (above 48 57 (x .lead) (let g = lead-high c x h in omega arith))
-    ∙ sym (ap (λ (b : Bool). b && allDigits cs) (above 48 57 c (omega arith))))
+    ap (λ (l : List ℕ). all digit (l ++ encodes cs)) (x .is)
+    ∙ ap (λ (b : Bool). b && all digit (x .rest ++ encodes cs)) (above 48 57 (x .lead) (let g = lead-high c x h in omega arith))
+    ∙ sym (ap (λ (b : Bool). b && all digit cs) (above 48 57 c (omega arith))))
 
 -- digits are their own encoding
-own : (cs : List ℕ) → allDigits cs ≡ true → encodes cs ≡ cs
+own : (cs : List ℕ) → all digit cs ≡ true → encodes cs ≡ cs
 own [] e = refl
 own (c ∷ cs) e =
-    let b = between 48 57 c (and-left (digit c) (allDigits cs) e) in
-    ap (λ (l : List ℕ). l ++ encodes cs) (ascii c (omega arith)) ∙ ap (λ (l : List ℕ). c ∷ l) (own cs (and-right (digit c) (allDigits cs) e))
+    let b = between 48 57 c (and-left (digit c) (all digit cs) e) in
+    ap (λ (l : List ℕ). l ++ encodes cs) (ascii c (omega arith)) ∙ ap (λ (l : List ℕ). c ∷ l) (own cs (and-right (digit c) (all digit cs) e))
 
-not-digits : (s : List ℕ) → allDigits s ≡ false → fromDigits s ≡ Invalid
+not-digits : (s : List ℕ) → all digit s ≡ false → fromDigits s ≡ Invalid
 not-digits s e = ap (λ (b : Bool). cond (ltb 0 (length s) && b && ltb (value s) (2 ^ 64)) (Is (value s)) Invalid) e ∙ go (ltb 0 (length s))
   where
     go : (b : Bool) → cond (b && false && ltb (value s) (2 ^ 64)) (Is (value s)) Invalid ≡ Invalid
@@ -42,7 +43,7 @@ not-digits s e = ap (λ (b : Bool). cond (ltb 0 (length s) && b && ltb (value s)
 
 digits-number : (cs : List ℕ) → fromDigits (encodes cs) ≡ fromDigits cs
 digits-number cs =
-    by-bool (allDigits cs)
+    by-bool (all digit cs)
     (λ e. ap fromDigits (own cs e))
     (λ e. not-digits (encodes cs) (all-digits cs ∙ e) ∙ sym (not-digits cs e))
 

@@ -2,36 +2,30 @@
 use Prim.Native.Nat.{ℕ, suc, _+_, _<_}
 use mathlib.Core.Path.{_≡_, refl, sym, ap, ap₂, _∙_}
 use mathlib.Core.List.{List, [], _∷_}
-use mathlib.Core.Bool.{Bool, true, false, not, _&&_}
+use mathlib.Core.Bool.{Bool, true, false, not, _&&_, and-false}
 use lib.Dec.{eqb}
 use lib.ListN.{length, getD, drop}
 use borrow.Author.Tests.{eq-eqb, eqb-true, not-true, not-false}
 use Rattle.base.proofs.Tests.{never, and-left, and-right}
 use Rattle.base.proofs.Parts.{next}
+use Rattle.base.proofs.Lists.{all-more}
 use Rattle.base.specs.Equal.{equal}
 use Rattle.base.specs.Code.Skips.{SkipsIf}
-use Rattle.context.specs.Gate.{isHexDigit, allHexDigits}
+use Rattle.context.specs.Gate.{isHexDigit}
+use Rattle.base.specs.Lists.{all}
 
 -- lists of different lengths differ
 pub equal-lengths : (s t : List ℕ) → (length s ≡ length t → ⊥) → equal s t ≡ false
 equal-lengths [] [] n = absurd (n refl)
 equal-lengths [] (b ∷ t) n = refl
 equal-lengths (a ∷ s) [] n = refl
-equal-lengths (a ∷ s) (b ∷ t) n = go (eqb a b) (equal-lengths s t (λ e. n (ap suc e)))
-  where
-    go : (p : Bool) → equal s t ≡ false → (p && equal s t) ≡ false
-    go true e = e
-    go false e = refl
+equal-lengths (a ∷ s) (b ∷ t) n = rw (equal-lengths s t (λ e. n (ap suc e))) (and-false (eqb a b))
 
 pub equal-next : (s t : List ℕ) (i : ℕ) → i < length s → i < length t → SkipsIf (λ j. equal (drop j s) (drop j t)) i (i + 1) (eqb (getD s i 0) (getD t i 0))
 equal-next s t i h k = rw (next s i (i + 1) h refl, next t i (i + 1) k refl)
 
-pub and-true : (p : Bool) → (p && true) ≡ p
-and-true true = refl
-and-true false = refl
-
-pub hex-next : (s : List ℕ) (i : ℕ) → i < length s → SkipsIf (λ j. allHexDigits (drop j s)) i (i + 1) (isHexDigit (getD s i 0))
-hex-next s i h = rw (next s i (i + 1) h refl)
+pub hex-next : (s : List ℕ) (i : ℕ) → i < length s → SkipsIf (λ j. all isHexDigit (drop j s)) i (i + 1) (isHexDigit (getD s i 0))
+hex-next s i h = all-more isHexDigit s i h
 
 -- the test says equality
 pub equal-refl : (s : List ℕ) → equal s s ≡ true

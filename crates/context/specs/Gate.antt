@@ -1,14 +1,15 @@
 -- The chain gate: refusals 35 to 40 of document 01, in its order.
 use Prim.Native.Nat.{ℕ}
 use mathlib.Core.Path.{_≡_}
-use mathlib.Core.List.{List, [], _∷_}
-use mathlib.Core.Bool.{Bool, true, _&&_, _||_}
+use mathlib.Core.List.{List}
+use mathlib.Core.Bool.{Bool, _&&_, _||_}
 use lib.Dec.{eqb}
 use lib.ListN.{length}
 use Rattle.numbered.specs.declared.Numbered.{Numbered}
 use Rattle.numbered.specs.Numbered.{plain}
 use Rattle.base.specs.Ascii.{ascii}
 use Rattle.base.specs.Equal.{equal}
+use Rattle.base.specs.Lists.{all}
 use Rattle.base.specs.Need.{need}
 use Rattle.base.specs.Range.{within}
 use Rattle.context.specs.declared.ContextError.{ContextError}
@@ -23,12 +24,8 @@ isNetwork s = (equal s (ascii "devnet") || equal s (ascii "testnet")) || equal s
 abbrev pub isHexDigit : ℕ → Bool
 isHexDigit a = within 48 57 a || (within 65 70 a || within 97 102 a)
 
-abbrev pub allHexDigits : List ℕ → Bool
-allHexDigits [] = true
-allHexDigits (a ∷ s) = isHexDigit a && allHexDigits s
-
 abbrev pub isGenesisId : List ℕ → Bool
-isGenesisId s = eqb (length s) 64 && allHexDigits s
+isGenesisId s = eqb (length s) 64 && all isHexDigit s
 
 abbrev pub gateOf : (chain network genesis protocol vm computed expectedProtocol expectedVm : List ℕ) → Gate
 gateOf chain network genesis protocol vm computed expectedProtocol expectedVm =

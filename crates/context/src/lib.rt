@@ -4,7 +4,8 @@ ghost use Prim.Native.Nat.{_+_, _≤_};
 ghost use lib.ListN.{length, drop};
 ghost use Rattle.base.specs.Equal.{equal};
 ghost use Rattle.base.specs.Code.Skips.{SkipsIf};
-ghost use Rattle.context.specs.Gate.{isHexDigit, allHexDigits, isNetwork, isGenesisId};
+ghost use Rattle.context.specs.Gate.{isHexDigit, isNetwork, isGenesisId};
+ghost use Rattle.base.specs.Lists.{all};
 ghost use Rattle.context.specs.Gate.{gateOf, contextErrorNumbered, gateNumbered, Gated};
 use numbered::Numbered;
 use numbered::plain;
@@ -140,7 +141,7 @@ fn is_genesis_id(s: &[u8]) -> bool
 }
 
 fn all_hex_digits(s: &[u8]) -> bool
-    ensures { λ r. ⌜ r ≡ allHexDigits (now (s .entry)) ⌝ }
+    ensures { λ r. ⌜ r ≡ all isHexDigit (now (s .entry)) ⌝ }
 {
     let mut all = true;
     let mut i: usize = 0;

@@ -11,13 +11,14 @@ use lib.Dec.{eqb, leb, ltb}
 use lib.ListN.{length, drop}
 use Rattle.base.specs.Ascii.{ascii}
 use Rattle.base.specs.Need.{need}
+use Rattle.base.specs.Lists.{takeWhile}
 use Rattle.base.proofs.Tests.{by-bool}
 use Rattle.base.proofs.Outcome.{Either, then-either}
 use Rattle.search.specs.declared.Found.{Found}
 use Rattle.search.specs.declared.Found.the-variants.{At, Nothing}
 use Rattle.search.specs.First.{firstAt}
 use Rattle.trim.specs.Trim.{trimmed, startTrimmed}
-use Rattle.decimal.specs.Decimal.{digits, value}
+use Rattle.decimal.specs.Decimal.{digit, value}
 use Rattle.lines.specs.Lines.{lines}
 use Rattle.source.specs.declared.function.Places.{Places}
 use Rattle.source.specs.declared.function.Function.{Function}
@@ -65,7 +66,7 @@ vector-word : (s key : List ℕ) → WordIs (vectorNumber s key)
 vector-word s key =
     found-word (firstAt (quoted key) s 0) (Key.Refused NoKey) _ tt (λ at.
     found-word (firstAt (ascii ":") s (at + length (quoted key))) (Key.Refused NoColon) _ tt (λ colon.
-    digits-word (digits (startTrimmed (drop (colon + 1) s)))))
+    digits-word (takeWhile digit (startTrimmed (drop (colon + 1) s)))))
 
 -- the trees of a state
 abbrev pub Fits : Tree → Type 0

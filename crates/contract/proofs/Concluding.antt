@@ -1,14 +1,14 @@
 -- Laws of the whole: the parameters, then the body, then the last return's value.
-use Prim.Native.Nat.{ℕ, _-_, _<_, _≤_}
+use Prim.Native.Nat.{ℕ, _<_, _≤_}
 use mathlib.Core.Path.{_≡_, refl, sym, ap, ap₂, subst, _∙_}
 use mathlib.Core.List.{List}
-use mathlib.Core.Bool.{Bool, true, false}
+use mathlib.Core.Bool.{true, false}
 use mathlib.Core.Option.{Option, some, none}
 use native.Mathlib.Omega.{arith}
 use borrow.Author.Tests.{eq-eqb, ne-eqb, leb-true, le-leb, lt-leb}
 use lib.Dec.{leb}
 use lib.ListN.{length, take}
-use Rattle.base.proofs.Tests.{and-left}
+use Rattle.base.proofs.Tests.{and-left, never}
 use Rattle.utf8.specs.Utf8.{utf8}
 use Rattle.source.specs.Function.{functionOf}
 use lib.Seq.{take-all}
@@ -71,9 +71,6 @@ started-represents s a h = subst (λ (x : Code.State). Represents s x started) (
   going = refl;
 })
 
-never : {P : Type 0} → _≡_ {A = Bool} true false → P
-never e = absurd (let z : _≡_ {A = ℕ} 0 1 = cc in omega arith)
-
 -- the function's parts
 module _ (s vector : List ℕ) (p : Places) (f : Located s p) where
   order : Ordered s p
@@ -91,17 +88,17 @@ module _ (s vector : List ℕ) (p : Places) (f : Located s p) where
 
     pub params-off : isRefused (a .status) ≡ true → Leads s a (bodyRead s vector p) is
     params-off b = by-leads led
-        (λ st q e. never (sym b ∙ ap isRefused (q .going)))
+        (λ st q e. never (sym (ap isRefused (q .going)) ∙ b))
         (λ why t e. leads-off t (ap (λ (u : Outcome Numbered State). andThen u (λ st. each lineRead 1 st (lines (part s (p .«body_start») (p .«body_end»))))) e))
 
     pub params-stand : isRefused (a .status) ≡ true → Standing s p a
-    params-stand b = record { is = λ g. never (sym b ∙ ap isRefused g) }
+    params-stand b = record { is = λ g. never (sym (ap isRefused g) ∙ b) }
 
     module _ (b : isRefused (a .status) ≡ false) where
       pub params-good : Good (take (p .«body_start») s) a
       params-good = let o = order in by-leads led
           (λ st q e. record { st = st; represents = represents-later s (p .«params_end») (p .«body_start») (omega (arith, o .between)) (omega (arith, o .body, o .fits)) q })
-          (λ why t e. never (sym (ap isRefused t) ∙ b))
+          (λ why t e. never (sym b ∙ ap isRefused t))
 
       pub body-leads : {r : Code.State} → Follows (take (p .«body_start») s) a (λ st. each lineRead 1 st (lines (part s (p .«body_start») (p .«body_end»)))) (take (p .«body_end») s) r → Leads s r (bodyRead s vector p) is
       body-leads {r} k = let o = order in by-leads led
@@ -110,7 +107,7 @@ module _ (s vector : List ℕ) (p : Places) (f : Located s p) where
           let y = leads-later s (p .«body_end») (length s) (omega (arith, o .fits)) (omega arith) x in
           let z = subst (λ (t : List ℕ). Leads t r (each lineRead 1 st (lines (part s (p .«body_start») (p .«body_end»)))) is) (take-all (length s) s (omega arith)) y in
           subst (λ (u : Outcome Numbered State). Leads s r u is) (sym (ap (λ (u : Outcome Numbered State). andThen u (λ x. each lineRead 1 x (lines (part s (p .«body_start») (p .«body_end»))))) e)) z)
-          (λ why t e. never (sym (ap isRefused t) ∙ b))
+          (λ why t e. never (sym b ∙ ap isRefused t))
 
       pub body-stands : {r : Code.State} → Meets s (p .«body_start») (p .«body_end») a r → Standing s p r
       body-stands {r} k = record { is = λ x. ap (λ (m : Met). m .last) (k .is x ∙ ap (bodyMet s (p .«body_start») (p .«body_end»)) met) }
@@ -121,7 +118,7 @@ module _ (s vector : List ℕ) (p : Places) (f : Located s p) where
               let z = all-made vector 1 started (parameters (part s (p .«params_start») (p .«params_end»))) st e in
               ap₂ (λ (n : ℕ) (x : Option Place). record { count = n; last = x }) (sym (holds-length (q .holds)) ∙ z .count ∙ omega arith)
               (no-place _ (a .table) (a .values) (a .last) (subst (LastIs (take (p .«params_end») s) (a .table) (a .values) (a .last)) (z .last) (q .last))))
-              (λ why t e. never (sym (ap isRefused t) ∙ b))
+              (λ why t e. never (sym b ∙ ap isRefused t))
 
 -- the refusal in a status, or another
 abbrev refusalIn : Refusal → Status → Refusal
@@ -134,7 +131,7 @@ module _ (a : Code.State) (expected : ℕ) where
   end-refused why b = record {
     is = λ s vector p f l m.
         by-leads l
-        (λ st q e. never (sym (ap isRefused b) ∙ ap isRefused (q .going)))
+        (λ st q e. never (sym (ap isRefused (q .going)) ∙ ap isRefused b))
         (λ other t e. concludes-off refl (ap (concluded expected) e ∙ ap (λ (w : Refusal). refused (refusalNumbered w)) (ap (refusalIn why) (sym t ∙ b))));
   }
 
@@ -145,7 +142,7 @@ module _ (a : Code.State) (expected : ℕ) where
       is = λ s vector p g l m.
           by-leads l
           (λ st q e. subst (λ (o : Outcome Numbered (ℕ × Tree)). Concludes s vector o r) (sym (ap (concluded expected) e)) (f s vector (record { places = p; found = g; st = st; read = e; represents = q; place = m .is b })))
-          (λ why t e. never (sym (ap isRefused t) ∙ ap isRefused b));
+          (λ why t e. never (sym (ap isRefused b) ∙ ap isRefused t));
     }
 
     pub end-nothing : a .last ≡ Last.Nothing → ConcludesAll a expected (rejectedFor NoReturn)

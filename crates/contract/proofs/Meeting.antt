@@ -9,6 +9,7 @@ use lib.Dec.{ltb}
 use lib.ListN.{length, take}
 use Rattle.base.specs.Need.{need}
 use Rattle.base.proofs.Outcome.{not-is}
+use Rattle.base.proofs.Tests.{never}
 use Rattle.lines.specs.declared.Line.{Line}
 use Rattle.lines.specs.declared.Step.{Step}
 use Rattle.lines.specs.declared.Step.the-variants.{Next, Done}
@@ -70,11 +71,8 @@ module _ {s : List ℕ} {start end : ℕ} (w : Within s start end) {first : Code
     met-return {l} {expr} e f h q =
         met-next e f (ap (λ (n : ℕ). record { count = a .table .count; last = some (record { start = expr .start; end = expr .end; count = a .table .count; next = n }) }) (subst (ReadToLast (take (expr .end) s)) q h))
 
-never : {P : Type 0} → _≡_ {A = Bool} true false → P
-never e = absurd (let z : _≡_ {A = ℕ} 0 1 = cc in omega arith)
-
 pub met-off : {s : List ℕ} {start end : ℕ} {first r : Code.State} → isRefused (r .status) ≡ true → Meets s start end first r
-met-off b = record { is = λ g. never (sym b ∙ ap isRefused g) }
+met-off b = record { is = λ g. never (sym (ap isRefused g) ∙ b) }
 
 -- the parameters: one binding each, and no return
 pub record Made (st : State) (names : List (List ℕ)) (x : State) : Type 0 where

@@ -4,10 +4,9 @@ use mathlib.Core.Path.{_≡_, refl, sym, ap, _∙_}
 use mathlib.Core.List.{List}
 use mathlib.Core.Bool.{true, false}
 use native.Mathlib.Omega.{arith}
-use lib.ListN.{length, take, drop, length-drop}
-use lib.Seq.{length-take-le}
+use lib.ListN.{length, take, drop}
 use Rattle.base.specs.Ascii.{ascii}
-use Rattle.base.proofs.Parts.{rest, inner}
+use Rattle.base.proofs.Parts.{rest, inner, length-part}
 use Rattle.base.proofs.Tests.{by-bool}
 use Rattle.search.specs.declared.Found.the-variants.{At, Nothing}
 use Rattle.search.specs.First.{prefixOf, firstAt}
@@ -24,7 +23,7 @@ use Rattle.contract.specs.Code.Places.{trimmedIn, letAt, trimmedAt, stat
 
 module _ (s : List ℕ) (start end : ℕ) (h : start ≤ end) (k : end ≤ length s) where
   pub part-length : length (part s start end) ≡ end - start
-  part-length = length-take-le (end - start) (drop start s) (omega (arith, length-drop start s))
+  part-length = length-part s start end h k
 
   pub trimmed-inside : Inside start end (trimmedIn s start end)
   trimmed-inside = let f = trimmed-fits (part s start end) in let n = part-length in record { low = omega arith; ordered = omega arith; high = omega arith }

@@ -8,9 +8,10 @@ use borrow.Author.Tests.{eqb-true, eqb-false}
 use lib.Dec.{eqb, ltb}
 use Rattle.numbered.specs.declared.Numbered.{Numbered}
 use Rattle.base.specs.Outcome.{Outcome, andThen}
+use Rattle.base.specs.Lists.{all}
 use Rattle.base.proofs.Tests.{by-bool}
 use Rattle.base.proofs.Outcome.{Either, then-either}
-use Rattle.decimal.specs.Decimal.{allDigits, value}
+use Rattle.decimal.specs.Decimal.{value, digit}
 use Rattle.token.specs.Token.{allowed, tokens}
 use Rattle.expression.specs.Tree.{Tree}
 use Rattle.expression.specs.Parse.{Env, lookup, Parse, lone, expression, joins, operator, joined, closed, nested, named, literal, atom, parseF, moreF, enough, parsed, whole, meaning, depth}
@@ -43,7 +44,7 @@ literal-wrong : (w : List ℕ) → WrongIn (literal w)
 literal-wrong w = by-bool (ltb (value w) (2 ^ 64)) (λ e. rw e tt) (λ e. rw e (omega arith, omega arith))
 
 atom-wrong : (env : Env) (w : List ℕ) → WrongIn (atom env w)
-atom-wrong env w = by-bool (allDigits w) (λ e. rw e (literal-wrong w)) (λ e. rw e (named-wrong (lookup w env)))
+atom-wrong env w = by-bool (all digit w) (λ e. rw e (literal-wrong w)) (λ e. rw e (named-wrong (lookup w env)))
 
 whole-wrong : (r : Tree × List (List ℕ)) → WrongIn (whole r)
 whole-wrong (t, []) = tt

@@ -7,14 +7,15 @@ use mathlib.Core.Bool.{true, _&&_}
 use lib.Dec.{leb, ltb}
 use lib.ListN.{length}
 use Rattle.base.specs.Ascii.{ascii}
+use Rattle.base.specs.Lists.{all}
 use Rattle.base.proofs.Tests.{and-left, and-right, between}
 use Rattle.utf8.specs.Utf8.{utf8}
 use Rattle.utf8.proofs.Lead.{one-is}
 use Rattle.utf8.proofs.Encoding.{append}
 use Rattle.lines.specs.Lines.{feedFree}
 use Rattle.lines.proofs.Written.{free-cons, free-append}
-use Rattle.decimal.specs.Decimal.{digit, allDigits, decimal}
-use Rattle.decimal.proofs.Laws.{allDigits-decimal}
+use Rattle.decimal.specs.Decimal.{digit, decimal}
+use Rattle.decimal.proofs.Laws.{decimal-digits}
 use Rattle.ops.specs.Ops.{readText}
 use Rattle.base.specs.Outcome.{is}
 use Rattle.ops.specs.Written.{writtenAll, remarks, IsRemark, Each, none, one}
@@ -25,11 +26,11 @@ use Rattle.contract.proofs.Words.{Words}
 use Rattle.correctness.proofs.Operations.{operations-fine, k-positive, operations-length, all-writable, all-same}
 
 -- digits are UTF-8 on one line
-digits-remark : (s : List ℕ) → allDigits s ≡ true → IsRemark s
+digits-remark : (s : List ℕ) → all digit s ≡ true → IsRemark s
 digits-remark [] e = record { valid = refl; oneLine = refl }
 digits-remark (a ∷ s) e =
-    let b = between 48 57 a (and-left (digit a) (allDigits s) e) in
-    let r = digits-remark s (and-right (digit a) (allDigits s) e) in
+    let b = between 48 57 a (and-left (digit a) (all digit s) e) in
+    let r = digits-remark s (and-right (digit a) (all digit s) e) in
     record { valid = one-is a s (omega arith) ∙ r .valid; oneLine = free-cons a s (λ e. omega arith) ∙ r .oneLine }
 
 stem-remark : (stem : List ℕ) → stemFits stem ≡ true → IsRemark stem
@@ -56,7 +57,7 @@ header-remarks stem v = regroup (ascii "# contract: ") stem (ascii "# expected: 
 titles-remarks : (stem : List ℕ) (v : ℕ) → stemFits stem ≡ true → Each IsRemark (titles stem v)
 titles-remarks stem v e =
     one (behind (ascii " contract: ") stem refl refl (stem-remark stem e))
-    (one (behind (ascii " expected: ") (decimal v) refl refl (digits-remark (decimal v) (allDigits-decimal v)))
+    (one (behind (ascii " expected: ") (decimal v) refl refl (digits-remark (decimal v) (decimal-digits v)))
     none)
 
 pub reads-output : (stem : List ℕ) (v : ℕ) (t : Tree) → stemFits stem ≡ true → Words t → (room : ℕ) → 2 * kOf t ≤ room → readText (output stem v t) room ≡ is (operationsOf t)

@@ -1,16 +1,17 @@
 -- Laws of `decimal`: a number's digits.
 use Prim.Native.Nat.{ℕ, zero, suc, _+_, _-_, _*_, _/_, _%_, _^_, _<_, _≤_}
 use mathlib.Core.Path.{_≡_, refl, sym, ap, _∙_}
-use mathlib.Core.List.{List, [], _∷_, _++_, append-nil}
-use mathlib.Core.Bool.{true, false}
+use mathlib.Core.List.{List, [], _∷_, _++_}
+use mathlib.Core.Bool.{true}
 use borrow.Author.Tests.{lt-ltb, le-ltb}
 use native.Mathlib.Omega.{arith}
 use native.Mathlib.Nat.{pow-suc}
 use lib.ListN.{length, getD, length-append, List·getD-append}
-use Rattle.base.proofs.Tests.{by-leb, inside, between, and-both, and-left, and-right}
-use Rattle.decimal.specs.Decimal.{digit, digits, valueFrom, value, allDigits, fromDigits, numberOf, decimalWith, decimal}
+use Rattle.base.specs.Lists.{all}
+use Rattle.base.proofs.Tests.{by-leb, inside, between, and-both}
+use Rattle.base.proofs.Lists.{all-behind, all-at}
+use Rattle.decimal.specs.Decimal.{digit, valueFrom, value, fromDigits, numberOf, decimalWith, decimal}
 use Rattle.decimal.specs.declared.Number.the-variants.{Is}
-use Rattle.decimal.proofs.Runs.{digits-append, digits-none}
 use Rattle.decimal.proofs.FromStr.{not-signed}
 
 -- any fuel above the number is enough
@@ -48,25 +49,18 @@ value-decimal =
     (λ n h. ap value (decimal-one n h) ∙ omega arith)
     (λ n h e. ap value (decimal-more n h) ∙ valueFrom-snoc 0 (decimal (n / 10)) (48 + n % 10) ∙ omega arith)
 
-allDigits-snoc : (s : List ℕ) (a : ℕ) → allDigits s ≡ true → digit a ≡ true → allDigits (s ++ a ∷ []) ≡ true
-allDigits-snoc [] a e d = and-both (digit a) true d refl
-allDigits-snoc (b ∷ s) a e d =
-    and-both (digit b) (allDigits (s ++ a ∷ [])) (and-left (digit b) (allDigits s) e) (allDigits-snoc s a (and-right (digit b) (allDigits s) e) d)
+-- every byte of a number is a digit
+snoc : (s : List ℕ) (a : ℕ) → all digit s ≡ true → digit a ≡ true → all digit (s ++ a ∷ []) ≡ true
+snoc s a e d = all-behind digit s (a ∷ []) e ∙ and-both (digit a) true d refl
 
-pub allDigits-decimal : (n : ℕ) → allDigits (decimal n) ≡ true
-allDigits-decimal =
-    by-digits (λ n. allDigits (decimal n) ≡ true)
-    (λ n h. ap allDigits (decimal-one n h) ∙ allDigits-snoc [] (48 + n) refl (inside 48 57 (48 + n) (omega arith) (omega arith)))
-    (λ n h e. ap allDigits (decimal-more n h) ∙ allDigits-snoc (decimal (n / 10)) (48 + n % 10) e (inside 48 57 (48 + n % 10) (omega arith) (omega arith)))
-
--- each byte is a digit
-allDigits-at : (s : List ℕ) (i : ℕ) → allDigits s ≡ true → i < length s → digit (getD s i 0) ≡ true
-allDigits-at [] i e h = absurd (omega arith)
-allDigits-at (a ∷ s) zero e h = and-left (digit a) (allDigits s) e
-allDigits-at (a ∷ s) (suc i) e h = allDigits-at s i (and-right (digit a) (allDigits s) e) (omega arith)
+pub decimal-digits : (n : ℕ) → all digit (decimal n) ≡ true
+decimal-digits =
+    by-digits (λ n. all digit (decimal n) ≡ true)
+    (λ n h. ap (all digit) (decimal-one n h) ∙ snoc [] (48 + n) refl (inside 48 57 (48 + n) (omega arith) (omega arith)))
+    (λ n h e. ap (all digit) (decimal-more n h) ∙ snoc (decimal (n / 10)) (48 + n % 10) e (inside 48 57 (48 + n % 10) (omega arith) (omega arith)))
 
 pub digit-decimal : (n i : ℕ) → i < length (decimal n) → digit (getD (decimal n) i 0) ≡ true
-digit-decimal n i h = allDigits-at (decimal n) i (allDigits-decimal n) h
+digit-decimal n i h = all-at digit (decimal n) i (decimal-digits n) h
 
 pub between-decimal : (n i : ℕ) → i < length (decimal n) → (48 ≤ getD (decimal n) i 0) × (getD (decimal n) i 0 ≤ 57)
 between-decimal n i h = between 48 57 (getD (decimal n) i 0) (digit-decimal n i h)
@@ -115,14 +109,9 @@ first-zero =
     (λ n h e. omega (arith, ap (λ (s : List ℕ). getD s 0 0) (decimal-one n h)))
     (λ n h r e. absurd (let z = r (sym (first-more n h) ∙ e) in omega arith))
 
--- the digits of a number before a text that starts with none
-pub digits-decimal : (n : ℕ) (t : List ℕ) → digit (getD t 0 0) ≡ false → digits (decimal n ++ t) ≡ decimal n
-digits-decimal n t e =
-    digits-append (decimal n) t (allDigits-decimal n) ∙ ap (λ (r : List ℕ). decimal n ++ r) (digits-none t 0 e) ∙ append-nil (decimal n)
-
 -- what is written is read again
 pub round-trip : (n : ℕ) → n < 2 ^ 64 → numberOf (decimal n) ≡ Is n
 round-trip n h =
     let b = between-decimal n 0 (length-positive n) in
     ap fromDigits (sym (not-signed (decimal n) (λ e. omega arith)))
-    ∙ simp (lt-ltb 0 (length (decimal n)) (length-positive n), allDigits-decimal n, value-decimal n, lt-ltb n (2 ^ 64) h)
+    ∙ simp (lt-ltb 0 (length (decimal n)) (length-positive n), decimal-digits n, value-decimal n, lt-ltb n (2 ^ 64) h)

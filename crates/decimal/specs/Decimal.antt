@@ -1,27 +1,17 @@
 -- Numbers in plain decimal: what a text of digits writes, `u64::from_str`, and the digits of a number.
 use Prim.Native.Nat.{ℕ, zero, suc, _+_, _-_, _*_, _/_, _%_, _^_}
 use mathlib.Core.List.{List, [], _∷_, _++_}
-use mathlib.Core.Bool.{Bool, true, cond, _&&_}
+use mathlib.Core.Bool.{Bool, cond, _&&_}
 use lib.Dec.{eqb, ltb}
 use lib.ListN.{length}
 use Rattle.base.specs.Range.{within}
+use Rattle.base.specs.Lists.{all}
 use Rattle.decimal.specs.declared.Number.{Number}
 use Rattle.decimal.specs.declared.Number.the-variants as Number
-
--- A choice between two results binds the one that recurs by `let`, so that it is computed only where it is taken.
 
 -- 0 to 9
 abbrev pub digit : ℕ → Bool
 digit a = within 48 57 a
-
-abbrev pub allDigits : List ℕ → Bool
-allDigits [] = true
-allDigits (a ∷ s) = digit a && allDigits s
-
--- the digits that a text starts with
-abbrev pub digits : List ℕ → List ℕ
-digits [] = []
-digits (a ∷ s) = let more = a ∷ digits s in cond (digit a) more []
 
 -- the number that digits write behind acc, as large as it may be
 abbrev pub valueFrom : ℕ → List ℕ → ℕ
@@ -38,7 +28,7 @@ withoutPlus (a ∷ s) = cond (eqb a 43) s (a ∷ s)
 
 -- one digit or more and nothing else, below 2 ^ 64
 abbrev pub fromDigits : List ℕ → Number
-fromDigits s = cond (ltb 0 (length s) && allDigits s && ltb (value s) (2 ^ 64)) (Number.Is (value s)) Number.Invalid
+fromDigits s = cond (ltb 0 (length s) && all digit s && ltb (value s) (2 ^ 64)) (Number.Is (value s)) Number.Invalid
 
 -- `u64::from_str`
 abbrev pub numberOf : List ℕ → Number

@@ -4,9 +4,9 @@ ghost use Prim.Native.Nat.{_+_, _*_, _^_, _<_, _≤_};
 ghost use lib.Dec.{ltb};
 ghost use lib.ListN.{length, getD, drop};
 ghost use Rattle.base.specs.Overwrite.{overwrite};
-ghost use Rattle.decimal.specs.Decimal.{digit, digits, withoutPlus, numberOf};
+ghost use Rattle.decimal.specs.Decimal.{digit, withoutPlus, numberOf, decimal};
+ghost use Rattle.base.specs.Lists.{takeWhile};
 ghost use Rattle.decimal.specs.Code.Digits.{digitsAt};
-ghost use Rattle.decimal.specs.Decimal.{decimal};
 ghost use Rattle.decimal.specs.Code.Digits.{writtenAt, bufferAfter};
 ghost use Rattle.decimal.specs.Code.Zeros.{ZerosTo, ZerosAt};
 use base::both;
@@ -137,7 +137,7 @@ fn is_digit_at(s: &[u8], i: usize) -> bool
 
 // Where the digits from a place on end.
 fn digits_end(s: &[u8], at: usize) -> usize
-    ensures { λ r. ⌜ r ≡ at + length (digits (drop at (now (s .entry)))) ⌝ }
+    ensures { λ r. ⌜ r ≡ at + length (takeWhile digit (drop at (now (s .entry)))) ⌝ }
 {
     let mut i = at;
     while is_digit_at(s, i) {

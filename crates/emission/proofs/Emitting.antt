@@ -8,7 +8,9 @@ use lib.ListN.{length, getD, take, drop, set, length-append, length-set, drop-of
 use lib.Seq.{length-take-le}
 use borrow.Author.Tests.{eq-eqb, ne-eqb}
 use Rattle.base.specs.Outcome.{is}
+use Rattle.base.specs.Code.Stack.{stackOf}
 use Rattle.base.proofs.Parts.{middle}
+use Rattle.base.proofs.Stack.{length-stack, stack-push}
 use Rattle.token.specs.Token.{tokens, scan}
 use Rattle.token.specs.Code.Places.{tokenAt}
 use Rattle.expression.specs.Tree.{num}
@@ -24,10 +26,10 @@ use Rattle.emission.specs.declared.factor.Factor.the-variants.{Open, Lit
 use Rattle.emission.specs.declared.factor.FactorAt.{FactorAt}
 use Rattle.emission.specs.declared.operator.Turn.{Turn}
 use Rattle.emission.specs.Code.Factor.{factorAt}
-use Rattle.emission.specs.Code.Waiting.{most, popped, stackOf}
+use Rattle.emission.specs.Code.Waiting.{most, popped}
 use Rattle.emission.specs.Code.Turn.{signAt, downTo, Ready, Turns}
 use Rattle.emission.specs.Code.Emitted.{treeBetween, Means, Kept}
-use Rattle.emission.proofs.Stack.{stack-length, stack-more, text-num}
+use Rattle.emission.proofs.Stack.{text-num}
 use Rattle.emission.proofs.Walk.{Walks}
 use Rattle.emission.proofs.Postfix.{postfix}
 use Rattle.emission.proofs.Stepping.{token-past, Factored, onward, Operated, factor-step, operator-step}
@@ -122,7 +124,7 @@ module _ {s : List ℕ} {c : Sources} {count end : ℕ} {whole out₀ : List ℕ
     no-factor q = step Nothing q
 
     pub open-room : next .factor ≡ Open → n < most
-    open-room q = omega (arith, step Open q .0, stack-length waiting n)
+    open-room q = omega (arith, step Open q .0, length-stack waiting n)
 
     pub opened : next .factor ≡ Open → Going s c count end whole out₀ at out to (set waiting n 40) (n + 1) (next .end) true
     opened q =
@@ -134,7 +136,7 @@ module _ {s : List ℕ} {c : Sources} {count end : ℕ} {whole out₀ : List ℕ
           put = g .put;
           few = omega arith;
           full = simp length-set (g .full);
-          walks = rw (stack-more waiting n 40 (omega (arith, g .full))) (there true (40 ∷ stackOf waiting n) (g .rest) (step Open q .1));
+          walks = rw (stack-push waiting n 40 (omega (arith, g .full))) (there true (40 ∷ stackOf waiting n) (g .rest) (step Open q .1));
         }
 
     module _ (v : ℕ) (q : next .factor ≡ Literal v) where

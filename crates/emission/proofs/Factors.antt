@@ -8,15 +8,17 @@ use borrow.Author.Tests.{eq-eqb, ne-eqb}
 use lib.Dec.{ltb}
 use lib.ListN.{length, getD, take, drop}
 use lib.Seq.{length-take-le, getD-take}
+use Rattle.base.specs.Lists.{all, takeWhile}
 use Rattle.base.proofs.Tests.{by-bool}
 use Rattle.base.proofs.Parts.{next, inner}
-use Rattle.decimal.specs.Decimal.{digit, digits, allDigits, value}
+use Rattle.base.proofs.Lists.{all-takeWhile}
+use Rattle.decimal.specs.Decimal.{digit, value}
 use Rattle.decimal.specs.Code.Digits.{capped}
 use Rattle.decimal.specs.declared.Value.the-variants as Digits
 use Rattle.token.specs.Token.{tokens}
 use Rattle.token.specs.Code.Places.{tokenAt}
 use Rattle.token.specs.declared.Token.{Token}
-use Rattle.token.proofs.Tokens.{Next, tokenFrom, digit-token, digits-all}
+use Rattle.token.proofs.Tokens.{Next, tokenFrom, digit-token}
 use Rattle.expression.specs.declared.names.Found.{Found}
 use Rattle.expression.specs.Parse.{lone}
 use Rattle.expression.specs.Code.Table.{found}
@@ -83,15 +85,15 @@ module _ (s : List ℕ) (end at count : ℕ) (names lens tags : List ℕ) (t : T
         no-open : lone w ≡ 40 → ⊥
         no-open z = q (sign ∙ z)
 
-        pub factor-literal : digit (getD s (t .start) 0) ≡ true → _≡_ {A = FactorAt} (record { factor = literalOf (digits (drop (t .start) (take end s))); end = t .end }) (factorAt s end at count names lens tags)
+        pub factor-literal : digit (getD s (t .start) 0) ≡ true → _≡_ {A = FactorAt} (record { factor = literalOf (takeWhile digit (drop (t .start) (take end s))); end = t .end }) (factorAt s end at count names lens tags)
         factor-literal d =
             let x = next (take end s) (t .start) (t .start + 1) (omega (arith, token .some, token .inside)) refl in
-            let y : w ≡ digits (drop (t .start) (take end s)) = digit-token (getD (take end s) (t .start) 0) (ap digit first-byte ∙ d) (drop (t .start + 1) (take end s)) ∙ ap digits (sym x) in
-            let a : allDigits w ≡ true = ap allDigits y ∙ digits-all (drop (t .start) (take end s)) in
+            let y : w ≡ takeWhile digit (drop (t .start) (take end s)) = digit-token (getD (take end s) (t .start) 0) (ap digit first-byte ∙ d) (drop (t .start + 1) (take end s)) ∙ ap (takeWhile digit) (sym x) in
+            let a : all digit w ≡ true = ap (all digit) y ∙ all-takeWhile digit (drop (t .start) (take end s)) in
             by-token (ap literalOf (sym y) ∙ sym (simp (ne-eqb (lone w) 40 no-open, a)))
 
         pub factor-name : digit (getD s (t .start) 0) ≡ false → (f : Found) → f ≡ found count s names lens tags (take (t .end - t .start) (drop (t .start) s)) → _≡_ {A = FactorAt} (record { factor = namedBy f; end = t .end }) (factorAt s end at count names lens tags)
         factor-name d f g =
             let x = next (take end s) (t .start) (t .start + 1) (omega (arith, token .some, token .inside)) refl in
-            let a : allDigits w ≡ false = simp (ap digit first-byte ∙ d) in
+            let a : all digit w ≡ false = simp (ap digit first-byte ∙ d) in
             by-token (ap namedBy (g ∙ ap (found count s names lens tags) bytes) ∙ sym (simp (ne-eqb (lone w) 40 no-open, a)))

@@ -7,8 +7,10 @@ use lib.ListN.{length, getD, length-append}
 use Rattle.writer.specs.Code.Overwrites.{Overwrites}
 use Rattle.emission.specs.Code.Lines.{operatorText, operatorsText}
 use Rattle.writer.proofs.Pieces.{overwrites-none, overwrites-then, overwrites-length}
-use Rattle.emission.specs.Code.Waiting.{levelOf, most, popped, left, stackOf, Pops}
-use Rattle.emission.proofs.Stack.{left-one, left-none, stack-top, popped-empty, popped-shut, popped-more}
+use Rattle.emission.specs.Code.Waiting.{levelOf, most, popped, left, Pops}
+use Rattle.emission.proofs.Stack.{left-one, left-none, popped-empty, popped-shut, popped-more}
+use Rattle.base.specs.Code.Stack.{stackOf}
+use Rattle.base.proofs.Stack.{stack-pop}
 
 -- o is written so far, and k of n operators wait
 pub record Popping (A : List ℕ) (level n : ℕ) (out₀ : List ℕ) (at : ℕ) (out : List ℕ) (to k : ℕ) : Type 0 where
@@ -44,7 +46,7 @@ module _ {A : List ℕ} {level n : ℕ} {out₀ : List ℕ} {at : ℕ} {out : Li
 
   module _ (h : 0 < k) where
     top : stackOf A k ≡ getD A (k - 1) 0 ∷ stackOf A (k - 1)
-    top = stack-top A k h
+    top = stack-pop A k h
 
     pub popping-shut : level < levelOf (getD A (k - 1) 0) → Pops out₀ at A n level out (record { to = to; left = k })
     popping-shut l = pops (popped-shut A level k h l) (top ∙ sym (left-none level (getD A (k - 1) 0) (stackOf A (k - 1)) l) ∙ ap (left level) (sym top))

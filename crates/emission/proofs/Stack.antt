@@ -1,20 +1,20 @@
 -- Laws of the operators that wait, as a stack and as an array holds it.
-use Prim.Native.Nat.{ℕ, zero, suc, _+_, _-_, _<_, _≤_}
+use Prim.Native.Nat.{ℕ, zero, suc, _-_, _<_, _≤_}
 use mathlib.Core.Path.{_≡_, refl, sym, ap, _∙_}
 use mathlib.Core.List.{List, [], _∷_, _++_, append-nil, append-assoc}
 use mathlib.Core.Bool.{true}
-use native.Mathlib.Numerals.{add-one, sub-one}
 use native.Mathlib.Omega.{arith}
 use borrow.Author.Tests.{le-leb, lt-leb}
-use lib.ListN.{length, getD, set}
-use lib.Seq.{getD-set-same, getD-set-other}
+use lib.ListN.{length, getD}
+use Rattle.base.specs.Code.Stack.{stackOf}
 use Rattle.base.proofs.Tests.{never, by-leb}
+use Rattle.base.proofs.Stack.{stack-pop}
 use Rattle.expression.specs.Parse.{joins}
 use Rattle.expression.specs.Tree.{num}
 use Rattle.expression.specs.Code.Texts.{textOf}
 use Rattle.expression.proofs.Steps.{looser}
 use Rattle.emission.specs.Code.Lines.{pushText, operatorText, operatorsText}
-use Rattle.emission.specs.Code.Waiting.{levelOf, popped, left, stackOf}
+use Rattle.emission.specs.Code.Waiting.{levelOf, popped, left}
 
 -- an operator's level is the one that it joins to
 
@@ -41,27 +41,6 @@ module _ (p y : ℕ) (st : List ℕ) where
   pub left-none : p < levelOf y → left p (y ∷ st) ≡ y ∷ st
   unfolding left
   left-none h = rw (lt-leb (levelOf y) p h, left)
-
--- the stack that an array holds
-
-pub stack-length : (A : List ℕ) (n : ℕ) → length (stackOf A n) ≡ n
-unfolding stackOf
-stack-length A zero = refl
-stack-length A (suc n) = ap suc (stack-length A n)
-
-pub stack-set : (A : List ℕ) (i a n : ℕ) → n ≤ i → stackOf (set A i a) n ≡ stackOf A n
-unfolding stackOf
-stack-set A i a zero h = refl
-stack-set A i a (suc n) h = rw (getD-set-other A i n a 0 (λ e. omega arith), stack-set A i a n (omega arith))
-
-pub stack-more : (A : List ℕ) (n a : ℕ) → n < length A → stackOf (set A n a) (n + 1) ≡ a ∷ stackOf A n
-unfolding stackOf
-stack-more A n a h = rw add-one (rw (getD-set-same A n a 0 h, stack-set A n a n (omega arith)))
-
-pub stack-top : (A : List ℕ) (n : ℕ) → 0 < n → stackOf A n ≡ getD A (n - 1) 0 ∷ stackOf A (n - 1)
-unfolding stackOf
-stack-top A zero h = absurd (omega arith)
-stack-top A (suc n) h = rw sub-one refl
 
 -- what is left is the stack of so many elements fewer
 pub record Pops (A : List ℕ) (p n : ℕ) : Type 0 where
@@ -95,10 +74,10 @@ popped-empty A p zero h = refl
 popped-empty A p (suc n) h = absurd (omega arith)
 
 pub popped-shut : (A : List ℕ) (p n : ℕ) → 0 < n → p < levelOf (getD A (n - 1) 0) → popped p (stackOf A n) ≡ []
-popped-shut A p n h l = ap (popped p) (stack-top A n h) ∙ popped-none p (getD A (n - 1) 0) (stackOf A (n - 1)) l
+popped-shut A p n h l = ap (popped p) (stack-pop A n h) ∙ popped-none p (getD A (n - 1) 0) (stackOf A (n - 1)) l
 
 pub popped-more : (A : List ℕ) (p n : ℕ) → 0 < n → levelOf (getD A (n - 1) 0) ≤ p → popped p (stackOf A n) ≡ getD A (n - 1) 0 ∷ popped p (stackOf A (n - 1))
-popped-more A p n h l = ap (popped p) (stack-top A n h) ∙ popped-one p (getD A (n - 1) 0) (stackOf A (n - 1)) l
+popped-more A p n h l = ap (popped p) (stack-pop A n h) ∙ popped-one p (getD A (n - 1) 0) (stackOf A (n - 1)) l
 
 -- the text of operators
 

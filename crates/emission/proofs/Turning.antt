@@ -7,14 +7,15 @@ use native.Mathlib.Omega.{arith}
 use borrow.Author.Tests.{le-leb, lt-leb, eq-eqb, ne-eqb}
 use lib.Dec.{eqb, leb}
 use lib.ListN.{length, set, take, drop, length-set}
+use Rattle.base.specs.Code.Stack.{stackOf}
 use Rattle.base.proofs.Tests.{by-eqb}
+use Rattle.base.proofs.Stack.{length-stack, stack-push, stack-pop}
 use Rattle.token.specs.Code.Places.{tokenAt}
 use Rattle.expression.specs.Grammar.{levels}
 use Rattle.emission.specs.Code.Lines.{operatorsText}
 use Rattle.emission.specs.declared.waiting.Popped.{Popped}
-use Rattle.emission.specs.Code.Waiting.{levelOf, most, popped, left, stackOf, Pops}
+use Rattle.emission.specs.Code.Waiting.{levelOf, most, popped, left, Pops}
 use Rattle.emission.specs.Code.Turn.{signAt, downTo, Ready, Turns}
-use Rattle.emission.proofs.Stack.{stack-length, stack-more, stack-top}
 
 module _ {s : List ℕ} {end at : ℕ} {out : List ℕ} {to : ℕ} {waiting : List ℕ} {n : ℕ} (r : Ready s end at out to waiting n) {b : ℕ} (e : b ≡ signAt s end at) where
   -- an operator
@@ -29,7 +30,7 @@ module _ {s : List ℕ} {end at : ℕ} {out : List ℕ} {to : ℕ} {waiting : Li
       pub operator-room : p .left < most
       operator-room =
           let m : length (left (levelOf b) (stackOf waiting n)) < most = rw (level) at (r .operator (rw (← e) h)) in
-          omega (arith, stack-length waiting (p .left), ap length (q .rest))
+          omega (arith, length-stack waiting (p .left), ap length (q .rest))
 
       pub operator-turns : {next : ℕ} → next ≡ tokenAt (take end s) at .end → Turns s end at out to waiting n after (set waiting (p .left) b) (record { at = next; to = p .to; waiting = p .left + 1; due = true })
       operator-turns g =
@@ -37,7 +38,7 @@ module _ {s : List ℕ} {end at : ℕ} {out : List ℕ} {to : ℕ} {waiting : Li
           record {
             put = rw level (q .put);
             next = g;
-            stack = stack-more waiting (p .left) b (omega (arith, operator-room, r .full)) ∙ ap (λ (st : List ℕ). b ∷ st) (q .rest) ∙ sym (simp t (rw (level, ← e)));
+            stack = stack-push waiting (p .left) b (omega (arith, operator-room, r .full)) ∙ ap (λ (st : List ℕ). b ∷ st) (q .rest) ∙ sym (simp t (rw (level, ← e)));
             few = omega (arith, operator-room);
             full = simp length-set (r .full);
             due = sym t;
@@ -55,12 +56,12 @@ module _ {s : List ℕ} {end at : ℕ} {out : List ℕ} {to : ℕ} {waiting : Li
       pub close-mark : b ≡ 41 → 0 < p .left
       close-mark c =
           let m : 0 < length (left levels (stackOf waiting n)) = rw (loosest) at (r .mark (sym e ∙ c)) in
-          omega (arith, stack-length waiting (p .left), ap length (q .rest))
+          omega (arith, length-stack waiting (p .left), ap length (q .rest))
 
       stack-closed : stackOf waiting (cond (eqb b 41) (p .left - 1) (p .left)) ≡ cond (eqb b 41) (drop 1 (left levels (stackOf waiting n))) (left levels (stackOf waiting n))
       stack-closed =
           by-eqb b 41
-          (λ c. simp (eq-eqb b 41 c) (ap (drop 1) (sym (stack-top waiting (p .left) (close-mark c)) ∙ q .rest)))
+          (λ c. simp (eq-eqb b 41 c) (ap (drop 1) (sym (stack-pop waiting (p .left) (close-mark c)) ∙ q .rest)))
           (λ c. simp (ne-eqb b 41 c) (q .rest))
 
       pub close-turns : {next m : ℕ} → next ≡ tokenAt (take end s) at .end → m ≡ cond (eqb b 41) (p .left - 1) (p .left) → Turns s end at out to waiting n after waiting (record { at = next; to = p .to; waiting = m; due = false })

@@ -5,7 +5,8 @@ use mathlib.Core.List.{List, [], _∷_, _++_}
 use mathlib.Core.Bool.{Bool, true, false}
 use mathlib.Core.Option.{some}
 use lib.ListN.{length}
-use Rattle.decimal.specs.Decimal.{allDigits, value}
+use Rattle.base.specs.Lists.{all}
+use Rattle.decimal.specs.Decimal.{digit, value}
 use Rattle.expression.specs.Tree.{Tree, num}
 use Rattle.expression.specs.Grammar.{levels}
 use Rattle.expression.specs.Parse.{Env, lookup, lone}
@@ -17,8 +18,8 @@ use Rattle.emission.specs.Code.Waiting.{levelOf, most, popped, left}
 -- `next due st o`: the walk over the tokens behind w, with the stack st, writes o; due says whether it starts with a factor.
 pub data FactorStep (env : Env) (next : Bool → List ℕ → List ℕ → Type 0) (st w o : List ℕ) : Type 0 where
   opens : lone w ≡ 40 → length st < most → next true (40 ∷ st) o → FactorStep env next st w o
-  number : (lone w ≡ 40 → ⊥) → allDigits w ≡ true → value w < 2 ^ 64 → (o' : List ℕ) → o ≡ textOf (num (value w)) ++ o' → next false st o' → FactorStep env next st w o
-  name : (lone w ≡ 40 → ⊥) → allDigits w ≡ false → (t : Tree) → lookup w env ≡ some t → (o' : List ℕ) → o ≡ textOf t ++ o' → next false st o' → FactorStep env next st w o
+  number : (lone w ≡ 40 → ⊥) → all digit w ≡ true → value w < 2 ^ 64 → (o' : List ℕ) → o ≡ textOf (num (value w)) ++ o' → next false st o' → FactorStep env next st w o
+  name : (lone w ≡ 40 → ⊥) → all digit w ≡ false → (t : Tree) → lookup w env ≡ some t → (o' : List ℕ) → o ≡ textOf t ++ o' → next false st o' → FactorStep env next st w o
 
 -- The token w where an operator is due: `)` writes the operators down to the mark; an operator writes those that bind at least as tightly, then waits.
 pub data OperatorStep (next : Bool → List ℕ → List ℕ → Type 0) (st w o : List ℕ) : Type 0 where

@@ -2,7 +2,8 @@
 ghost use mathlib.Core.Path.{_≡_};
 ghost use Prim.Native.Nat.{_≤_};
 ghost use lib.ListN.{length, drop};
-ghost use Rattle.decimal.specs.Decimal.{digits};
+ghost use Rattle.base.specs.Lists.{takeWhile};
+ghost use Rattle.decimal.specs.Decimal.{digit};
 ghost use Rattle.emission.specs.Code.Factor.{literalOf, namedBy, factorAt};
 use decimal::Value;
 use decimal::digits_at;
@@ -70,7 +71,7 @@ pub fn factor_at<'a>(
 
 // The number that the digits from a place on write.
 fn literal(expression: &[u8], first: usize) -> Factor
-    ensures { λ r. ⌜ r ≡ literalOf (digits (drop first (now (expression .entry)))) ⌝ }
+    ensures { λ r. ⌜ r ≡ literalOf (takeWhile digit (drop first (now (expression .entry)))) ⌝ }
 {
     let run = digits_at(expression, first);
     let value = run.value;

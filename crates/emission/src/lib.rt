@@ -12,9 +12,9 @@ mod factor;
 mod operator;
 mod waiting;
 
+use base::wide;
 use expression::Bindings;
 use expression::Values;
-use expression::names::wide;
 use factor::Factor;
 use factor::factor_at;
 use operator::operate;

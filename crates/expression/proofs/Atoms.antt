@@ -6,11 +6,12 @@ use native.Mathlib.Omega.{arith}
 use borrow.Author.Tests.{eq-eqb, ne-eqb}
 use lib.Dec.{ltb}
 use lib.ListN.{length, take, drop, length-drop}
+use Rattle.base.specs.Lists.{takeWhile}
+use Rattle.base.proofs.Lists.{length-takeWhile}
 use Rattle.base.proofs.Tests.{by-bool}
-use Rattle.decimal.specs.Decimal.{digits, value, decimal}
+use Rattle.decimal.specs.Decimal.{digit, value, decimal}
 use Rattle.decimal.specs.Code.Digits.{capped}
 use Rattle.decimal.specs.declared.Value.the-variants as Digits
-use Rattle.decimal.proofs.Runs.{digits-short}
 use Rattle.token.specs.Token.{tokens}
 use Rattle.token.specs.Code.Places.{tokenAt}
 use Rattle.token.specs.declared.Token.{Token}
@@ -25,8 +26,8 @@ use Rattle.expression.proofs.Signs.{none-of, next-of}
 not-large : {P : Type 0} (n : ℕ) → Digits.Is n ≡ Digits.TooLarge → P
 not-large n e = absurd (let z : _≡_ {A = ℕ} 0 1 = cc in omega arith)
 
-pub run-inside : (s : List ℕ) (at : ℕ) → at < length s → at + length (digits (drop at s)) ≤ length s
-run-inside s at h = omega (arith, digits-short (drop at s), length-drop at s)
+pub run-inside : (s : List ℕ) (at : ℕ) → at < length s → at + length (takeWhile digit (drop at s)) ≤ length s
+run-inside s at h = omega (arith, length-takeWhile digit (drop at s), length-drop at s)
 
 -- the digits' value as `number` gives it
 pub literal-large : (w : List ℕ) (at : ℕ) → capped (value w) ≡ Digits.TooLarge → Refused InvalidLiteral ≡ literalRead w at

@@ -8,13 +8,15 @@ use borrow.Author.Tests.{ltb-true, ltb-false}
 use lib.Dec.{ltb}
 use lib.ListN.{length, getD, take, drop, length-drop}
 use lib.Seq.{length-take-le}
+use Rattle.base.specs.Lists.{all, takeWhile}
 use Rattle.base.proofs.Tests.{by-bool, by-leb, by-eqb}
 use Rattle.base.proofs.Parts.{next}
-use Rattle.decimal.specs.Decimal.{digit, digits, allDigits, value, decimal}
+use Rattle.base.proofs.Lists.{all-takeWhile}
+use Rattle.decimal.specs.Decimal.{digit, value, decimal}
 use Rattle.decimal.proofs.Laws.{length-word}
 use Rattle.token.specs.Token.{tokens}
 use Rattle.token.specs.Code.Places.{tokenAt}
-use Rattle.token.proofs.Tokens.{Next, tokenFrom, token-none, token-next, digit-token, digits-all}
+use Rattle.token.proofs.Tokens.{Next, tokenFrom, token-none, token-next, digit-token}
 use Rattle.expression.specs.declared.figures.Read.{Read}
 use Rattle.expression.specs.declared.figures.Value.the-variants.{Is}
 use Rattle.expression.specs.declared.names.Found.{Found}
@@ -120,7 +122,7 @@ module _ {s : List ℕ} {at : ℕ} (c : Columns) {start end : ℕ} (n : Next s a
         let q = length-take-le (end - start) (drop start s) (let r = length-drop start s in omega (arith, n .inside)) in
         omega (arith, n .some)
 
-    literal-token : allDigits (tokenFrom s start) ≡ true → Meets s at c factor d (literalRead (tokenFrom s start) start)
+    literal-token : all digit (tokenFrom s start) ≡ true → Meets s at c factor d (literalRead (tokenFrom s start) start)
     literal-token e =
         let w = tokenFrom s start in
         by-bool (ltb (value w) (2 ^ 64))
@@ -152,11 +154,11 @@ module _ {s : List ℕ} {at : ℕ} (c : Columns) {start end : ℕ} (n : Next s a
           means = λ env g. rw (n .list) (number-refused env d w (tokens (drop end s)) o e (ltb-false (value w) (2 ^ 64) h));
         }))
 
-    pub literal-meets : digit (getD s start 0) ≡ true → Meets s at c factor d (literalRead (digits (drop start s)) start)
+    pub literal-meets : digit (getD s start 0) ≡ true → Meets s at c factor d (literalRead (takeWhile digit (drop start s)) start)
     literal-meets e =
         let x = next s start (start + 1) (omega (arith, n .some, n .inside)) refl in
-        let q : tokenFrom s start ≡ digits (drop start s) = digit-token (getD s start 0) e (drop (start + 1) s) ∙ ap digits (sym x) in
-        subst (λ (w : List ℕ). Meets s at c factor d (literalRead w start)) q (literal-token (ap allDigits q ∙ digits-all (drop start s)))
+        let q : tokenFrom s start ≡ takeWhile digit (drop start s) = digit-token (getD s start 0) e (drop (start + 1) s) ∙ ap (takeWhile digit) (sym x) in
+        subst (λ (w : List ℕ). Meets s at c factor d (literalRead w start)) q (literal-token (ap (all digit) q ∙ all-takeWhile digit (drop start s)))
 
     pub name-meets : digit (getD s start 0) ≡ false → (f : Found) → found (c .count) s (c .names) (c .lens) (c .tags) (take (end - start) (drop start s)) ≡ f → AllFit (nameRead c end f) → Meets s at c factor d (nameRead c end f)
     name-meets e Nothing q a = record {

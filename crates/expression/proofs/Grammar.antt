@@ -12,10 +12,11 @@ use lib.ListN.{length}
 use Rattle.numbered.specs.declared.Numbered.{Numbered}
 use Rattle.numbered.specs.Numbered.{plain}
 use Rattle.base.specs.Outcome.{Outcome, is, refused, andThen}
+use Rattle.base.specs.Lists.{all}
 use Rattle.base.proofs.Tests.{never, by-bool, by-or, between, and-left}
 use Rattle.base.proofs.Outcome.{not-is, is-same, then-is}
 use Rattle.word.specs.Apply.{Binary, add, sub, mul, div}
-use Rattle.decimal.specs.Decimal.{digit, allDigits, value}
+use Rattle.decimal.specs.Decimal.{digit, value}
 use Rattle.token.specs.Token.{allowed, tokens}
 use Rattle.token.specs.Code.Places.{first}
 use Rattle.token.specs.Tokens.{IsToken, Tokens}
@@ -75,9 +76,9 @@ tokens-some (Tokens.parted e h) = tokens-some h
 tokens-some (Tokens.token t l h) = (token-some t, tokens-some h)
 
 -- a literal is no parenthesis
-pub digits-no-parenthesis : (w : List ℕ) → allDigits w ≡ true → lone w ≡ 40 → ⊥
+pub digits-no-parenthesis : (w : List ℕ) → all digit w ≡ true → lone w ≡ 40 → ⊥
 digits-no-parenthesis [] e o = omega arith
-digits-no-parenthesis (a ∷ []) e o = let b = between 48 57 a (and-left (digit a) (allDigits []) e) in omega arith
+digits-no-parenthesis (a ∷ []) e o = let b = between 48 57 a (and-left (digit a) (all digit []) e) in omega arith
 digits-no-parenthesis (a ∷ b ∷ w) e o = omega arith
 
 module _ (env : Env) where
@@ -90,7 +91,7 @@ module _ (env : Env) where
   -- a factor of one token
   atom-derives : (d : ℕ) (w : List ℕ) (t : Tree) → 0 < length w → (lone w ≡ 40 → ⊥) → atom env w ≡ is t → Derives env factor d (w ∷ []) t
   atom-derives d w t b o e =
-      by-bool (allDigits w)
+      by-bool (all digit w)
       (λ a. by-bool (ltb (value w) (2 ^ 64))
       (λ h. same (num (value w)) (simp (a, h) at e) (number b a (ltb-true (value w) (2 ^ 64) h)))
       (λ h. not-tree 16 t (simp (a, h) at e)))
@@ -99,7 +100,7 @@ module _ (env : Env) where
       same : (u : Tree) → _≡_ {A = Outcome Numbered Tree} (is u) (is t) → Derives env factor d (w ∷ []) u → Derives env factor d (w ∷ []) t
       same u p h = subst (Derives env factor d (w ∷ [])) (is-same p) h
 
-      found : allDigits w ≡ false → (o : Option Tree) → lookup w env ≡ o → named (lookup w env) ≡ is t → Derives env factor d (w ∷ []) t
+      found : all digit w ≡ false → (o : Option Tree) → lookup w env ≡ o → named (lookup w env) ≡ is t → Derives env factor d (w ∷ []) t
       found a none q p = not-tree 17 t (rw q at p)
       found a (some u) q p = same u (rw q at p) (name (λ x. o (ap lone x)) a q)
 

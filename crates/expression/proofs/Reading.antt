@@ -18,7 +18,7 @@ use Rattle.expression.specs.declared.Parsed.{Parsed}
 use Rattle.expression.specs.declared.Parsed.the-variants.{Done, Refused}
 use Rattle.expression.specs.Tree.{Tree, bin}
 use Rattle.expression.specs.Code.Lengths.{lineOf}
-use Rattle.expression.specs.Parse.{Env, lone, joins, operator, expression}
+use Rattle.expression.specs.Parse.{Env, lone, joins, operator}
 use Rattle.expression.specs.Code.Figures.{Figures, Small, Joined}
 use Rattle.expression.specs.Code.Table.{Columns, Holds}
 use Rattle.expression.specs.Code.Parts.{signAt}

@@ -9,10 +9,11 @@ use borrow.Author.Tests.{lt-ltb, le-ltb, eqb-true, eq-eqb, ne-eqb}
 use lib.Dec.{eqb}
 use lib.ListN.{length}
 use Rattle.base.specs.Outcome.{is, refused, andThen}
+use Rattle.base.specs.Lists.{all}
 use Rattle.base.proofs.Tests.{never, by-or}
 use Rattle.numbered.specs.declared.Numbered.{Numbered}
 use Rattle.numbered.specs.Numbered.{plain}
-use Rattle.decimal.specs.Decimal.{allDigits, value}
+use Rattle.decimal.specs.Decimal.{value, digit}
 use Rattle.token.specs.Code.Places.{first}
 use Rattle.expression.specs.Tree.{Tree, num, bin}
 use Rattle.expression.specs.Parse.{Env, lookup, Parse, lone, joins, operator, joined, closed, nested, atom, parseF, moreF, enough, factor, expression}
@@ -144,14 +145,14 @@ module _ (env : Env) (d : ℕ) (w : List ℕ) (us : List (List ℕ)) (o : lone w
   one zero h = absurd (omega arith)
   one (suc f) h = factor-atom f env w us d o
 
-  pub number-read : allDigits w ≡ true → value w < 2 ^ 64 → Reads env factor d (w ∷ us) (num (value w)) us
+  pub number-read : all digit w ≡ true → value w < 2 ^ 64 → Reads env factor d (w ∷ us) (num (value w)) us
   number-read e h = record { fewer = omega arith; same = λ f g. one f g ∙ simp (e, lt-ltb (value w) (2 ^ 64) h) }
 
-  pub number-refused : allDigits w ≡ true → 2 ^ 64 ≤ value w → Refuses env factor d (w ∷ us) (plain 16)
+  pub number-refused : all digit w ≡ true → 2 ^ 64 ≤ value w → Refuses env factor d (w ∷ us) (plain 16)
   number-refused e h = record { same = λ f g. one f g ∙ simp (e, le-ltb (value w) (2 ^ 64) h) }
 
-  pub name-read : allDigits w ≡ false → {t : Tree} → lookup w env ≡ some t → Reads env factor d (w ∷ us) t us
+  pub name-read : all digit w ≡ false → {t : Tree} → lookup w env ≡ some t → Reads env factor d (w ∷ us) t us
   name-read e h = record { fewer = omega arith; same = λ f g. one f g ∙ simp (e, h) }
 
-  pub name-refused : allDigits w ≡ false → lookup w env ≡ none → Refuses env factor d (w ∷ us) (plain 17)
+  pub name-refused : all digit w ≡ false → lookup w env ≡ none → Refuses env factor d (w ∷ us) (plain 17)
   name-refused e h = record { same = λ f g. one f g ∙ simp (e, h) }

@@ -10,7 +10,7 @@ use lib.Dec.{eqb, ltb}
 use lib.ListN.{length, getD, take, drop, length-drop}
 use lib.Seq.{length-take-le, getD-take, getD-drop}
 use Rattle.base.specs.Equal.{equal}
-use Rattle.base.proofs.Tests.{never, and-left, and-right, by-bool, by-cond}
+use Rattle.base.proofs.Tests.{never, and-left, and-right, by-bool, by-cond, or-left, or-right}
 use Rattle.expression.specs.Code.Table.{mix, tagOf, called, found, hasTag, isFree}
 
 same-is : (v w : List ℕ) → equal v w ≡ true → v ≡ w
@@ -63,14 +63,6 @@ free-few tags left tag h = sym (simp (lt-ltb left 16 h))
 
 pub free-block : (tags : List ℕ) (left tag : ℕ) {r : Bool} → 16 ≤ left → r ≡ hasTag tags (left - 16) 16 tag → not r ≡ isFree tags left tag
 free-block tags left tag h e = ap not e ∙ sym (simp (le-ltb left 16 h))
-
-or-left : (p q : Bool) → (p || q) ≡ false → p ≡ false
-or-left true q e = e
-or-left false q e = refl
-
-or-right : (p q : Bool) → (p || q) ≡ false → q ≡ false
-or-right true q e = never (sym e)
-or-right false q e = e
 
 module _ (s names lens tags w : List ℕ) where
   passed : (from n : ℕ) → hasTag tags from n (tagOf w) ≡ false → found (from + n) s names lens tags w ≡ found from s names lens tags w

@@ -9,7 +9,8 @@ use Rattle.numbered.specs.Numbered.{plain}
 use Rattle.numbered.specs.declared.Numbered.{Numbered}
 use Rattle.base.specs.Outcome.{Outcome, is, refused, andThen}
 use Rattle.word.specs.Apply.{Binary, add, sub, mul, div}
-use Rattle.decimal.specs.Decimal.{allDigits, value}
+use Rattle.base.specs.Lists.{all}
+use Rattle.decimal.specs.Decimal.{digit, value}
 use Rattle.token.specs.Token.{allowed, tokens}
 use Rattle.expression.specs.Tree.{Tree, num, bin}
 pub use Rattle.expression.specs.Environment.{Binding, Env, lookup}
@@ -58,7 +59,7 @@ literal w = cond (ltb (value w) (2 ^ 64)) (is (num (value w))) (refused (plain 1
 
 -- a factor of one token
 abbrev pub atom : Env → List ℕ → Outcome Numbered Tree
-atom env w = cond (allDigits w) (literal w) (named (lookup w env))
+atom env w = cond (all digit w) (literal w) (named (lookup w env))
 
 -- Fuel, level, environment, how many parentheses more may be open, tokens. A fuel of 8 for each token and one more than the level is enough.
 unfoldable mutual

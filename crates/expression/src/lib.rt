@@ -5,7 +5,7 @@ ghost use lib.ListN.{length};
 ghost use Rattle.expression.specs.Parse.{factor, term, expression};
 ghost use Rattle.expression.specs.Answer.{exprErrorNumbered};
 ghost use Rattle.expression.specs.Code.Answers.{Answers};
-ghost use Rattle.expression.specs.Code.Table.{columnsOf, columns, few};
+ghost use Rattle.expression.specs.Code.Table.{columnsOf, columns};
 ghost use Rattle.expression.specs.Code.Cycle.{Ready, Meets};
 
 pub mod figures;
@@ -14,6 +14,7 @@ pub mod names;
 mod operands;
 pub mod parts;
 
+use base::min;
 use figures::Read;
 use joining::join;
 use numbered::Numbered;
@@ -93,7 +94,7 @@ pub fn parse(text: &[u8], at: usize, table: Bindings, values: Values) -> Parsed
     if !is_all_tokens(text, at) {
         return Parsed::Refused(ExprError::InvalidCharacter);
     }
-    let count = at_most_256(table.count);
+    let count = min(table.count, 256);
     match expression(
         text,
         at,
@@ -111,12 +112,6 @@ pub fn parse(text: &[u8], at: usize, table: Bindings, values: Values) -> Parsed
         Parsed::Refused(e) => Parsed::Refused(e),
         Parsed::Done(read) => whole(text, read),
     }
-}
-
-fn at_most_256(n: usize) -> usize
-    ensures { λ r. ⌜ r ≡ few n ⌝ }
-{
-    if n < 256 { n } else { 256 }
 }
 
 // Terms joined by + and -. Room is how many parentheses more may be open.

@@ -7,6 +7,7 @@ ghost use lib.ListN.{length, take, drop};
 ghost use Rattle.base.specs.Equal.{equal};
 ghost use Rattle.expression.specs.Code.Table.{tagOf, mix, called, found, hasTag, isFree};
 use base::either;
+use base::wide;
 
 pub enum Found {
     At(usize),
@@ -136,10 +137,4 @@ fn is_same(text: &[u8], a: usize, b: usize, len: usize) -> bool
         i += 1;
     }
     true
-}
-
-pub fn wide(x: u16) -> usize
-    ensures { λ r. ⌜ (r ≡ x) × (r < 65536) ⌝ }
-{
-    x as usize
 }

@@ -3,7 +3,8 @@ ghost use mathlib.Core.Path.{_≡_};
 ghost use mathlib.Core.List.{[]};
 ghost use Prim.Native.Nat.{_-_, _^_, _≤_, _<_};
 ghost use lib.ListN.{length, take, drop};
-ghost use Rattle.decimal.specs.Decimal.{digits};
+ghost use Rattle.base.specs.Lists.{takeWhile};
+ghost use Rattle.decimal.specs.Decimal.{digit};
 ghost use Rattle.token.specs.Token.{tokens};
 ghost use Rattle.token.specs.Code.Places.{tokenAt};
 ghost use Rattle.expression.specs.Code.Table.{columnsOf, entryAt, found};
@@ -22,7 +23,7 @@ use token::token_at;
 // The literal whose first digit stands at a place that its caller has read.
 pub fn literal(text: &[u8], start: usize) -> Parsed
     requires { ⌜ start < length (now text) ⌝ }
-    ensures { λ r. ⌜ r ≡ literalRead (digits (drop start (now (text .entry)))) start ⌝ }
+    ensures { λ r. ⌜ r ≡ literalRead (takeWhile digit (drop start (now (text .entry)))) start ⌝ }
 {
     let run = digits_at(text, start);
     let value = run.value;

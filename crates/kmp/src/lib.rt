@@ -4,6 +4,7 @@ ghost use Prim.Native.Nat.{_+_, _<_, _≤_};
 ghost use lib.ListN.{length};
 ghost use Rattle.search.specs.First.{firstAt};
 ghost use Rattle.kmp.specs.Code.Shift.{Table};
+use base::wide;
 use search::Found;
 
 // A longer pattern has no table.
@@ -72,10 +73,4 @@ fn walk(s: &[u8], p: &[u8], shifts: &[u16; 65536], at: usize) -> Found
         }
     }
     Found::Nothing
-}
-
-fn wide(x: u16) -> usize
-    ensures { λ r. ⌜ r ≡ x ⌝ }
-{
-    x as usize
 }

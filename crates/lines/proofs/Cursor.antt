@@ -2,7 +2,7 @@
 use Prim.Native.Nat.{ℕ, zero, suc, _+_, _-_, _<_, _≤_}
 use mathlib.Core.Path.{_≡_, refl, sym, ap, _∙_}
 use mathlib.Core.List.{List, [], _∷_, _++_}
-use mathlib.Core.Bool.{Bool, true, false, cond, _&&_}
+use mathlib.Core.Bool.{Bool, true, false, cond, _&&_, and-false}
 use borrow.Author.Tests.{eq-eqb, ne-eqb, lt-ltb, le-ltb}
 use native.Mathlib.Omega.{arith}
 use lib.Dec.{eqb, ltb}
@@ -21,7 +21,7 @@ use Rattle.lines.specs.Code.Visits.{feedFrom, placeOr, headOf, visitOfLi
 use Rattle.lines.specs.declared.Line.{Line}
 use Rattle.lines.specs.declared.Step.{Step}
 use Rattle.lines.specs.declared.Step.the-variants.{Next, Done}
-use Rattle.lines.proofs.Laws.{lines-other, no-return, no-feed, and-false, by-start}
+use Rattle.lines.proofs.Laws.{lines-other, no-return, no-feed, by-start}
 use Rattle.lines.proofs.Written.{free-cons}
 
 -- how many bytes stand before the first line feed: all of them where there is none
@@ -93,7 +93,7 @@ feed-some (a ∷ s) h =
     (λ g. let y = feed-other a s g in let z = span-other a s g in let w = feed-some s (omega arith) in omega arith)
 
 no-feed-next : (a : ℕ) (s : List ℕ) → feedAt s ≡ length s → (eqb a 13 && feedNext s) ≡ false
-no-feed-next a [] h = and-false (eqb a 13) false refl
+no-feed-next a [] h = and-false (eqb a 13)
 no-feed-next a (b ∷ s) h = no-feed a b s (λ e. let z : feedAt (b ∷ s) ≡ 0 = rw e refl in omega arith)
 
 -- a text with no line feed is one line

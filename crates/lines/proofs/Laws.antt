@@ -2,7 +2,7 @@
 use Prim.Native.Nat.{ℕ}
 use mathlib.Core.Path.{_≡_, refl, ap}
 use mathlib.Core.List.{List, [], _∷_}
-use mathlib.Core.Bool.{Bool, true, false, cond, _&&_}
+use mathlib.Core.Bool.{Bool, true, false, cond, _&&_, and-false}
 use borrow.Author.Tests.{ne-eqb, eqb-true}
 use lib.Dec.{eqb}
 use Rattle.base.proofs.Tests.{by-eqb, by-bool, never}
@@ -26,20 +26,16 @@ feed-is : (s : List ℕ) → feedNext s ≡ true → (t : List ℕ) × (s ≡ 10
 feed-is [] e = never e
 feed-is (a ∷ s) e = (s, ap (λ (b : ℕ). b ∷ s) (eqb-true a 10 e))
 
-pub and-false : (p q : Bool) → q ≡ false → (p && q) ≡ false
-and-false true q e = e
-and-false false q e = refl
-
 pub no-return : (a : ℕ) (s : List ℕ) → (a ≡ 13 → ⊥) → (eqb a 13 && feedNext s) ≡ false
 no-return a s h = rw (ne-eqb a 13 h)
 
 pub no-feed : (a b : ℕ) (s : List ℕ) → (b ≡ 10 → ⊥) → (eqb a 13 && feedNext (b ∷ s)) ≡ false
-no-feed a b s h = and-false (eqb a 13) (eqb b 10) (ne-eqb b 10 h)
+no-feed a b s h = rw (ne-eqb b 10 h) (and-false (eqb a 13))
 
 -- how a text starts: with a line feed, with a carriage return and a line feed, or with something of its first line
 pub by-start : {P : Type 0} (a : ℕ) (s : List ℕ) → (a ≡ 10 → P) → ((t : List ℕ) → a ≡ 13 → s ≡ 10 ∷ t → P) → ((a ≡ 10 → ⊥) → (eqb a 13 && feedNext s) ≡ false → P) → P
 by-start a s f r o =
     by-eqb a 10 f
     (λ h. by-eqb a 13
-    (λ e. by-bool (feedNext s) (λ n. let t = feed-is s n in r (t .0) e (t .1)) (λ n. o h (and-false (eqb a 13) (feedNext s) n)))
+    (λ e. by-bool (feedNext s) (λ n. let t = feed-is s n in r (t .0) e (t .1)) (λ n. o h (rw n (and-false (eqb a 13)))))
     (λ g. o h (no-return a s g)))

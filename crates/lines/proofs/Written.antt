@@ -4,21 +4,22 @@ use mathlib.Core.Path.{_≡_, refl, sym, ap, _∙_}
 use mathlib.Core.List.{List, [], _∷_, _++_}
 use mathlib.Core.Bool.{true}
 use borrow.Author.Tests.{ne-eqb}
+use Rattle.base.specs.Lists.{isNot}
 use Rattle.base.proofs.Tests.{by-eqb, never}
+use Rattle.base.proofs.Lists.{all-behind}
 use Rattle.lines.specs.Lines.{front, lines, feedFree}
 use Rattle.lines.specs.Code.Returns.{lessReturn}
 use Rattle.lines.proofs.Laws.{lines-other, no-return, no-feed}
 
 pub free-cons : (a : ℕ) (x : List ℕ) → (a ≡ 10 → ⊥) → feedFree (a ∷ x) ≡ feedFree x
-free-cons a x h = rw (ne-eqb a 10 h, feedFree)
+free-cons a x h = simp (ne-eqb a 10 h)
 
 -- what a text without a line feed starts with
 free-first : (a : ℕ) (x : List ℕ) → feedFree (a ∷ x) ≡ true → (a ≡ 10 → ⊥) × (feedFree x ≡ true)
 free-first a x e = by-eqb a 10 (λ h. never (sym (rw h refl) ∙ e)) (λ h. (h, sym (free-cons a x h) ∙ e))
 
 pub free-append : (x y : List ℕ) → feedFree x ≡ true → feedFree (x ++ y) ≡ feedFree y
-free-append [] y e = refl
-free-append (a ∷ x) y e = let f = free-first a x e in free-cons a (x ++ y) (f .0) ∙ free-append x y (f .1)
+free-append x y e = all-behind (isNot 10) x y e
 
 -- the lines of x, a line feed and y
 pub line-then : (x y : List ℕ) → feedFree x ≡ true → lines (x ++ 10 ∷ y) ≡ lessReturn x ∷ lines y
@@ -33,9 +34,3 @@ line-then (a ∷ []) y e =
 line-then (a ∷ b ∷ x) y e =
     let f = free-first a (b ∷ x) e in
     lines-other a (b ∷ x ++ 10 ∷ y) (f .0) (no-feed a b (x ++ 10 ∷ y) (free-first b x (f .1) .0)) ∙ ap (front a) (line-then (b ∷ x) y (f .1))
-
--- a text that ends in no carriage return is left alone
-pub less-none : (x : List ℕ) (a : ℕ) → (a ≡ 13 → ⊥) → lessReturn (x ++ a ∷ []) ≡ x ++ a ∷ []
-less-none [] a h = rw (ne-eqb a 13 h, lessReturn)
-less-none (b ∷ []) a h = ap (λ (l : List ℕ). b ∷ l) (less-none [] a h)
-less-none (b ∷ c ∷ x) a h = ap (λ (l : List ℕ). b ∷ l) (less-none (c ∷ x) a h)

@@ -3,6 +3,7 @@ use Prim.Native.Nat.{ℕ}
 use mathlib.Core.List.{List, [], _∷_}
 use mathlib.Core.Bool.{Bool, true, false, _&&_}
 use lib.Dec.{eqb}
+use Rattle.base.specs.Lists.{isNot, all}
 pub use Rattle.base.specs.Texts.{front}
 
 -- no line has its ending, the last ending is optional, and a carriage return anywhere else is part of its line.
@@ -23,5 +24,4 @@ lines (a ∷ s) = elim (eqb a 10) [
 
 -- no line feed is in it
 abbrev pub feedFree : List ℕ → Bool
-feedFree [] = true
-feedFree (a ∷ s) = elim (eqb a 10) [ true ↦ false | false ↦ feedFree s ]
+feedFree s = all (isNot 10) s

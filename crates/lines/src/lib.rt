@@ -1,7 +1,7 @@
 // The lines of a text, one after the other, by their places.
 use search::Found;
 ghost use mathlib.Core.Path.{_≡_};
-ghost use Prim.Native.Nat.{ℕ, _+_, _<_, _≤_};
+ghost use Prim.Native.Nat.{_+_, _<_, _≤_};
 ghost use lib.ListN.{length, drop};
 ghost use Rattle.lines.specs.Cursor.{lineAt, firstLine};
 ghost use Rattle.lines.specs.Code.Visits.{feedFrom};

@@ -1,5 +1,5 @@
 -- From the passes to the whole text.
-use Prim.Native.Nat.{ℕ, _-_, min}
+use Prim.Native.Nat.{ℕ, min}
 use mathlib.Core.Path.{_≡_, refl, sym, ap, subst, _∙_}
 use mathlib.Core.List.{List, [], _∷_}
 use mathlib.Core.Bool.{true, false}

@@ -7,7 +7,9 @@ use borrow.Author.Tests.{ne-eqb}
 use native.Mathlib.Omega.{arith}
 use lib.ListN.{length, getD, drop}
 use Rattle.base.specs.Range.{within}
-use Rattle.base.proofs.Tests.{never, and-left, and-right, and-both, between, inside, above}
+use Rattle.base.specs.Lists.{isNot, all}
+use Rattle.base.proofs.Tests.{never, and-left, and-right, between, inside, above}
+use Rattle.base.proofs.Lists.{all-weaker, all-at}
 use Rattle.utf8.specs.Utf8.{utf8}
 use Rattle.utf8.proofs.Lead.{one-is}
 use Rattle.utf8.proofs.Encoding.{append}
@@ -16,7 +18,7 @@ use Rattle.lines.specs.Code.Returns.{lessReturn}
 use Rattle.lines.proofs.Written.{free-cons, free-append, line-then}
 use Rattle.trim.specs.Trim.{white1, startTrimmed, trimmed}
 use Rattle.trim.proofs.Laws.{trimmed-kept}
-use Rattle.decimal.specs.Decimal.{digit, allDigits}
+use Rattle.decimal.specs.Decimal.{digit}
 use Rattle.decimal.specs.declared.Number.the-variants.{Is}
 use Rattle.kinds.specs.Kinds.{kindOf}
 use Rattle.kinds.proofs.ByKind.{span, _&_, end}
@@ -30,46 +32,31 @@ use Rattle.ops.proofs.Trimmed.{part-read}
 abbrev pub graphic : ℕ → Bool
 graphic a = within 33 126 a
 
-abbrev pub graphics : List ℕ → Bool
-graphics [] = true
-graphics (a ∷ s) = graphic a && graphics s
-
 not-white : (a : ℕ) → graphic a ≡ true → white1 a ≡ false
 not-white a e = let b = between 33 126 a e in simp (above 0x09 0x0D a (omega arith), ne-eqb a 0x20 (λ e. omega arith))
-
--- the last byte
-graphics-last : (a : ℕ) (s : List ℕ) → graphics (a ∷ s) ≡ true → graphic (getD (a ∷ s) (length s) 0) ≡ true
-graphics-last a [] e = and-left (graphic a) true e
-graphics-last a (b ∷ s) e = graphics-last b s (and-right (graphic a) (graphics (b ∷ s)) e)
 
 last-append : (a : ℕ) (s : List ℕ) (b : ℕ) (t : List ℕ) → getD (a ∷ (s ++ (b ∷ t))) (length (s ++ (b ∷ t))) 0 ≡ getD (b ∷ t) (length t) 0
 last-append a [] b t = refl
 last-append a (c ∷ s) b t = last-append c s b t
 
-pub digits-graphic : (s : List ℕ) → allDigits s ≡ true → graphics s ≡ true
-digits-graphic [] e = refl
-digits-graphic (a ∷ s) e =
-    let b = between 48 57 a (and-left (digit a) (allDigits s) e) in
-    and-both (graphic a) (graphics s) (inside 33 126 a (omega arith) (omega arith)) (digits-graphic s (and-right (digit a) (allDigits s) e))
+pub digits-graphic : (s : List ℕ) → all digit s ≡ true → all graphic s ≡ true
+digits-graphic = all-weaker digit graphic (λ a e. let b = between 48 57 a e in inside 33 126 a (omega arith) (omega arith))
 
 -- such a text is UTF-8 on one line
-graphics-utf8 : (s : List ℕ) → graphics s ≡ true → utf8 s ≡ true
-graphics-utf8 [] e = refl
-graphics-utf8 (a ∷ s) e =
-    let b = between 33 126 a (and-left (graphic a) (graphics s) e) in
-    one-is a s (omega arith) ∙ graphics-utf8 s (and-right (graphic a) (graphics s) e)
+graphic-utf8 : (s : List ℕ) → all graphic s ≡ true → utf8 s ≡ true
+graphic-utf8 [] e = refl
+graphic-utf8 (a ∷ s) e =
+    let b = between 33 126 a (and-left (graphic a) (all graphic s) e) in
+    one-is a s (omega arith) ∙ graphic-utf8 s (and-right (graphic a) (all graphic s) e)
 
-graphics-free : (s : List ℕ) → graphics s ≡ true → feedFree s ≡ true
-graphics-free [] e = refl
-graphics-free (a ∷ s) e =
-    let b = between 33 126 a (and-left (graphic a) (graphics s) e) in
-    free-cons a s (λ e. omega arith) ∙ graphics-free s (and-right (graphic a) (graphics s) e)
+graphic-free : (s : List ℕ) → all graphic s ≡ true → feedFree s ≡ true
+graphic-free = all-weaker graphic (isNot 10) (λ a e. let b = between 33 126 a e in simp (ne-eqb a 10 (λ q. omega arith)))
 
 -- what ends so has no carriage return to leave out, and what starts and ends so is trimmed
-return-kept : (s t : List ℕ) → graphics t ≡ true → 0 < length t → lessReturn (s ++ t) ≡ s ++ t
+return-kept : (s t : List ℕ) → all graphic t ≡ true → 0 < length t → lessReturn (s ++ t) ≡ s ++ t
 return-kept [] [] e h = absurd (omega arith)
 return-kept [] (a ∷ []) e h = let b = between 33 126 a (and-left (graphic a) true e) in rw (ne-eqb a 13 (λ e. omega arith), lessReturn)
-return-kept [] (a ∷ b ∷ t) e h = ap (λ (s : List ℕ). a ∷ s) (return-kept [] (b ∷ t) (and-right (graphic a) (graphics (b ∷ t)) e) (omega arith))
+return-kept [] (a ∷ b ∷ t) e h = ap (λ (s : List ℕ). a ∷ s) (return-kept [] (b ∷ t) (and-right (graphic a) (all graphic (b ∷ t)) e) (omega arith))
 return-kept (a ∷ []) [] e h = absurd (omega arith)
 return-kept (a ∷ []) (b ∷ t) e h = ap (λ (s : List ℕ). a ∷ s) (return-kept [] (b ∷ t) e h)
 return-kept (a ∷ b ∷ s) t e h = ap (λ (s : List ℕ). a ∷ s) (return-kept (b ∷ s) t e h)
@@ -88,32 +75,32 @@ pub record Plain (s : List ℕ) : Type 0 where
   pub unreturned : lessReturn s ≡ s
   pub untrimmed : trimmed s ≡ s
 
-module _ (a : ℕ) (w : List ℕ) (e : graphics (a ∷ w) ≡ true) where
+module _ (a : ℕ) (w : List ℕ) (e : all graphic (a ∷ w) ≡ true) where
   plain-word : Plain (a ∷ w)
   plain-word =
       record {
-        valid = graphics-utf8 (a ∷ w) e;
-        free = graphics-free (a ∷ w) e;
+        valid = graphic-utf8 (a ∷ w) e;
+        free = graphic-free (a ∷ w) e;
         unreturned = return-kept [] (a ∷ w) e (omega arith);
-        untrimmed = trim-kept a w (and-left (graphic a) (graphics w) e) (graphics-last a w e);
+        untrimmed = trim-kept a w (and-left (graphic a) (all graphic w) e) (all-at graphic (a ∷ w) (length w) e (omega arith));
       }
 
-  plain-number : (d : List ℕ) → graphics d ≡ true → 0 < length d → Plain ((a ∷ w) ++ (32 ∷ d))
+  plain-number : (d : List ℕ) → all graphic d ≡ true → 0 < length d → Plain ((a ∷ w) ++ (32 ∷ d))
   plain-number [] f h = absurd (omega arith)
   plain-number (b ∷ d) f h =
       record {
-        valid = append (a ∷ w) (32 ∷ b ∷ d) (graphics-utf8 (a ∷ w) e) ∙ one-is 32 (b ∷ d) (omega arith) ∙ graphics-utf8 (b ∷ d) f;
-        free = free-append (a ∷ w) (32 ∷ b ∷ d) (graphics-free (a ∷ w) e) ∙ free-cons 32 (b ∷ d) (λ e. omega arith) ∙ graphics-free (b ∷ d) f;
+        valid = append (a ∷ w) (32 ∷ b ∷ d) (graphic-utf8 (a ∷ w) e) ∙ one-is 32 (b ∷ d) (omega arith) ∙ graphic-utf8 (b ∷ d) f;
+        free = free-append (a ∷ w) (32 ∷ b ∷ d) (graphic-free (a ∷ w) e) ∙ free-cons 32 (b ∷ d) (λ e. omega arith) ∙ graphic-free (b ∷ d) f;
         unreturned = ap lessReturn (sym (append-assoc (a ∷ w) (32 ∷ []) (b ∷ d))) ∙ return-kept ((a ∷ w) ++ (32 ∷ [])) (b ∷ d) f h ∙ append-assoc (a ∷ w) (32 ∷ []) (b ∷ d);
-        untrimmed = trim-kept a (w ++ (32 ∷ b ∷ d)) (and-left (graphic a) (graphics w) e)
-            (ap graphic (last-append a w 32 (b ∷ d)) ∙ graphics-last b d f);
+        untrimmed = trim-kept a (w ++ (32 ∷ b ∷ d)) (and-left (graphic a) (all graphic w) e)
+            (ap graphic (last-append a w 32 (b ∷ d)) ∙ all-at graphic (b ∷ d) (length d) f (omega arith));
       }
 
 -- a kind's word, and whatever follows it, is read as that kind; it starts with a letter
 abbrev Told : ℕ → Type 0
 Told k =
     (d : List ℕ)
-    → (parted (lineWith k d) ≡ partOf k (kindOf k)) × ((within 65 90 (getD (kindOf k .word) 0 0) && graphics (kindOf k .word)) ≡ true)
+    → (parted (lineWith k d) ≡ partOf k (kindOf k)) × ((within 65 90 (getD (kindOf k .word) 0 0) && all graphic (kindOf k .word)) ≡ true)
 
 told : (k : ℕ) → k < 16 → Told k
 told k h =
@@ -133,28 +120,28 @@ pub record Reads (rule : Rule) (k : ℕ) (d : List ℕ) (v : ℕ) : Type 0 where
   pub letter : within 65 90 (getD (lineWith k d) 0 0) ≡ true
   pub is : (line start : ℕ) (l : List ℕ) → trimmed l ≡ lineWith k d → lineOf rule line start l ≡ Op k (cond (follows (kindOf k .operand)) v 0)
 
-module _ (rule : Rule) (k : ℕ) (d : List ℕ) (v : ℕ) (g : graphics d ≡ true) (h : 0 < length d) (e : rule (kindOf k .operand) d ≡ Is v) where
+module _ (rule : Rule) (k : ℕ) (d : List ℕ) (v : ℕ) (g : all graphic d ≡ true) (h : 0 < length d) (e : rule (kindOf k .operand) d ≡ Is v) where
   record Line (l : List ℕ) : Type 0 where
     plain : Plain l
     letter : within 65 90 (getD l 0 0) ≡ true
     said : skipped l ≡ false
 
-  line-plain : (w : List ℕ) (b : Bool) → (within 65 90 (getD w 0 0) && graphics w) ≡ true → Line (w ++ cond b (32 ∷ d) [])
+  line-plain : (w : List ℕ) (b : Bool) → (within 65 90 (getD w 0 0) && all graphic w) ≡ true → Line (w ++ cond b (32 ∷ d) [])
   line-plain [] b e = never e
   line-plain (a ∷ w) b e =
-      let f = and-right (within 65 90 a) (graphics (a ∷ w)) e in
-      let i = and-left (within 65 90 a) (graphics (a ∷ w)) e in
+      let f = and-right (within 65 90 a) (all graphic (a ∷ w)) e in
+      let i = and-left (within 65 90 a) (all graphic (a ∷ w)) e in
       let h = between 65 90 a i in
       record { plain = line b f; letter = i; said = ne-eqb a 35 (λ e. omega arith) }
     where
-      line : (b : Bool) → graphics (a ∷ w) ≡ true → Plain ((a ∷ w) ++ cond b (32 ∷ d) [])
+      line : (b : Bool) → all graphic (a ∷ w) ≡ true → Plain ((a ∷ w) ++ cond b (32 ∷ d) [])
       line true f = plain-number a w f d g h
       line false f = subst Plain (sym (append-nil (a ∷ w))) (plain-word a w f)
 
   digits-kept : trimmed d ≡ d
   digits-kept = go d g h
     where
-      go : (d : List ℕ) → graphics d ≡ true → 0 < length d → trimmed d ≡ d
+      go : (d : List ℕ) → all graphic d ≡ true → 0 < length d → trimmed d ≡ d
       go [] e h = absurd (omega arith)
       go (a ∷ d) e h = plain-word a d e .untrimmed
 

@@ -6,14 +6,15 @@ use mathlib.Core.Bool.{Bool, true, false, cond, _&&_}
 use native.Mathlib.Omega.{arith}
 use lib.ListN.{length, drop, length-append, length-drop}
 use lib.Seq.{drop-drop}
-use Rattle.base.proofs.Tests.{by-bool, and-left, between}
+use Rattle.base.specs.Lists.{all, takeWhile}
+use Rattle.base.proofs.Tests.{and-left, between}
+use Rattle.base.proofs.Lists.{takeWhile-all, all-takeWhile, length-takeWhile, takeWhile-drop}
 use Rattle.search.specs.First.{prefixOf}
 use Rattle.search.proofs.Prefix.{split}
-use Rattle.decimal.specs.Decimal.{digit, digits, allDigits, value, numberOf}
+use Rattle.decimal.specs.Decimal.{digit, value, numberOf}
 use Rattle.decimal.specs.Code.Digits.{capped}
 use Rattle.decimal.specs.declared.Value.the-variants as Value
 use Rattle.decimal.specs.declared.Number.the-variants as Number
-use Rattle.decimal.proofs.Runs.{digits-own, digits-short}
 use Rattle.decimal.proofs.FromStr.{asNumber, not-signed, read-all}
 use Rattle.kinds.specs.Kinds.{kindOf}
 use Rattle.ops.specs.Kinds.{follows, lineWith}
@@ -46,28 +47,19 @@ module _ (text : List ℕ) (at : ℕ) where
         place = p ∙ ap (λ (s : List ℕ). at + length s) (sym l);
       }
 
--- the digits that a text starts with
-digits-split : (s : List ℕ) → s ≡ digits s ++ drop (length (digits s)) s
-digits-split [] = refl
-digits-split (a ∷ s) = by-bool (digit a) (λ e. simp e (ap (λ (t : List ℕ). a ∷ t) (digits-split s))) (λ e. simp e)
-
-digits-all : (s : List ℕ) → allDigits (digits s) ≡ true
-digits-all [] = refl
-digits-all (a ∷ s) = by-bool (digit a) (λ e. simp e (digits-all s)) (λ e. simp e)
-
-number-of : (d : List ℕ) (v : ℕ) → allDigits d ≡ true → 0 < length d → capped (value d) ≡ Value.Is v → numberOf d ≡ Number.Is v
+number-of : (d : List ℕ) (v : ℕ) → all digit d ≡ true → 0 < length d → capped (value d) ≡ Value.Is v → numberOf d ≡ Number.Is v
 number-of [] v e h p = absurd (omega arith)
 number-of (a ∷ d) v e h p =
-    let b = between 48 57 a (and-left (digit a) (allDigits d) e) in
-    let o = digits-own (a ∷ d) e in
+    let b = between 48 57 a (and-left (digit a) (all digit d) e) in
+    let o = takeWhile-all digit (a ∷ d) e in
     read-all (a ∷ d) 0 (not-signed (a ∷ d) (λ q. omega arith)) (λ q. omega (arith, ap length o)) (omega (arith, ap length o))
     ∙ ap asNumber (ap (λ (s : List ℕ). capped (value s)) o ∙ p)
 
 abbrev run : List ℕ → ℕ → List ℕ
-run text at = digits (drop at text)
+run text at = takeWhile digit (drop at text)
 
-pub run-within : (text : List ℕ) (at : ℕ) → 0 < length (digits (drop at text)) → at + length (digits (drop at text)) ≤ length text
-run-within text at p = let h = digits-short (drop at text) in omega (arith, length-drop at text)
+pub run-within : (text : List ℕ) (at : ℕ) → 0 < length (run text at) → at + length (run text at) ≤ length text
+run-within text at p = let h = length-takeWhile digit (drop at text) in omega (arith, length-drop at text)
 
 -- a word, a space and digits
 pub operand-read : (text : List ℕ) (at k digits : ℕ) → WordAt text at k digits → (v end : ℕ) → 0 < length (run text digits) → capped (value (run text digits)) ≡ Value.Is v
@@ -79,7 +71,7 @@ operand-read text at k digits p v end h q m =
     let g : drop at text ≡ (w ++ 32 ∷ []) ++ drop digits text =
     behind (w ++ 32 ∷ []) text at digits (p .stands) (p .place ∙ ap (λ (i : ℕ). at + i) (sym c)) in
     let u : drop digits text ≡ d ++ drop end text =
-    digits-split (drop digits text)
+    takeWhile-drop digit (drop digits text)
     ∙ ap (λ (s : List ℕ). d ++ s) (drop-drop (length d) digits text ∙ ap (λ (i : ℕ). drop i text) (sym m)) in
     let l : lineWith k d ≡ w ++ (32 ∷ d) = ap (λ (b : Bool). w ++ cond b (32 ∷ d) []) (p .followed) in
     let s = p .place in
@@ -87,9 +79,9 @@ operand-read text at k digits p v end h q m =
       digits = d;
       number = v;
       below = p .below;
-      all = digits-all (drop digits text);
+      all = all-takeWhile digit (drop digits text);
       some = h;
-      is = number-of d v (digits-all (drop digits text)) h q;
+      is = number-of d v (all-takeWhile digit (drop digits text)) h q;
       operand = sym (ap (λ (b : Bool). cond b v 0) (p .followed));
       stands = g ∙ ap (λ (s : List ℕ). (w ++ 32 ∷ []) ++ s) u ∙ append-assoc w (32 ∷ []) (d ++ drop end text)
           ∙ sym (append-assoc w (32 ∷ d) (drop end text)) ∙ ap (λ (s : List ℕ). s ++ drop end text) (sym l);

@@ -7,7 +7,7 @@ use borrow.Author.Tests.{ne-eqb}
 use native.Mathlib.Omega.{arith}
 use native.Mathlib.Decide.{decLt}
 use lib.Dec.{eqb}
-use lib.ListN.{length, getD, take, drop, length-take, length-drop}
+use lib.ListN.{length, getD, drop}
 use Rattle.trim.specs.Trim.{startTrimmed, endTrimmed, trimmed}
 use Rattle.trim.proofs.Laws.{startTrimmed-length, endTrimmed-length}
 use Rattle.decimal.specs.Decimal.{numberOf}
@@ -31,9 +31,6 @@ skips-empty (a ∷ t) h = absurd (omega arith)
 pub skips-first : (t : List ℕ) → (length t ≡ 0 → ⊥) → skipped t ≡ eqb (getD t 0 0) 35
 skips-first [] h = absurd (h refl)
 skips-first (a ∷ t) h = refl
-
-pub raw-length : (s : List ℕ) (start end : ℕ) → start ≤ end → end ≤ length s → length (take (end - start) (drop start s)) ≡ end - start
-raw-length s start end h k = simp (length-take, length-drop) (omega arith)
 
 -- a text, without the White_Space at its start, and then without that at its end
 module _ (s first t : List ℕ) (p : first ≡ startTrimmed s) (q : t ≡ endTrimmed first) where

@@ -1,5 +1,5 @@
 -- Reading what is written gives it again.
-use Prim.Native.Nat.{ℕ, zero, suc, _+_, _-_, _<_, _≤_}
+use Prim.Native.Nat.{ℕ, zero, suc, _+_, _<_, _≤_}
 use mathlib.Core.Path.{_≡_, refl, sym, ap, _∙_}
 use mathlib.Core.List.{List, [], _∷_, _++_, map, append-assoc}
 use mathlib.Core.Bool.{Bool, true, false, cond}
@@ -13,11 +13,11 @@ use Rattle.lines.specs.Lines.{lines, feedFree}
 use Rattle.lines.proofs.Written.{free-cons, line-then}
 use Rattle.trim.proofs.Blanks as Blank
 use Rattle.decimal.specs.Decimal.{decimal}
-use Rattle.decimal.proofs.Laws.{allDigits-decimal, length-positive, round-trip}
+use Rattle.decimal.proofs.Laws.{decimal-digits, length-positive, round-trip}
 use Rattle.kinds.specs.Kinds.{kindOf, Operation, operation}
 use Rattle.ops.specs.Kinds.{follows}
 use Rattle.ops.specs.Line.{Rule, fromStr, ReadsDigits, lineOf}
-use Rattle.ops.specs.Ops.{Reading, startOf, thenRead, readLines, notEmpty, readBy, readText}
+use Rattle.ops.specs.Ops.{startOf, thenRead, readLines, notEmpty, readBy, readText}
 use Rattle.ops.specs.Written.{shown, written, writtenAll, remark, remarks, cleared, IsOperation, IsRemark, Each, none, one}
 use Rattle.ops.specs.declared.line.LineRead.the-variants.{Op}
 use Rattle.ops.specs.declared.OpsError.the-variants.{NotUtf8}
@@ -29,7 +29,7 @@ module _ (rule : Rule) (plain : ReadsDigits rule) where
   shown-reads : (o : Operation) → IsOperation o → Reads rule (o .kind) (decimal (o .operand)) (o .operand)
   shown-reads o p =
       let v = o .operand in
-      let d = allDigits-decimal v in
+      let d = decimal-digits v in
       reads rule (o .kind) (decimal v) v (digits-graphic (decimal v) d) (length-positive v)
       (plain (kindOf (o .kind) .operand) (decimal v) d ∙ round-trip v (p .operand)) (p .kind)
 

@@ -8,12 +8,13 @@ use native.Mathlib.Omega.{arith}
 use lib.Dec.{ltb}
 use lib.ListN.{length}
 use Rattle.base.specs.Outcome.{is, refused, andThen}
+use Rattle.base.specs.Lists.{all}
 use Rattle.base.proofs.Tests.{by-bool, never}
 use Rattle.base.proofs.Outcome.{not-is, is-same, then-is}
 use Rattle.utf8.specs.Utf8.{utf8}
 use Rattle.lines.specs.Lines.{lines}
 use Rattle.trim.specs.Trim.{startTrimmed, trimmed}
-use Rattle.decimal.specs.Decimal.{allDigits, value, withoutPlus}
+use Rattle.decimal.specs.Decimal.{digit, value, withoutPlus}
 use Rattle.decimal.specs.declared.Number.{Number}
 use Rattle.decimal.specs.declared.Number.the-variants.{Is, Invalid}
 use Rattle.kinds.specs.Kinds.{kindOf, Operation, operation}
@@ -33,7 +34,7 @@ use Rattle.ops.proofs.Written.{reads-written-by, cleared-same}
 
 -- the numbers of `u64::from_str` fit 64 bits
 pub from-str-words : ReadsWords fromStr
-from-str-words operand t v e = go (ltb 0 (length s)) (allDigits s) e
+from-str-words operand t v e = go (ltb 0 (length s)) (all digit s) e
   where
     s : List ℕ
     s = withoutPlus t

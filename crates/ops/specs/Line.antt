@@ -6,7 +6,8 @@ use mathlib.Core.Bool.{Bool, true, cond}
 use lib.Dec.{eqb}
 use lib.ListN.{length, drop}
 use Rattle.trim.specs.Trim.{trimmed, passed}
-use Rattle.decimal.specs.Decimal.{allDigits, numberOf}
+use Rattle.base.specs.Lists.{all}
+use Rattle.decimal.specs.Decimal.{digit, numberOf}
 use Rattle.decimal.specs.declared.Number.{Number}
 use Rattle.decimal.specs.declared.Number.the-variants.{Is, Invalid}
 use Rattle.kinds.specs.Kinds.{Operand, none, value, slot, target, kindOf}
@@ -30,7 +31,7 @@ fromStr operand t = numberOf t
 
 -- a rule that reads digits as that one does
 abbrev pub ReadsDigits : Rule → Type 0
-ReadsDigits rule = (operand : Operand) (d : List ℕ) → allDigits d ≡ true → rule operand d ≡ numberOf d
+ReadsDigits rule = (operand : Operand) (d : List ℕ) → all digit d ≡ true → rule operand d ≡ numberOf d
 
 -- a rule whose numbers fit 64 bits
 abbrev pub ReadsWords : Rule → Type 0

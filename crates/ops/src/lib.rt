@@ -4,6 +4,7 @@ mod line;
 mod plain;
 mod word;
 
+use base::min;
 use line::LineRead;
 use line::line_read_at;
 use lines::Step;
@@ -13,7 +14,6 @@ use numbered::carrying_three;
 use numbered::plain;
 ghost use mathlib.Core.Path.{_≡_};
 ghost use mathlib.Core.Bool.{true};
-ghost use Prim.Native.Nat.{min};
 ghost use Rattle.base.specs.Part.{Part};
 ghost use Rattle.ops.specs.Line.{fromStr};
 ghost use Rattle.ops.specs.Numbers.{opsErrorNumbered, parsedOpsNumbered};
@@ -145,18 +145,12 @@ pub fn nth_line(text: &[u8], line: usize) -> Step
     lines::line_at(text, at)
 }
 
-fn smaller(a: usize, b: usize) -> usize
-    ensures { λ r. ⌜ r ≡ min a b ⌝ }
-{
-    if a <= b { a } else { b }
-}
-
 // One pass over a text that is UTF-8. It gives the answer, and writes the operations only where it is told to.
 fn pass(text: &[u8], kinds: &mut [u8], operands: &mut [u64], writing: bool) -> ParsedOps
     requires { ⌜ (writing ≡ true → Good fromStr (now text) (now kinds) (now operands)) ⌝ }
     ensures { λ r. ⌜ Passed fromStr (now (text .entry)) (now (kinds .entry)) (now (operands .entry)) (now (kinds .exit)) (now (operands .exit)) writing r ⌝ }
 {
-    let room = smaller(kinds.len(), operands.len());
+    let room = min(kinds.len(), operands.len());
     let mut at: usize = 0;
     let mut line: usize = 0;
     let mut n: usize = 0;

@@ -2,7 +2,7 @@
 use Prim.Native.Nat.{ℕ, suc, _+_, _-_, _<_, _≤_}
 use mathlib.Core.Path.{_≡_, refl, sym, ap, subst, _∙_}
 use mathlib.Core.List.{List, [], _∷_, _++_, append-nil, append-assoc}
-use mathlib.Core.Bool.{Bool, true, false, cond, _&&_, _||_}
+use mathlib.Core.Bool.{true, false, cond, _&&_, or-true}
 use borrow.Author.Tests.{eq-eqb, ne-eqb}
 use native.Mathlib.Omega.{arith}
 use lib.Dec.{eqb}
@@ -27,10 +27,6 @@ none-front b a s n h = rw (ne-eqb a b n, h)
 has-middle : (b : ℕ) (t q : List ℕ) → has b (t ++ b ∷ q) ≡ true
 has-middle b [] q = rw (eq-eqb b b refl)
 has-middle b (a ∷ t) q = rw (has-middle b t q) (or-true (eqb a b))
-  where
-    or-true : (p : Bool) → (p || true) ≡ true
-    or-true true = refl
-    or-true false = refl
 
 -- parts
 module _ (p : List ℕ) (a : ℕ) (s : List ℕ) where

@@ -1,20 +1,21 @@
 -- What a run leaves, from what its parts leave.
-use Prim.Native.Nat.{ℕ, zero, suc, _+_, _-_, _≤_}
+use Prim.Native.Nat.{ℕ, _+_, _-_, _≤_}
 use native.Mathlib.Omega.{arith}
 use native.Mathlib.Nat.{sub-zero}
 use mathlib.Core.Path.{_≡_, refl, sym, ap, _∙_}
 use mathlib.Core.Bool.{_&&_}
-use mathlib.Core.List.{List, _++_, reverse, reverse-cons}
-use lib.ListN.{length, getD, take, replicate}
-use lib.Seq.{take-suc, length-take-le}
+use mathlib.Core.List.{List, _++_}
+use lib.ListN.{length, take, replicate}
+use lib.Seq.{length-take-le}
 use lib.Dec.{leb, ltb}
+use Rattle.base.specs.Code.Stack.{stackOf}
+use Rattle.base.proofs.Stack.{length-stack, reverse-stack}
 use Rattle.machine.specs.declared.Regs.{Regs}
 use Rattle.checks.specs.declared.Refusal.{Refusal}
 use Rattle.checks.specs.Numbers.{refusalNumbered}
 use Rattle.machine.specs.Machine.{Progress, next, done, stop, decode, whole}
 use Rattle.machine.specs.Code.Alike.{AlikeBut}
-use Rattle.machine.specs.Code.Registers.{down, frameOf, progressOf, faultOf, Ran}
-use Rattle.machine.proofs.Stack.{length-down}
+use Rattle.machine.specs.Code.Registers.{frameOf, progressOf, faultOf, Ran}
 use Rattle.machine.proofs.Effects.{refused}
 use Rattle.perform.specs.declared.Answer.{Answer}
 use Rattle.perform.specs.declared.Answer.the-variants.{Success, Refused}
@@ -24,18 +25,13 @@ use Rattle.perform.specs.Lent.{Lent}
 use Rattle.perform.specs.Run.{ofRun, refusalOf, Meets}
 use Rattle.perform.proofs.Needed.{served, brought}
 
-reverse-down : (n : ℕ) (xs : List ℕ) → n ≤ length xs → reverse (down n xs) ≡ take n xs
-unfolding down
-reverse-down zero xs h = refl
-reverse-down (suc n) xs h = reverse-cons (getD xs n 0) (down n xs) ∙ rw (reverse-down n xs (omega arith), take-suc xs n 0 h)
-
 -- the run on a work buffer w₀ with the slots that it needs is the run on the storage, but for slots that it can't tell
 pub on-work : (x : Call) (w₀ s w : List ℕ) (from r : Regs) → Lent (x .kinds) (x .operands) (x .stack) (x .work) (x .storage) (x .state .used) → length w₀ ≡ length (x .work)
     → Copied (λ j. needed (x .kinds) (x .operands) (x .state .used) j && ltb j (x .state .used)) (x .storage) (x .work) w₀
     → from ≡ record { pos = 0; gas = x .limit; items = 0; used = x .state .used; ops = 0; code = 0; note = 0 }
     → Ran (decode (x .kinds) (x .operands)) (x .caller) from r (x .stack) w₀ s w
     → AlikeBut (Serves (x .kinds) (x .operands) (x .state .used) (x .storage)) (progressOf s w r) (whole (decode (x .kinds) (x .operands)) (x .caller) (length (x .storage)) (x .limit) (take (x .state .used) (x .storage)))
-unfolding whole down
+unfolding whole stackOf
 on-work x w₀ s w from r lent long p e ran =
     let start : Regs = record { pos = 0; gas = x .limit; items = 0; used = x .state .used; ops = 0; code = 0; note = 0 } in
     let all : Ran (decode (x .kinds) (x .operands)) (x .caller) start r (x .stack) w₀ s w = rw e at ran in
@@ -54,14 +50,14 @@ module _ (x : Call) (r : Regs) (s′ w′ : List ℕ) (same : length (x .work) �
         → Copied (λ j. changed (x .kinds) (x .operands) (x .state .used) j && ltb j (x .state .used)) (x .work) (x .storage) y → Copied (λ j. leb (x .state .used) j && ltb j (r .used)) (x .work) y m′
         → Meets (ofRun x o) (x .state) (Success (x .limit - r .gas) (r .ops) (r .items) (record { used = r .used })) s′ w′ m′
     succeeded y m′ one hi hu es p q =
-        let d = length-down (r .items) (x .stack) in
+        let d = length-stack (x .stack) (r .items) in
         let l : AlikeBut (Serves (x .kinds) (x .operands) (x .state .used) (x .storage)) (done (r .gas) (frameOf (x .stack) (x .work) r)) o = rw one at like in
         let u : length (l .0) ≡ r .used = sym (l .2 .long) ∙ length-take-le (r .used) (x .work) hu in
         rw (l .1) (record {
           answer = rw (d, u);
           says = rw (d, u);
           state = rw u;
-          stack = rw (reverse-down (r .items) (x .stack) hi, d) es;
+          stack = rw (reverse-stack (x .stack) (r .items) hi, d) es;
           work = all-zero (x .work) w′ ew;
           storage = brought (x .kinds) (x .operands) (x .state .used) (r .used) (x .storage) (x .work) (l .0) y m′ same hu (l .2) p q;
         })

@@ -4,7 +4,7 @@ use native.Mathlib.Omega.{arith}
 use native.Mathlib.Decide.{decLt}
 use native.Mathlib.Numerals.{add-one}
 use mathlib.Core.Path.{_≡_, refl, sym, ap, _∙_}
-use mathlib.Core.Bool.{Bool, true, false, cond, _&&_, _||_}
+use mathlib.Core.Bool.{Bool, true, false, cond, _&&_, _||_, or-false, and-false}
 use mathlib.Core.List.{List, [], _∷_, _++_}
 use lib.ListN.{length, getD, set, take, drop, length-set, length-append, length-drop, drop-of-length-le, List·getD-append, List·getD-eq-default}
 use lib.Seq.{getD-set-same, getD-set-other, getD-take, getD-drop, getD-append-add, length-take-le, ext-getD}
@@ -51,10 +51,6 @@ part-next a i j h = by-eqb i j (λ e. here e) (λ n. other n)
   where
     here : i ≡ j → ((leb a j && ltb j i) || eqb i j) ≡ (leb a j && ltb j (i + 1))
     here e = rw (← e, le-leb a i h, le-ltb i i (omega arith), eq-eqb i i refl, lt-ltb i (i + 1) (omega arith))
-
-    or-false : (b : Bool) → (b || false) ≡ b
-    or-false true = refl
-    or-false false = refl
 
     other : (i ≡ j → ⊥) → ((leb a j && ltb j i) || eqb i j) ≡ (leb a j && ltb j (i + 1))
     other n = go (decLt j i)
@@ -293,10 +289,6 @@ module _ (ks vs : List ℕ) (used : ℕ) where
           ∙ getD-append-add m′ (drop (length m′) m) (j - length m′) 0
           ∙ getD-drop (length m′) m (j - length m′) 0
           ∙ ap (λ (i : ℕ). getD m i 0) (sym e)
-
-      and-false : (b : Bool) → (b && false) ≡ false
-      and-false true = refl
-      and-false false = refl
 
       each : (j : ℕ) → j < length m → getD y j 0 ≡ getD (m′ ++ drop (length m′) m) j 0
       each j b = z .each j b ∙ go (decLt j used) (decLt j after)

@@ -7,6 +7,7 @@ use lib.ListN.{length, take, drop}
 use Rattle.base.specs.Code.Cursor.{visited, IsVisit}
 use Rattle.base.proofs.Tests.{by-leb}
 use Rattle.base.proofs.Cursor as cursor
+use Rattle.base.proofs.Parts.{length-zero}
 use Rattle.source.specs.Parameters.{pieces, name, unlessEmpty, parameters}
 use Rattle.source.specs.Code.Cursor.{placed, parameterAt, visitOfParameter, visitParameter, IsParameter}
 use Rattle.source.specs.declared.parameters.Parameter.{Parameter}
@@ -24,11 +25,7 @@ module _ {s : List ℕ} {at : ℕ} {q : Parameter} (w : Stands s at q) where
       go (a ∷ n) k = refl
 
   no-name : q .end ≤ q .start → name (pieceAt s at) ≡ []
-  no-name h = go (name (pieceAt s at)) (let e = w .ends in omega arith)
-    where
-      go : (n : List ℕ) → length n ≡ 0 → n ≡ []
-      go [] k = refl
-      go (a ∷ n) k = absurd (omega arith)
+  no-name h = length-zero (name (pieceAt s at)) (let e = w .ends in omega arith)
 
   pub skipped : q .end ≤ q .start → parameterAt s at ≡ parameterAt s (q .next)
   skipped h = w .answer ∙ ap (λ (n : List ℕ). kept n q (parameterAt s (q .next))) (no-name h)

@@ -1,39 +1,34 @@
 -- Laws of cutting: the text before a byte, as it is searched for, and the pieces between commas.
-use Prim.Native.Nat.{ℕ, suc, _+_, _-_, _<_, _≤_}
+use Prim.Native.Nat.{ℕ, suc, _+_, _<_, _≤_}
 use mathlib.Core.Path.{_≡_, refl, sym, ap, _∙_}
 use mathlib.Core.List.{List, [], _∷_}
 use borrow.Author.Tests.{ne-eqb, eq-eqb}
 use native.Mathlib.Omega.{arith}
 use lib.ListN.{length, take, drop, length-drop}
+use Rattle.base.specs.Lists.{isNot}
 use Rattle.base.proofs.Tests.{by-eqb, by-leb}
+use Rattle.base.proofs.Lists.{length-takeWhile, take-takeWhile}
 use Rattle.search.specs.declared.Found.{Found}
 use Rattle.search.specs.declared.Found.the-variants.{At, Nothing}
 use Rattle.search.specs.First.{firstFrom, firstAt}
 use Rattle.search.proofs.Prefix.{same, other}
 use Rattle.search.proofs.Laws.{from-hit, from-miss, within}
-use Rattle.source.specs.Parameters.{before, front, pieces}
+use Rattle.source.specs.Parameters.{front, pieces}
+use Rattle.source.specs.Code.Cursor.{before}
 
 module _ (b a : ℕ) (s : List ℕ) where
   before-here : a ≡ b → before b (a ∷ s) ≡ []
-  before-here e = rw (eq-eqb a b e, before)
+  before-here e = simp (eq-eqb a b e)
 
   before-more : (a ≡ b → ⊥) → before b (a ∷ s) ≡ a ∷ before b s
-  before-more h = rw (ne-eqb a b h, before)
+  before-more h = simp (ne-eqb a b h)
 
 module _ (b : ℕ) where
   pub before-length : (s : List ℕ) → length (before b s) ≤ length s
-  before-length [] = omega arith
-  before-length (a ∷ s) =
-      by-eqb a b
-      (λ e. rw (before-here b a s e) (omega arith))
-      (λ h. rw (before-more b a s h) (let k = before-length s in omega arith))
+  before-length s = length-takeWhile (isNot b) s
 
   pub before-starts : (s : List ℕ) → before b s ≡ take (length (before b s)) s
-  before-starts [] = refl
-  before-starts (a ∷ s) =
-      by-eqb a b
-      (λ e. rw (before-here b a s e) refl)
-      (λ h. rw (before-more b a s h) (ap (λ (t : List ℕ). a ∷ t) (before-starts s)))
+  before-starts s = sym (take-takeWhile (isNot b) s)
 
   -- where the search finds the byte, or not
   search-here : (n : ℕ) (s : List ℕ) → length (before b s) < length s → firstFrom n (b ∷ []) s ≡ At (n + length (before b s))

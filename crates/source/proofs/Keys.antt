@@ -5,10 +5,11 @@ use mathlib.Core.List.{List}
 use native.Mathlib.Omega.{arith}
 use lib.ListN.{length, drop, length-append}
 use Rattle.base.specs.Ascii.{ascii}
+use Rattle.base.specs.Lists.{takeWhile}
 use Rattle.search.specs.declared.Found.the-variants.{At, Nothing}
 use Rattle.search.specs.First.{firstAt}
 use Rattle.trim.specs.Trim.{startTrimmed}
-use Rattle.decimal.specs.Decimal.{digits}
+use Rattle.decimal.specs.Decimal.{digit}
 use Rattle.source.specs.Vector.{quoted, ofDigits, vectorNumber}
 use Rattle.source.specs.declared.vector.KeyError.the-variants.{NoKey, NoColon}
 use Rattle.source.specs.declared.vector.KeyValue.the-variants.{Refused}
@@ -24,5 +25,5 @@ module _ (s key : List ℕ) where
     pub no-colon : firstAt (ascii ":") s (at + length (quoted key)) ≡ Nothing → vectorNumber s key ≡ Refused NoColon
     no-colon f = rw (e, f)
 
-    pub number-behind : (colon : ℕ) → firstAt (ascii ":") s (at + length (quoted key)) ≡ At colon → vectorNumber s key ≡ ofDigits (digits (startTrimmed (drop (colon + 1) s)))
+    pub number-behind : (colon : ℕ) → firstAt (ascii ":") s (at + length (quoted key)) ≡ At colon → vectorNumber s key ≡ ofDigits (takeWhile digit (startTrimmed (drop (colon + 1) s)))
     number-behind colon f = rw (e, f)

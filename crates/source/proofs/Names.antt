@@ -6,8 +6,8 @@ use native.Mathlib.Omega.{arith}
 use lib.ListN.{length, take, drop}
 use Rattle.base.proofs.Parts.{inner}
 use Rattle.trim.specs.Trim.{passed, trimmed}
-use Rattle.source.specs.Parameters.{before, name}
-use Rattle.source.specs.Code.Cursor.{trimmedSpan, nameSpan}
+use Rattle.source.specs.Parameters.{name}
+use Rattle.source.specs.Code.Cursor.{before, trimmedSpan, nameSpan}
 use Rattle.source.specs.declared.parameters.Span.{Span}
 use Rattle.source.proofs.Cuts.{before-length, before-starts, cutAt}
 use Rattle.source.proofs.Trimmed.{trimmed-place, trimmed-fits}

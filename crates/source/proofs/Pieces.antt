@@ -7,8 +7,8 @@ use lib.ListN.{length, take, drop, length-drop, drop-of-length-le}
 use lib.Seq.{drop-drop}
 use Rattle.base.proofs.Parts.{inner}
 use Rattle.base.proofs.Tests.{by-leb, by-eqb}
-use Rattle.source.specs.Parameters.{before, front, pieces, name, names, unlessEmpty, parameters}
-use Rattle.source.specs.Code.Cursor.{nameSpan, comma, placed, firstKept, parameterAt}
+use Rattle.source.specs.Parameters.{front, pieces, name, names, unlessEmpty, parameters}
+use Rattle.source.specs.Code.Cursor.{before, nameSpan, comma, placed, firstKept, parameterAt}
 use Rattle.source.specs.declared.parameters.Span.{Span}
 use Rattle.source.specs.declared.parameters.Parameter.{Parameter}
 use Rattle.source.specs.declared.parameters.NextParameter.{NextParameter}

@@ -3,13 +3,9 @@ use Prim.Native.Nat.{ℕ}
 use mathlib.Core.List.{List, [], _∷_}
 use mathlib.Core.Bool.{true, false}
 use lib.Dec.{eqb}
+use Rattle.base.specs.Lists.{isNot, takeWhile}
 pub use Rattle.base.specs.Texts.{front, unlessEmpty}
 use Rattle.trim.specs.Trim.{trimmed}
-
--- the text before the first b, or all of it where there is none
-abbrev pub before : ℕ → List ℕ → List ℕ
-before b [] = []
-before b (a ∷ s) = elim (eqb a b) [ true ↦ [] | false ↦ a ∷ before b s ]
 
 -- a text cut at commas
 abbrev pub pieces : List ℕ → List (List ℕ)
@@ -18,7 +14,7 @@ pieces (a ∷ s) = elim (eqb a 0x2C) [ true ↦ [] ∷ pieces s | false ↦ fron
 
 -- a piece trimmed, cut at its first `:`, trimmed again
 abbrev pub name : List ℕ → List ℕ
-name p = trimmed (before 0x3A (trimmed p))
+name p = trimmed (takeWhile (isNot 0x3A) (trimmed p))
 
 -- the names of pieces, those that are not empty
 abbrev pub names : List (List ℕ) → List (List ℕ)

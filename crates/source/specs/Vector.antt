@@ -5,11 +5,12 @@ use mathlib.Core.Bool.{cond}
 use lib.Dec.{ltb}
 use lib.ListN.{length, drop}
 use Rattle.base.specs.Ascii.{ascii}
+use Rattle.base.specs.Lists.{takeWhile}
 use Rattle.numbered.specs.declared.Numbered.{Numbered}
 use Rattle.numbered.specs.Numbered.{plain, carrying}
 use Rattle.search.specs.First.{firstAt}
 use Rattle.trim.specs.Trim.{startTrimmed}
-use Rattle.decimal.specs.Decimal.{digits, value}
+use Rattle.decimal.specs.Decimal.{digit, value}
 use Rattle.source.specs.Found.{foundOr}
 use Rattle.source.specs.declared.vector.KeyError.{KeyError}
 use Rattle.source.specs.declared.vector.KeyError.the-variants.{NoKey, NoColon, NoDigit, TooLarge}
@@ -30,7 +31,7 @@ abbrev pub vectorNumber : List ℕ → List ℕ → KeyValue
 vectorNumber s key =
     foundOr (firstAt (quoted key) s 0) (Refused NoKey) (λ at.
     foundOr (firstAt (ascii ":") s (at + length (quoted key))) (Refused NoColon) (λ colon.
-    ofDigits (digits (startTrimmed (drop (colon + 1) s)))))
+    ofDigits (takeWhile digit (startTrimmed (drop (colon + 1) s)))))
 
 -- document 01's number of each case; the place of the key is the caller's to add
 abbrev pub keyErrorNumbered : KeyError → Numbered

@@ -2,8 +2,8 @@
 ghost use mathlib.Core.Path.{_≡_};
 ghost use Prim.Native.Nat.{_+_, _≤_};
 ghost use lib.ListN.{length, take, drop};
-ghost use Rattle.source.specs.Parameters.{before, pieces};
-ghost use Rattle.source.specs.Code.Cursor.{trimmedSpan, nameSpan, placed, parameterAt};
+ghost use Rattle.source.specs.Parameters.{pieces};
+ghost use Rattle.source.specs.Code.Cursor.{before, trimmedSpan, nameSpan, placed, parameterAt};
 use search::Found;
 
 // A parameter's name stands from start to end; the parameters behind it are sought from next on.

@@ -1,7 +1,8 @@
 // The vector's numbers.
 ghost use mathlib.Core.Path.{_≡_};
-ghost use Rattle.decimal.specs.Decimal.{digits};
+ghost use Rattle.decimal.specs.Decimal.{digit};
 ghost use Rattle.source.specs.Vector.{ofDigits, vectorNumber, keyErrorNumbered, keyValueNumbered};
+ghost use Rattle.base.specs.Lists.{takeWhile};
 use crate::key::find_quoted;
 use decimal::Value;
 use numbered::Numbered;
@@ -64,7 +65,7 @@ pub fn json_u64_for_key(vector: &[u8], key: &[u8]) -> KeyValue
 
 // The number that a text starts with.
 fn leading_number(text: &[u8]) -> KeyValue
-    ensures { λ r. ⌜ r ≡ ofDigits (digits (now (text .entry))) ⌝ }
+    ensures { λ r. ⌜ r ≡ ofDigits (takeWhile digit (now (text .entry))) ⌝ }
 {
     let run = decimal::digits_at(text, 0);
     if run.len == 0 {

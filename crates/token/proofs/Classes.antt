@@ -1,7 +1,7 @@
 -- The classes of bytes are apart.
 use Prim.Native.Nat.{ℕ, _≤_}
 use mathlib.Core.Path.{_≡_}
-use mathlib.Core.Bool.{Bool, true, false, _&&_, _||_}
+use mathlib.Core.Bool.{Bool, true, false, _&&_, _||_, and-false}
 use native.Mathlib.Omega.{arith}
 use borrow.Author.Tests.{eqb-true}
 use lib.Dec.{eqb}
@@ -43,3 +43,7 @@ goes-no-space a b e =
     (λ p. let x = between 48 57 b (and-right (digit a) (digit b) p) in omega arith)
     (λ p. part-bound b (and-right (nameStart a) (namePart b) p)) in
     not-so (space b) (λ q. let x = space-bound b q in omega arith)
+
+-- no token goes on past the text's end, where a place reads 0
+pub goesOn-end : (a : ℕ) → goesOn a 0 ≡ false
+goesOn-end a = simp and-false

@@ -1,4 +1,3 @@
-pub mod Runs
 pub mod Classes
 pub mod Tokens
 pub mod LongestMatch

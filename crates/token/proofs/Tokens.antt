@@ -7,13 +7,14 @@ use native.Mathlib.Omega.{arith}
 use borrow.Author.Tests.{ne-eqb}
 use lib.ListN.{length, getD, take, drop, length-drop, drop-of-length-le}
 use lib.Seq.{drop-drop, getD-drop, append-snoc, length-take-le}
+use Rattle.base.specs.Lists.{takeWhile}
 use Rattle.base.proofs.Tests.{by-bool, by-leb, below, between}
 use Rattle.base.proofs.Parts.{next}
-use Rattle.decimal.specs.Decimal.{digit, digits, allDigits}
+use Rattle.base.proofs.Lists.{takeWhile-same, length-takeWhile, take-takeWhile, takeWhile-last, takeWhile-stops}
+use Rattle.decimal.specs.Decimal.{digit}
 use Rattle.token.specs.declared.Token.{Token}
 use Rattle.token.specs.Token.{space, nameStart, goesOn, scan, tokens}
-use Rattle.token.specs.Code.Places.{first, run, startAt, tokenAt}
-use Rattle.token.proofs.Runs.{run-short, take-run, run-stops, run-last}
+use Rattle.token.specs.Code.Places.{first, startAt, tokenAt}
 use Rattle.token.proofs.Classes.{goes-no-space}
 
 pub tokens-space : (a : ℕ) (s : List ℕ) → space a ≡ true → tokens (a ∷ s) ≡ tokens s
@@ -33,7 +34,7 @@ unfolding scan
 scan-ended a b v s e = rw (e, scan)
 
 -- a token that is read up to v goes on as long as its start lets it
-pub scan-token : (a : ℕ) (v s : List ℕ) → scan (a ∷ v) s ≡ (a ∷ v ++ run (goesOn a) s) ∷ tokens (drop (length (run (goesOn a) s)) s)
+pub scan-token : (a : ℕ) (v s : List ℕ) → scan (a ∷ v) s ≡ (a ∷ v ++ takeWhile (goesOn a) s) ∷ tokens (drop (length (takeWhile (goesOn a) s)) s)
 unfolding scan
 scan-token a v [] = ap (λ (w : List ℕ). (a ∷ w) ∷ []) (sym (append-nil v))
 scan-token a v (b ∷ s) =
@@ -42,7 +43,7 @@ scan-token a v (b ∷ s) =
     (λ e. scan-more a b v s e ∙ more ∙ simp (e, append-snoc))
     (λ e. scan-ended a b v s e ∙ simp e (ap (λ (w : List ℕ). (a ∷ w) ∷ tokens (b ∷ s)) (sym (append-nil v))))
 
-tokens-skip : (s : List ℕ) → tokens s ≡ tokens (drop (length (run space s)) s)
+tokens-skip : (s : List ℕ) → tokens s ≡ tokens (drop (length (takeWhile space s)) s)
 tokens-skip [] = refl
 tokens-skip (a ∷ s) =
     let more = tokens-skip s in
@@ -50,7 +51,7 @@ tokens-skip (a ∷ s) =
 
 -- the bytes of a token that starts at a place
 abbrev pub tokenFrom : List ℕ → ℕ → List ℕ
-tokenFrom s i = getD s i 0 ∷ run (goesOn (getD s i 0)) (drop (i + 1) s)
+tokenFrom s i = getD s i 0 ∷ takeWhile (goesOn (getD s i 0)) (drop (i + 1) s)
 
 -- a token is left from a place on: it stands from start up to end, and its last byte is no space
 pub record Next (s : List ℕ) (at start end : ℕ) : Type 0 where
@@ -64,45 +65,45 @@ pub record Next (s : List ℕ) (at start end : ℕ) : Type 0 where
 -- from the first byte that is no space on
 module _ (s : List ℕ) (at i : ℕ) (e : i ≡ startAt s at) where
   skipped : tokens (drop at s) ≡ tokens (drop i s)
-  skipped = tokens-skip (drop at s) ∙ ap tokens (drop-drop (length (run space (drop at s))) at s) ∙ ap (λ (j : ℕ). tokens (drop j s)) (sym e)
+  skipped = tokens-skip (drop at s) ∙ ap tokens (drop-drop (length (takeWhile space (drop at s))) at s) ∙ ap (λ (j : ℕ). tokens (drop j s)) (sym e)
 
   no-space : space (getD s i 0) ≡ false
-  no-space = ap (λ (j : ℕ). space (getD s j 0)) e ∙ ap space (sym (getD-drop at s (length (run space (drop at s))) 0)) ∙ run-stops space refl (drop at s)
+  no-space = ap (λ (j : ℕ). space (getD s j 0)) e ∙ ap space (sym (getD-drop at s (length (takeWhile space (drop at s))) 0)) ∙ takeWhile-stops space refl (drop at s)
 
   pub none-left : length s ≤ i → tokens (drop at s) ≡ []
   unfolding scan
   none-left h = skipped ∙ ap tokens (drop-of-length-le s h)
 
-  no-space-last : (end : ℕ) → end ≡ i + 1 + length (run (goesOn (getD s i 0)) (drop (i + 1) s)) → space (getD s (end - 1) 0) ≡ false
+  no-space-last : (end : ℕ) → end ≡ i + 1 + length (takeWhile (goesOn (getD s i 0)) (drop (i + 1) s)) → space (getD s (end - 1) 0) ≡ false
   no-space-last end q =
       let a = getD s i 0 in
-      let n = length (run (goesOn a) (drop (i + 1) s)) in
+      let n = length (takeWhile (goesOn a) (drop (i + 1) s)) in
       by-leb n 0
       (λ h. let p : end - 1 ≡ i = omega arith in rw p no-space)
       (λ h.
       let p : i + 1 + (n - 1) ≡ end - 1 = omega arith in
       let b : getD (drop (i + 1) s) (n - 1) 0 ≡ getD s (end - 1) 0 = getD-drop (i + 1) s (n - 1) 0 ∙ ap (λ (j : ℕ). getD s j 0) p in
-      rw (← b) (goes-no-space a (getD (drop (i + 1) s) (n - 1) 0) (run-last (goesOn a) (drop (i + 1) s) (n - 1) (omega arith))))
+      rw (← b) (goes-no-space a (getD (drop (i + 1) s) (n - 1) 0) (takeWhile-last (goesOn a) (drop (i + 1) s) (n - 1) (omega arith))))
 
-  pub next-at : i < length s → (end : ℕ) → end ≡ i + 1 + length (run (goesOn (getD s i 0)) (drop (i + 1) s)) → Next s at i end
+  pub next-at : i < length s → (end : ℕ) → end ≡ i + 1 + length (takeWhile (goesOn (getD s i 0)) (drop (i + 1) s)) → Next s at i end
   next-at h end q =
       let a = getD s i 0 in
       let n = next s i (i + 1) h refl in
-      let r = run-short (goesOn a) (drop (i + 1) s) in
+      let r = length-takeWhile (goesOn a) (drop (i + 1) s) in
       let l = length-drop (i + 1) s in
-      let m : end - i ≡ suc (length (run (goesOn a) (drop (i + 1) s))) = omega arith in
+      let m : end - i ≡ suc (length (takeWhile (goesOn a) (drop (i + 1) s))) = omega arith in
       record {
         after = omega arith;
         some = omega arith;
         inside = omega arith;
-        bytes = rw (n, m) (ap (λ (w : List ℕ). a ∷ w) (take-run (goesOn a) (drop (i + 1) s)));
+        bytes = rw (n, m) (ap (λ (w : List ℕ). a ∷ w) (take-takeWhile (goesOn a) (drop (i + 1) s)));
         last = no-space-last end q;
         list =
             skipped
             ∙ ap tokens n
             ∙ tokens-start a (drop (i + 1) s) no-space
             ∙ scan-token a [] (drop (i + 1) s)
-            ∙ ap (λ (t : List ℕ). tokenFrom s i ∷ tokens t) (drop-drop (length (run (goesOn a) (drop (i + 1) s))) (i + 1) s)
+            ∙ ap (λ (t : List ℕ). tokenFrom s i ∷ tokens t) (drop-drop (length (takeWhile (goesOn a) (drop (i + 1) s))) (i + 1) s)
             ∙ ap (λ (j : ℕ). tokenFrom s i ∷ tokens (drop j s)) (sym q);
       }
 
@@ -148,13 +149,5 @@ module _ (a : ℕ) (e : digit a ≡ true) where
   pub goes-on-digits : (b : ℕ) → goesOn a b ≡ digit b
   goes-on-digits b = simp (e, no-name, or-false)
 
-  run-digits : (s : List ℕ) → run (goesOn a) s ≡ digits s
-  run-digits [] = refl
-  run-digits (b ∷ s) = let more = run-digits s in rw (goes-on-digits b, more)
-
-  pub digit-token : (s : List ℕ) → a ∷ run (goesOn a) s ≡ digits (a ∷ s)
-  digit-token s = simp e (ap (λ (w : List ℕ). a ∷ w) (run-digits s))
-
-pub digits-all : (s : List ℕ) → allDigits (digits s) ≡ true
-digits-all [] = refl
-digits-all (a ∷ s) = let more = digits-all s in by-bool (digit a) (λ e. simp e more) (λ e. simp e)
+  pub digit-token : (s : List ℕ) → a ∷ takeWhile (goesOn a) s ≡ takeWhile digit (a ∷ s)
+  digit-token s = simp e (ap (λ (w : List ℕ). a ∷ w) (takeWhile-same (goesOn a) digit goes-on-digits s))

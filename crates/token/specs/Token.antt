@@ -4,6 +4,7 @@ use mathlib.Core.List.{List, [], _∷_, _++_}
 use mathlib.Core.Bool.{Bool, true, false, _&&_, _||_}
 use lib.Dec.{eqb}
 use Rattle.base.specs.Range.{within}
+use Rattle.base.specs.Lists.{all}
 use Rattle.base.specs.Texts.{unlessEmpty}
 use Rattle.decimal.specs.Decimal.{digit}
 
@@ -21,10 +22,12 @@ namePart a = nameStart a || digit a
 abbrev pub sign : ℕ → Bool
 sign a = within 40 43 a || eqb a 45 || eqb a 47
 
--- whether every byte parts tokens or is in one
+-- a byte that parts tokens or is in one
+abbrev pub allowedByte : ℕ → Bool
+allowedByte a = space a || namePart a || sign a
+
 abbrev pub allowed : List ℕ → Bool
-allowed [] = true
-allowed (a ∷ s) = (space a || namePart a || sign a) && allowed s
+allowed s = all allowedByte s
 
 -- whether b goes on with a token that starts with a
 abbrev pub goesOn : ℕ → ℕ → Bool

@@ -2,19 +2,16 @@
 use Prim.Native.Nat.{ℕ, _<_}
 use mathlib.Core.Path.{_≡_}
 use mathlib.Core.List.{List, [], _∷_, _++_}
-use mathlib.Core.Bool.{Bool, true, _&&_}
+use mathlib.Core.Bool.{true}
 use lib.ListN.{length}
+use Rattle.base.specs.Lists.{all}
 use Rattle.decimal.specs.Decimal.{digit}
 use Rattle.token.specs.Token.{space, nameStart, namePart, sign}
 
-abbrev pub every : (ℕ → Bool) → List ℕ → Bool
-every test [] = true
-every test (a ∷ w) = test a && every test w
-
 -- the bytes w are a token
 pub data IsToken : List ℕ → Type 0 where
-  digits : {w : List ℕ} → 0 < length w → every digit w ≡ true → IsToken w
-  name : {a : ℕ} {w : List ℕ} → nameStart a ≡ true → every namePart w ≡ true → IsToken (a ∷ w)
+  digits : {w : List ℕ} → 0 < length w → all digit w ≡ true → IsToken w
+  name : {a : ℕ} {w : List ℕ} → nameStart a ≡ true → all namePart w ≡ true → IsToken (a ∷ w)
   single : {a : ℕ} → sign a ≡ true → IsToken (a ∷ [])
 
 -- no token starts with w and goes on into s

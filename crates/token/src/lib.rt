@@ -1,11 +1,11 @@
 // Tokens of an expression, found in its bytes.
 ghost use mathlib.Core.Path.{_≡_};
-ghost use mathlib.Core.Bool.{_||_};
 ghost use Prim.Native.Nat.{_+_, _<_};
 ghost use lib.ListN.{length, getD, drop};
+ghost use Rattle.base.specs.Lists.{takeWhile};
 ghost use Rattle.decimal.specs.Decimal.{digit};
-ghost use Rattle.token.specs.Token.{space, nameStart, namePart, sign, allowed, goesOn};
-ghost use Rattle.token.specs.Code.Places.{run, startAt, tokenAt};
+ghost use Rattle.token.specs.Token.{space, nameStart, namePart, sign, allowedByte, allowed, goesOn};
+ghost use Rattle.token.specs.Code.Places.{startAt, tokenAt};
 use base::both;
 use base::either;
 use base::in_range;
@@ -60,7 +60,8 @@ fn token_start(text: &[u8], at: usize) -> usize
 
 fn token_end(text: &[u8], start: usize) -> usize
     requires { ⌜ start < length (now text) ⌝ }
-    ensures { λ r. ⌜ r ≡ start + 1 + length (run (goesOn (getD (now (text .entry)) start 0)) (drop (start + 1) (now (text .entry)))) ⌝ }
+    ensures { λ r. ⌜ r ≡ start + 1
+        + length (takeWhile (goesOn (getD (now (text .entry)) start 0)) (drop (start + 1) (now (text .entry)))) ⌝ }
 {
     let first = text[start];
     let mut i = start + 1;
@@ -116,7 +117,7 @@ fn is_sign(a: u8) -> bool
 }
 
 fn is_allowed(a: u8) -> bool
-    ensures { λ r. ⌜ r ≡ (space a || namePart a || sign a) ⌝ }
+    ensures { λ r. ⌜ r ≡ allowedByte a ⌝ }
 {
     either(either(is_space(a), is_name_part(a)), is_sign(a))
 }

@@ -57,9 +57,6 @@ trimmed-kept a s h e k f =
     let v : back (reverse t) ≡ reverse t = rw u (back-stays (getD t (length s) 0) (reverse (take (length s) t)) f (λ p q. omega arith)) in
     ap endTrimmed (start-stays a s e (λ p. omega arith) (λ p q. omega arith)) ∙ ap reverse v ∙ reverse-reverse t
 
-pub trimmed-nil : trimmed [] ≡ []
-trimmed-nil = refl
-
 module _ (two : ℕ → ℕ → Bool) (three : ℕ → ℕ → ℕ → Bool) where
   mutual
     shorter : (s : List ℕ) → length (trimmedBy two three s) ≤ length s

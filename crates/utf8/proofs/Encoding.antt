@@ -10,7 +10,8 @@ use Rattle.utf8.specs.Utf8.{utf8, after, after2, after3, tail, two, thre
 use Rattle.base.specs.Range.{within}
 use Rattle.base.proofs.Tests.{inside, between, and-left, and-right, and-both, by-or, by-leb, by-cond, never}
 use Rattle.utf8.proofs.Lead.{utf8-cons, after-cons, after2-cons, after3-cons, one-is, two-is, three-is, four-is}
-use Rattle.utf8.specs.Encode.{scalar, scalars, encode, encode2, encode3, encode4, encodes, Valid}
+use Rattle.base.specs.Lists.{all}
+use Rattle.utf8.specs.Encode.{scalar, encode, encode2, encode3, encode4, encodes, Valid}
 
 -- the alternatives of UTF8-3
 module _ (b c : ℕ) (k : 0x80 ≤ c) (l : c ≤ 0xBF) where
@@ -114,15 +115,15 @@ char-in c t e =
     (λ h. by-leb c 0xFFFF (λ k. three-in c t h k (λ u. high c e u .0)) (λ k. four-in c t k (high c e (omega arith) .1))))
 
 -- encoded characters before a text leave it as it was
-pub before : (cs t : List ℕ) → scalars cs ≡ true → utf8 (encodes cs ++ t) ≡ utf8 t
+pub before : (cs t : List ℕ) → all scalar cs ≡ true → utf8 (encodes cs ++ t) ≡ utf8 t
 before [] t e = refl
 before (c ∷ cs) t e =
     ap utf8 (append-assoc (encode c) (encodes cs) t)
-    ∙ char-in c (encodes cs ++ t) (and-left (scalar c) (scalars cs) e)
-    ∙ before cs t (and-right (scalar c) (scalars cs) e)
+    ∙ char-in c (encodes cs ++ t) (and-left (scalar c) (all scalar cs) e)
+    ∙ before cs t (and-right (scalar c) (all scalar cs) e)
 
 -- what is encoded is UTF-8
-pub sound : (cs : List ℕ) → scalars cs ≡ true → utf8 (encodes cs) ≡ true
+pub sound : (cs : List ℕ) → all scalar cs ≡ true → utf8 (encodes cs) ≡ true
 sound cs e = ap utf8 (sym (append-nil (encodes cs))) ∙ before cs [] e
 
 scalar-low : (c : ℕ) → c ≤ 0xD7FF → scalar c ≡ true
@@ -133,7 +134,7 @@ scalar-high c g h = simp (lt-leb c 0xD7FF (omega arith), le-leb 0xE000 c g, le-l
 
 valid-char : (c : ℕ) (bs t : List ℕ) → scalar c ≡ true → encode c ≡ bs → Valid t → Valid (bs ++ t)
 valid-char c bs t e p v =
-    (c ∷ v .0, and-both (scalar c) (scalars (v .0)) e (v .1), ap (λ (l : List ℕ). l ++ t) (sym p) ∙ ap (λ (l : List ℕ). encode c ++ l) (v .2))
+    (c ∷ v .0, and-both (scalar c) (all scalar (v .0)) e (v .1), ap (λ (l : List ℕ). l ++ t) (sym p) ∙ ap (λ (l : List ℕ). encode c ++ l) (v .2))
 
 valid1 : (a : ℕ) (t : List ℕ) → a ≤ 0x7F → Valid t → Valid (a ∷ t)
 valid1 a t h = valid-char a (a ∷ []) t (scalar-low a (omega arith)) (simp (le-leb a 0x7F h))

@@ -1,21 +1,13 @@
 -- The alternatives of UTF8-3 and UTF8-4 by the range of the second byte.
 use Prim.Native.Nat.{ℕ, _<_, _≤_}
 use mathlib.Core.Path.{_≡_, refl, sym}
-use mathlib.Core.Bool.{Bool, true, false, cond, _&&_, _||_}
+use mathlib.Core.Bool.{cond, _&&_, or-false, and-assoc}
 use borrow.Author.Tests.{le-leb, lt-leb, ne-eqb}
 use native.Mathlib.Omega.{arith}
 use lib.Dec.{leb, eqb}
 use Rattle.base.specs.Range.{within}
 use Rattle.base.proofs.Tests.{inside, below, above, by-eqb, by-leb}
 use Rattle.utf8.specs.Utf8.{tail, three, four}
-
-or-false : (p : Bool) → (p || false) ≡ p
-or-false true = refl
-or-false false = refl
-
-and-assoc : (p q r : Bool) → (p && q && r) ≡ (p && (q && r))
-and-assoc true q r = refl
-and-assoc false q r = refl
 
 pub three-by : (a b c : ℕ) → 0xDF < a → a ≤ 0xEF → (within (cond (eqb a 0xE0) 0xA0 0x80) (cond (eqb a 0xED) 0x9F 0xBF) b && tail c) ≡ three a b c
 three-by a b c g h =

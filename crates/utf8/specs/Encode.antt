@@ -2,17 +2,14 @@
 use Prim.Native.Nat.{ℕ, _+_, _/_, _%_}
 use mathlib.Core.Path.{_≡_}
 use mathlib.Core.List.{List, [], _∷_, _++_}
-use mathlib.Core.Bool.{Bool, true, cond, _&&_, _||_}
+use mathlib.Core.Bool.{Bool, true, cond, _||_}
 use lib.Dec.{leb}
 use Rattle.base.specs.Range.{within}
+use Rattle.base.specs.Lists.{all}
 
 -- U+0000 to U+10FFFF without the surrogates, U+D800 to U+DFFF
 abbrev pub scalar : ℕ → Bool
 scalar c = leb c 0xD7FF || within 0xE000 0x10FFFF c
-
-abbrev pub scalars : List ℕ → Bool
-scalars [] = true
-scalars (c ∷ cs) = scalar c && scalars cs
 
 abbrev pub encode2 : ℕ → List ℕ
 encode2 c = (0xC0 + c / 64) ∷ (0x80 + c % 64) ∷ []
@@ -33,4 +30,4 @@ encodes (c ∷ cs) = encode c ++ encodes cs
 
 -- a text is UTF-8 where it is the encoding of characters
 abbrev pub Valid : List ℕ → Type 0
-Valid s = (cs : List ℕ) × (scalars cs ≡ true) × (s ≡ encodes cs)
+Valid s = (cs : List ℕ) × (all scalar cs ≡ true) × (s ≡ encodes cs)

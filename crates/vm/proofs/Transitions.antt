@@ -12,7 +12,6 @@ use Rattle.checks.specs.declared.Check.{Check}
 use Rattle.checks.specs.declared.Check.the-variants as check
 use Rattle.checks.specs.Verify.{gateCheck}
 use Rattle.perform.specs.declared.State.{State}
-use Rattle.perform.specs.declared.Answer.{Answer}
 use Rattle.perform.specs.declared.Answer.the-variants.{Success, Refused}
 use Rattle.perform.specs.Call.{Call}
 use Rattle.perform.specs.Run.{Result, refusalOf, undone, ofRun}

@@ -1,6 +1,4 @@
 -- A metered run and a transition: what is tested, the run, and what is booked after it.
-use Prim.Native.Nat.{ℕ}
-use mathlib.Core.List.{List}
 use lib.ListN.{length}
 use Rattle.base.specs.Need.{need}
 use Rattle.context.specs.declared.Gate.{Gate}

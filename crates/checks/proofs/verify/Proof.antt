@@ -1,15 +1,13 @@
 -- `verify` meets its contract: a test that is passed leaves the answer to the next one.
-use Prim.Native.Nat.{ℕ, _≤_, _<_}
+use Prim.Native.Nat.{ℕ, _≤_}
 use mathlib.Core.Path.{_≡_, refl, ap}
 use native.Mathlib.Omega.{arith}
 use borrow.Author.Tests.{eq-eqb, ne-eqb, lt-ltb, le-ltb, le-leb, lt-leb}
+use Rattle.base.proofs.Tests.{positive}
 use Rattle.checks.specs.Numbers.{checkNumbered}
 use borrow.Author.Needs.{needs}
 use Rattle.checks.proofs.verify.Statement.{statement}
 use Rattle.checks.proofs.verify.Tie as tie
-
-positive : (n : ℕ) → (n ≡ 0 → ⊥) → 0 < n
-positive n h = omega arith
 
 zeroed : (n : ℕ) → n ≡ 0 → n ≤ 0
 zeroed n h = omega arith

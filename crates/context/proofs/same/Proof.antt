@@ -1,14 +1,14 @@
 -- `context::same` meets its contract: the blocks passed agree, so the texts are equal where what is left of them is.
 use Prim.Native.Nat.{_+_, _-_, _≤_}
 use mathlib.Core.Path.{_≡_, refl, sym, ap, ap₂, _∙_}
-use mathlib.Core.Bool.{true, _&&_}
+use mathlib.Core.Bool.{true, _&&_, and-true}
 use borrow.Author.Tests.{not-true, not-false}
 use native.Mathlib.Omega.{arith}
 use lib.ListN.{length, drop, drop-of-length-le}
 use Rattle.base.specs.Equal.{equal}
 use Rattle.base.specs.Code.Skips.{Skips}
 use Rattle.base.proofs.Skips.{skips-yes, skips-no}
-use Rattle.context.proofs.Laws.{equal-lengths, and-true}
+use Rattle.context.proofs.Laws.{equal-lengths}
 use borrow.Author.Needs.{needs}
 use Rattle.context.proofs.same.Statement.{statement}
 use Rattle.context.proofs.same.Tie as tie

@@ -1,20 +1,22 @@
 -- `decimal::few_digits_at` meets its contract: what is left of the digits, after acc, writes the number that all of them write.
 use Prim.Native.Nat.{ℕ, _+_, _-_, _*_, _^_, _<_, _≤_}
-use mathlib.Core.Path.{_≡_, sym, ap, _∙_}
+use mathlib.Core.Path.{_≡_, refl, sym, ap, _∙_}
 use mathlib.Core.Bool.{false}
 use native.Mathlib.Omega.{arith}
 use borrow.Author.Tests.{ltb-true, ltb-false, not-true, not-false}
 use lib.ListN.{length, getD, drop}
 use denote.Ref.{now}
-use Rattle.decimal.specs.Decimal.{digit, digits, value, valueFrom}
+use Rattle.base.specs.Lists.{takeWhile}
+use Rattle.base.proofs.Lists.{endFrom, end-more, end-none}
+use Rattle.decimal.specs.Decimal.{digit, value, valueFrom}
 use Rattle.decimal.specs.Code.Digits.{capped}
-use Rattle.decimal.proofs.Runs.{digitsEnd, DigitAt, digit-at, end-more, end-none, value-more, value-none, fitting, over, answer}
+use Rattle.decimal.proofs.Runs.{DigitAt, digit-at, value-more, value-none, fitting, over, answer}
 use borrow.Author.Needs.{needs}
 use Rattle.decimal.proofs.few_digits_at.Statement.{statement}
 use Rattle.decimal.proofs.few_digits_at.Tie as tie
 
 abbrev Inv-loop : tie.InvT-loop
-Inv-loop s at acc₀ i₀ acc i = (acc < 2 ^ 64) × (digitsEnd s at ≡ digitsEnd s i) × (value (digits (drop at s)) ≡ valueFrom acc (digits (drop i s)))
+Inv-loop s at acc₀ i₀ acc i = (acc < 2 ^ 64) × (endFrom digit s at ≡ endFrom digit s i) × (value (takeWhile digit (drop at s)) ≡ valueFrom acc (takeWhile digit (drop i s)))
 
 abbrev μ-loop : tie.MeasureT-loop
 μ-loop s at acc₀ i₀ acc i = length s - i
@@ -38,13 +40,13 @@ too-large c = ltb-false _ _ (sym (c .before .next-fits .ensures) ∙ not-true _ 
 value-after : (c : tie.After-widen Inv-loop μ-loop) →
     let l = c .before .before .before .before in
     let s = now (l .before .before .args .s) in
-    value (digits (drop (l .before .before .args .at) s)) ≡ valueFrom (l .loop .acc * 10 + c .widen .result) (digits (drop (l .loop .i + 1) s))
+    value (takeWhile digit (drop (l .before .before .args .at) s)) ≡ valueFrom (l .loop .acc * 10 + c .widen .result) (takeWhile digit (drop (l .loop .i + 1) s))
 value-after c =
     let l = c .before .before .before .before in
     let s = now (l .before .before .args .s) in
     l .loop .inv .2
     ∙ value-more (digit-here (c .before .before)) (l .loop .acc)
-    ∙ ap (λ (d : ℕ). valueFrom (l .loop .acc * 10 + d) (digits (drop (l .loop .i + 1) s))) (sym (c .widen .ensures))
+    ∙ ap (λ (d : ℕ). valueFrom (l .loop .acc * 10 + d) (takeWhile digit (drop (l .loop .i + 1) s))) (sym (c .widen .ensures))
 
 shared-slice-read-widen : tie.Need-shared-slice-read-widen Inv-loop μ-loop
 shared-slice-read-widen c = let d = digit-here (c .before) in omega arith
@@ -71,7 +73,7 @@ returns c =
     let s = now (l .before .before .args .s) in
     answer s _ (c .digits-end .result) _
     (l .loop .inv .1 ∙ sym (c .digits-end .ensures))
-    (ap capped (value-after w) ∙ over _ (digits (drop (l .loop .i + 1) s)) (too-large (c .before)))
+    (ap capped (value-after w) ∙ over _ (takeWhile digit (drop (l .loop .i + 1) s)) (too-large (c .before)))
 
 mul-acc : tie.Need-mul-acc Inv-loop μ-loop
 mul-acc c = let b = below c in omega arith
@@ -89,20 +91,20 @@ loop-again : tie.Need-loop-again Inv-loop μ-loop
 loop-again c =
     let w = c .before .before in
     let l = w .before .before .before .before in
-    (below c, l .loop .inv .1 ∙ end-more (digit-here (w .before .before)), value-after w)
+    (below c, l .loop .inv .1 ∙ end-more digit refl _ _ (digit-here (w .before .before) .is), value-after w)
 
 no-digit : (c : tie.Else1 Inv-loop μ-loop) → digit (getD (now (c .before .before .before .before .args .s)) (c .before .before .loop .i) 0) ≡ false
 no-digit c = sym (c .before .is-digit-at .ensures) ∙ c .if1 .left
 
 sub-len-2 : tie.Need-sub-len-2 Inv-loop μ-loop
-sub-len-2 c = omega (arith, end-none (now (c .before .before .before .before .args .s)) (c .before .before .loop .i) (no-digit c))
+sub-len-2 c = omega (arith, end-none digit (now (c .before .before .before .before .args .s)) (c .before .before .loop .i) (no-digit c))
 
 returns-2 : tie.Need-returns-2 Inv-loop μ-loop
 returns-2 c =
     let l = c .before .before in
     let s = now (l .before .before .args .s) in
     answer s _ (l .loop .i) _
-    (l .loop .inv .1 ∙ end-none s (l .loop .i) (no-digit c))
+    (l .loop .inv .1 ∙ end-none digit s (l .loop .i) (no-digit c))
     (ap capped (l .loop .inv .2 ∙ value-none s (l .loop .i) (no-digit c) (l .loop .acc)) ∙ fitting (l .loop .acc) (l .loop .inv .0))
 
 pub few-digits-at-spec : {M : Type 1} → statement M

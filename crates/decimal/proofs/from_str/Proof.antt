@@ -3,7 +3,8 @@ use mathlib.Core.Path.{_≡_, sym, ap, _∙_}
 use native.Mathlib.Omega.{arith}
 use lib.ListN.{length, drop}
 use denote.Ref.{now}
-use Rattle.decimal.specs.Decimal.{digits, numberOf}
+use Rattle.base.specs.Lists.{takeWhile}
+use Rattle.decimal.specs.Decimal.{digit, numberOf}
 use Rattle.decimal.specs.declared.Digits.{Digits}
 use Rattle.decimal.proofs.FromStr.{asNumber, read-none, read-other, read-all}
 use borrow.Author.Needs.{needs}
@@ -16,7 +17,7 @@ plus-len-requires c κs = search needs
 digits-at-requires : tie.Need-digits-at-requires
 digits-at-requires c κs = search needs
 
-len-is : (c : tie.After-digits-at) → c .digits-at .result .len ≡ length (digits (drop (c .before .plus-len .result) (now (c .before .before .before .args .s))))
+len-is : (c : tie.After-digits-at) → c .digits-at .result .len ≡ length (takeWhile digit (drop (c .before .plus-len .result) (now (c .before .before .before .args .s))))
 len-is c = ap (λ (d : Digits). d .len) (c .digits-at .ensures)
 
 returns : tie.Need-returns

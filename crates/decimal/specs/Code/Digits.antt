@@ -10,7 +10,8 @@ use Rattle.decimal.specs.declared.Value.the-variants as Value
 use Rattle.decimal.specs.declared.Digits.{Digits}
 use Rattle.decimal.specs.declared.Written.{Written}
 use Rattle.decimal.specs.declared.Written.the-variants.{To, NoRoom}
-use Rattle.decimal.specs.Decimal.{decimal, digits, value}
+use Rattle.base.specs.Lists.{takeWhile}
+use Rattle.decimal.specs.Decimal.{digit, decimal, value}
 
 -- a number of 64 bits, or that it is none
 abbrev pub capped : ℕ → Value
@@ -18,7 +19,7 @@ capped n = cond (ltb n (2 ^ 64)) (Value.Is n) Value.TooLarge
 
 -- the digits from a place on; where none stands, they write 0
 abbrev pub digitsAt : List ℕ → ℕ → Digits
-digitsAt s at = record { len = length (digits (drop at s)); value = capped (value (digits (drop at s))) }
+digitsAt s at = record { len = length (takeWhile digit (drop at s)); value = capped (value (takeWhile digit (drop at s))) }
 
 -- whether a number written at a place ends within a buffer's length
 abbrev pub fitsAt : ℕ → ℕ → ℕ → Bool

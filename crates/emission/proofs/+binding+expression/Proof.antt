@@ -19,7 +19,7 @@ use Rattle.emission.proofs.+binding+expression.Lts-expression as expres
 use Rattle.emission.proofs.factor.factor_at.Reads as factor-at-reads
 use Rattle.emission.proofs.operator.operate.Reads as operate-reads
 use Rattle.emission.proofs.waiting.pop.Reads as pop-reads
-use Rattle.expression.proofs.names.wide.Reads as wide-reads
+use Rattle.base.proofs.wide.Reads as wide-reads
 use Rattle.emission.proofs.put_again.Reads as put-again-reads
 use Rattle.writer.proofs.put_push.Reads as put-push-reads
 use Rattle.emission.proofs.+binding+expression.{statement}

@@ -4,7 +4,8 @@ use mathlib.Core.List.{List, [], _∷_}
 use mathlib.Core.Bool.{cond}
 use lib.Dec.{eqb, ltb}
 use lib.ListN.{take, drop}
-use Rattle.decimal.specs.Decimal.{allDigits, value}
+use Rattle.base.specs.Lists.{all}
+use Rattle.decimal.specs.Decimal.{digit, value}
 use Rattle.token.specs.Token.{tokens}
 use Rattle.token.specs.Code.Places.{tokenAt}
 use Rattle.expression.specs.declared.names.Found.{Found}
@@ -25,7 +26,7 @@ namedBy Found.Nothing = Nothing
 -- the names of the first count bindings stand in the text s
 abbrev pub factorOf : (s : List ℕ) (count : ℕ) (names lens tags : List ℕ) → List (List ℕ) → Factor
 factorOf s count names lens tags [] = Nothing
-factorOf s count names lens tags (w ∷ ts) = cond (eqb (lone w) 40) Open (cond (allDigits w) (literalOf w) (namedBy (found count s names lens tags w)))
+factorOf s count names lens tags (w ∷ ts) = cond (eqb (lone w) 40) Open (cond (all digit w) (literalOf w) (namedBy (found count s names lens tags w)))
 
 -- from a place on, in an expression that ends at a place of the text
 abbrev pub factorAt : (s : List ℕ) (end at count : ℕ) (names lens tags : List ℕ) → FactorAt

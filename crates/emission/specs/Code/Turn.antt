@@ -5,6 +5,7 @@ use mathlib.Core.List.{List, _∷_}
 use mathlib.Core.Bool.{cond}
 use lib.Dec.{eqb, leb}
 use lib.ListN.{length, take, drop}
+use Rattle.base.specs.Code.Stack.{stackOf}
 use Rattle.token.specs.Token.{tokens}
 use Rattle.token.specs.Code.Places.{tokenAt, first}
 use Rattle.expression.specs.Grammar.{levels}
@@ -12,7 +13,7 @@ use Rattle.expression.specs.Parse.{lone}
 use Rattle.writer.specs.Code.Overwrites.{Overwrites}
 use Rattle.emission.specs.Code.Lines.{operatorsText}
 use Rattle.emission.specs.declared.operator.Turn.{Turn}
-use Rattle.emission.specs.Code.Waiting.{levelOf, most, popped, left, stackOf}
+use Rattle.emission.specs.Code.Waiting.{levelOf, most, popped, left}
 
 -- the sign from a place on, in an expression that ends at a place of the text; 0 where no token is left
 abbrev pub signAt : List ℕ → ℕ → ℕ → ℕ

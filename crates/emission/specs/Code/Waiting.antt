@@ -1,10 +1,10 @@
 -- The operators that wait on a stack, top first, with a mark `(` for each open parenthesis.
-use Prim.Native.Nat.{ℕ, zero, suc, _+_, _*_, _≤_}
+use Prim.Native.Nat.{ℕ, _+_, _*_, _≤_}
 use mathlib.Core.Path.{_≡_}
 use mathlib.Core.List.{List, [], _∷_}
 use mathlib.Core.Bool.{true, false, cond}
 use lib.Dec.{leb}
-use lib.ListN.{getD}
+use Rattle.base.specs.Code.Stack.{stackOf}
 use Rattle.expression.specs.Grammar.{levels, term, expression, depth}
 use Rattle.expression.specs.Parse.{joins}
 use Rattle.writer.specs.Code.Overwrites.{Overwrites}
@@ -27,11 +27,6 @@ popped p (y ∷ st) = elim (leb (levelOf y) p) [ true ↦ y ∷ popped p st | fa
 unfoldable pub left : ℕ → List ℕ → List ℕ
 left p [] = []
 left p (y ∷ st) = elim (leb (levelOf y) p) [ true ↦ left p st | false ↦ y ∷ st ]
-
--- an array's first n elements, the last first
-unfoldable pub stackOf : List ℕ → ℕ → List ℕ
-stackOf A zero = []
-stackOf A (suc n) = getD A n 0 ∷ stackOf A n
 
 -- the operators of a level on top of n elements of an array are written, and so many are left
 pub record Pops (out : List ℕ) (at : ℕ) (A : List ℕ) (n level : ℕ) (after : List ℕ) (r : Popped) : Type 0 where

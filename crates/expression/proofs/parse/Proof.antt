@@ -17,8 +17,8 @@ is-all-tokens-requires c κs = search needs
 returns : tie.Need-returns
 returns c = let a = c .before .before .before .args in not-allowed (a .text .now) (a .at) _ (sym (c .before .is-all-tokens .ensures) ∙ not-true _ (c .if1 .taken))
 
-at-most-256-requires : tie.Need-at-most-256-requires
-at-most-256-requires c κs = search needs
+min-requires : tie.Need-min-requires
+min-requires c κs = search needs
 
 expression-requires : tie.Need-expression-requires
 expression-requires c κs = record { short = search needs; room = omega arith }
@@ -35,12 +35,12 @@ whole-requires c κs = search needs
 returns-2 : tie.Need-returns-2
 returns-2 c =
     let a = c .before .before .before .before .before .before .before .before .before .before .before .before .before .before .before .before .before .before .args in
-    refused-answers (a .text .now) (a .at) (columns (a .t3) (a .t4)) _ (c .before .before .before .before .before .before .before .before .before .before .before .before .before .before .at-most-256 .ensures) (sym (c .before .before .before .before .before .before .before .before .before .before .before .before .before .before .before .before .is-all-tokens .ensures) ∙ not-false _ (c .before .before .before .before .before .before .before .before .before .before .before .before .before .before .before .if1 .left)) (carry (c .before .e .given .1) (c .before .before .before .expression .ensures))
+    refused-answers (a .text .now) (a .at) (columns (a .t3) (a .t4)) _ (c .before .before .before .before .before .before .before .before .before .before .before .before .before .before .min .ensures) (sym (c .before .before .before .before .before .before .before .before .before .before .before .before .before .before .before .before .is-all-tokens .ensures) ∙ not-false _ (c .before .before .before .before .before .before .before .before .before .before .before .before .before .before .before .if1 .left)) (carry (c .before .e .given .1) (c .before .before .before .expression .ensures))
 
 returns-3 : tie.Need-returns-3
 returns-3 c =
     let a = c .before .before .before .before .before .before .before .before .before .before .before .before .before .before .before .before .before .before .before .args in
-    let m = done-answers (a .text .now) (a .at) (columns (a .t3) (a .t4)) _ (c .before .before .before .before .before .before .before .before .before .before .before .before .before .before .before .at-most-256 .ensures) (sym (c .before .before .before .before .before .before .before .before .before .before .before .before .before .before .before .before .before .is-all-tokens .ensures) ∙ not-false _ (c .before .before .before .before .before .before .before .before .before .before .before .before .before .before .before .before .if1 .left)) _ refl (carry (c .before .before .read .given .1) (c .before .before .before .before .expression .ensures)) in
+    let m = done-answers (a .text .now) (a .at) (columns (a .t3) (a .t4)) _ (c .before .before .before .before .before .before .before .before .before .before .before .before .before .before .before .min .ensures) (sym (c .before .before .before .before .before .before .before .before .before .before .before .before .before .before .before .before .before .is-all-tokens .ensures) ∙ not-false _ (c .before .before .before .before .before .before .before .before .before .before .before .before .before .before .before .before .if1 .left)) _ refl (carry (c .before .before .read .given .1) (c .before .before .before .before .expression .ensures)) in
     subst (λ (r : Parsed). Answers (a .text .now) (a .at) (columns (a .t3) (a .t4)) r) (sym (c .whole .ensures)) m
 
 pub parse-spec : {M : Type 1} → statement M
@@ -49,7 +49,7 @@ parse-spec =
     (tie.spec
     is-all-tokens-requires
     returns
-    at-most-256-requires
+    min-requires
     expression-requires
     enum-known-e
     enum-known-read

@@ -90,7 +90,7 @@ wide-requires c κs = search needs
 shift : (c : tie.After-wide Inv-loop μ-loop) → Shift ((c .before .before .before .before .before .before .before .before .before .args .p) .now) (c .before .before .before .before .before .before .before .loop .j) (c .wide .result)
 shift c =
     let l = c .before .before .before .before .before .before .before .loop in
-    rw (c .wide .ensures) (shift-of (c .before .before .before .before .before .before .before .before .before .args .p .now) (l .shifts) (l .c) (l .j) (l .inv) (omega arith) (omega arith) (omega arith))
+    rw (c .wide .ensures .0) (shift-of (c .before .before .before .before .before .before .before .before .before .args .p .now) (l .shifts) (l .c) (l .j) (l .inv) (omega arith) (omega arith) (omega arith))
 
 add-c-2 : tie.Need-add-c-2 Inv-loop μ-loop
 add-c-2 c = let s = shift c in omega arith

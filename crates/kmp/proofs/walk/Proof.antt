@@ -74,7 +74,7 @@ wide-requires c κs = search needs
 shift : (c : tie.After-wide Inv-loop μ-loop) → Shift ((c .before .before .before .before .before .before .before .before .before .before .args .p) .now) (c .before .before .before .before .before .before .before .loop .j) (c .wide .result)
 shift c =
     let l = c .before .before .before .before .before .before .before .loop in
-    rw (c .wide .ensures) (c .before .before .before .before .before .before .before .before .before .before .pre .1 .shift (l .j) (omega arith) (omega arith))
+    rw (c .wide .ensures .0) (c .before .before .before .before .before .before .before .before .before .before .pre .1 .shift (l .j) (omega arith) (omega arith))
 
 add-c-2 : tie.Need-add-c-2 Inv-loop μ-loop
 add-c-2 c = let s = shift c in omega arith

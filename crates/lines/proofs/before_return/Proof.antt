@@ -1,6 +1,6 @@
 -- `lines::before_return` meets its contract: by the byte before the line feed, if the line has one.
 -- Assumes nothing.
-use Prim.Native.Nat.{_+_, _-_, suc}
+use Prim.Native.Nat.{_+_, _-_}
 use mathlib.Core.Path.{_≡_, ap, sym, _∙_}
 use native.Mathlib.Omega.{arith}
 use lib.ListN.{getD}

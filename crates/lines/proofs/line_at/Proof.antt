@@ -1,13 +1,10 @@
 -- `lines::line_at` meets its contract: by whether a line feed ends the line.
 -- Assumes nothing.
 use Prim.Native.Nat.{_+_}
-use mathlib.Core.Path.{_≡_, refl, sym, ap, ap₂, _∙_}
+use mathlib.Core.Path.{_≡_, sym, ap, ap₂, _∙_}
 use native.Mathlib.Omega.{arith}
-use lib.ListN.{length}
 use denote.Ref.{now}
-use Rattle.lines.specs.Cursor.{lineAt}
 use Rattle.lines.specs.Code.Visits.{feedFrom}
-use Rattle.lines.specs.declared.Line.{Line}
 use Rattle.lines.specs.declared.Step.the-variants.{Next}
 use Rattle.lines.proofs.Cursor.{feed-bounds, line-here, line-done, unended, ended}
 use borrow.Author.Needs.{needs}

@@ -4,18 +4,14 @@ use mathlib.Core.Path.{_≡_}
 use mathlib.Core.List.{List, [], _∷_}
 use lib.ListN.{length, getD, take}
 use Rattle.word.specs.Apply.{Binary, add, sub, mul, div, eq, lt}
+use Rattle.base.specs.Code.Stack.{stackOf}
 use Rattle.machine.specs.declared.Regs.{Regs}
 use Rattle.kinds.specs.Kinds.{Operation}
 use Rattle.machine.specs.Machine.{Fault, outOfGas, stackUnderflow, stackLimitExceeded, divisionByZero, storageLimitExceeded, outsideStorage, Frame, Effect, Progress, next, done, stop, settle, pay, actOf, machine, runOf}
 
--- the first n of a buffer, the last of them first
-unfoldable pub down : ℕ → List ℕ → List ℕ
-down zero xs = []
-down (suc n) xs = getD xs n 0 ∷ down n xs
-
 -- the frame in the registers, the stack buffer s and the work buffer w
 abbrev pub frameOf : List ℕ → List ℕ → Regs → Frame
-frameOf s w r = record { pos = r .pos; stack = down (r .items) s; storage = take (r .used) w; ops = r .ops }
+frameOf s w r = record { pos = r .pos; stack = stackOf s (r .items); storage = take (r .used) w; ops = r .ops }
 
 -- codes 46 to 51 are document 01's numbers, and any other counts as 46; the note is a price or a number of slots
 abbrev pub faultOf : (code note left : ℕ) → Fault
@@ -73,7 +69,7 @@ pub record Kept (lo room : ℕ) (r q : Regs) : Type 0 where
 -- Free are the stack buffer above the items and the work buffer past the used slots, and the note where the code is 0 or 1.
 -- After a refusal both buffers are free; items, used, position and count are so within `Kept`, and of code and note what `faultOf` leaves
 pub record Did (lo : ℕ) (effect : List ℕ → List ℕ → Effect) (r q : Regs) (s w s′ w′ : List ℕ) : Type 0 where
-  pub progress : progressOf s′ w′ q ≡ settle (r .gas) (frameOf s w r) (effect (down (r .items) s) (take (r .used) w))
+  pub progress : progressOf s′ w′ q ≡ settle (r .gas) (frameOf s w r) (effect (stackOf s (r .items)) (take (r .used) w))
   pub kept : Kept lo (length w) r q
 
 -- the same where the work buffer is neither read nor written

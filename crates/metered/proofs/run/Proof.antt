@@ -1,18 +1,16 @@
 -- `run` meets its contract: what the run comes to from the registers of each turn is what it comes to from the start.
-use Prim.Native.Nat.{ℕ, _≤_}
+use Prim.Native.Nat.{_≤_}
 use mathlib.Core.Path.{_≡_, refl, sym, ap, _∙_}
 use native.Mathlib.Omega.{arith}
 use native.Mathlib.Nat.{le-trans}
 use lib.ListN.{length}
 use Rattle.machine.specs.Machine.{decode, done, machine, pay}
 use Rattle.machine.specs.Code.Registers.{frameOf, progressOf, Running}
+use Rattle.base.proofs.Tests.{positive}
 use Rattle.metered.proofs.Turns.{act-over, Leads, goes-on, ends-with, turn}
 use borrow.Author.Needs.{needs}
 use Rattle.metered.proofs.run.Statement.{statement}
 use Rattle.metered.proofs.run.Tie as tie
-
-positive : (n : ℕ) → (n ≡ 0 → ⊥) → 1 ≤ n
-positive n h = omega arith
 
 abbrev Inv-loop : tie.InvT-loop
 Inv-loop kinds operands caller stack₀ work₀ r₀ stack work r =

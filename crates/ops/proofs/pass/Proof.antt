@@ -18,13 +18,13 @@ Inv-loop text kinds₀ operands₀ writing room at₀ line₀ n₀ kinds operand
 abbrev μ-loop : tie.MeasureT-loop
 μ-loop text kinds₀ operands₀ writing room at₀ line₀ n₀ kinds operands at line n = length text - at
 
-smaller-requires : tie.Need-smaller-requires Inv-loop μ-loop
-smaller-requires c κs = search needs
+min-requires : tie.Need-min-requires Inv-loop μ-loop
+min-requires c κs = search needs
 
 loop-holds : tie.Need-loop-holds Inv-loop μ-loop
 loop-holds c =
     let a = c .before .before .before .before .args in
-    pass-first fromStr (now (a .text)) (now (a .kinds)) (now (a .operands)) (a .writing) (c .smaller .result) (c .smaller .ensures) (c .before .before .before .before .pre)
+    pass-first fromStr (now (a .text)) (now (a .kinds)) (now (a .operands)) (a .writing) (c .min .result) (c .min .ensures) (c .before .before .before .before .pre)
 
 add-line : tie.Need-add-line Inv-loop μ-loop
 add-line c = record { fits = omega (arith, c .before .loop .inv .scanned .stands .counted) }
@@ -120,7 +120,7 @@ pass-spec =
     (tie.spec
     Inv-loop
     μ-loop
-    smaller-requires
+    min-requires
     loop-holds
     add-line
     line-read-at-requires

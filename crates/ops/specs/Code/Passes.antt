@@ -7,7 +7,8 @@ use lib.ListN.{length, drop}
 use Rattle.base.specs.Overwrite.{overwrite}
 use Rattle.base.specs.Outcome.{is, andThen}
 use Rattle.search.specs.First.{prefixOf}
-use Rattle.decimal.specs.Decimal.{allDigits, numberOf}
+use Rattle.base.specs.Lists.{all}
+use Rattle.decimal.specs.Decimal.{digit, numberOf}
 use Rattle.decimal.specs.declared.Number.the-variants.{Is}
 use Rattle.lines.specs.Lines.{lines}
 use Rattle.lines.specs.Cursor.{span, firstLine}
@@ -48,7 +49,7 @@ pub record OperationAt (text : List ℕ) (at k v end : ℕ) : Type 0 where
   pub digits : List ℕ
   pub number : ℕ
   pub below : k < 16
-  pub all : allDigits digits ≡ true
+  pub all : all digit digits ≡ true
   pub some : 0 < length digits
   pub is : numberOf digits ≡ Is number
   pub operand : v ≡ cond (follows (kindOf k .operand)) number 0

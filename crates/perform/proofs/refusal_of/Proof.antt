@@ -8,7 +8,6 @@ use lib.ListN.{List·getD-eq-default}
 use Rattle.kinds.proofs.ByKind.{Span, end, _&_, past}
 use Rattle.machine.specs.Machine.{outOfGas, stackUnderflow, stackLimitExceeded, divisionByZero, storageLimitExceeded, outsideStorage}
 use Rattle.machine.specs.Code.Registers.{faultOf}
-use Rattle.perform.specs.Run.{refusalOf}
 use Rattle.perform.proofs.refusal_of.Statement.{statement}
 use Rattle.perform.proofs.refusal_of.Tie as tie
 

@@ -4,12 +4,17 @@ use mathlib.Core.Path.{_≡_}
 use mathlib.Core.List.{List, [], _∷_}
 use lib.ListN.{length, take, drop}
 use Rattle.base.specs.Code.Cursor.{Visit, piece, noPiece}
+use Rattle.base.specs.Lists.{isNot, takeWhile}
 use Rattle.trim.specs.Trim.{trimmed, passed}
-use Rattle.source.specs.Parameters.{before, pieces, name, parameters}
+use Rattle.source.specs.Parameters.{pieces, name, parameters}
 use Rattle.source.specs.declared.parameters.Span.{Span}
 use Rattle.source.specs.declared.parameters.Parameter.{Parameter}
 use Rattle.source.specs.declared.parameters.NextParameter.{NextParameter}
 use Rattle.source.specs.declared.parameters.NextParameter.the-variants.{Is, Done}
+
+-- the text before the first b, or all of it where there is none
+abbrev pub before : ℕ → List ℕ → List ℕ
+before b s = takeWhile (isNot b) s
 
 -- where the trimmed text stands in a text
 abbrev pub trimmedSpan : List ℕ → Span

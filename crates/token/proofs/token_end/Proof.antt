@@ -3,14 +3,15 @@ use Prim.Native.Nat.{_+_, _-_}
 use mathlib.Core.Path.{_≡_, sym, _∙_}
 use native.Mathlib.Omega.{arith}
 use lib.ListN.{length, getD}
+use Rattle.base.proofs.Lists.{endFrom, passes-inside, end-more, end-none}
 use Rattle.token.specs.Token.{goesOn}
-use Rattle.token.proofs.Runs.{goesOn-end, runEnd, passes-inside, end-more, end-none}
+use Rattle.token.proofs.Classes.{goesOn-end}
 use borrow.Author.Needs.{needs}
 use Rattle.token.proofs.token_end.Statement.{statement}
 use Rattle.token.proofs.token_end.Tie as tie
 
 abbrev Inv-loop : tie.InvT-loop
-Inv-loop text start first i₀ i = runEnd (goesOn first) text (start + 1) ≡ runEnd (goesOn first) text i
+Inv-loop text start first i₀ i = endFrom (goesOn first) text (start + 1) ≡ endFrom (goesOn first) text i
 
 abbrev μ-loop : tie.MeasureT-loop
 μ-loop text start first i₀ i = length text - i
@@ -37,7 +38,7 @@ loop-again : tie.Need-loop-again Inv-loop μ-loop
 loop-again c = let v = c .before .before .before .before .before .args in let s = v .text .now in let a = getD s (v .start) 0 in let i = c .before .before .loop .i in let e = sym (c .before .goes-on-at .ensures) ∙ c .if1 .taken in c .before .before .loop .inv ∙ end-more (goesOn a) (goesOn-end a) s i e
 
 returns : tie.Need-returns Inv-loop μ-loop
-returns c = let v = c .before .before .before .before .before .args in let s = v .text .now in let a = getD s (v .start) 0 in let i = c .before .before .loop .i in sym (c .before .before .loop .inv ∙ end-none (goesOn a) (goesOn-end a) s i (sym (c .before .goes-on-at .ensures) ∙ c .if1 .left))
+returns c = let v = c .before .before .before .before .before .args in let s = v .text .now in let a = getD s (v .start) 0 in let i = c .before .before .loop .i in sym (c .before .before .loop .inv ∙ end-none (goesOn a) s i (sym (c .before .goes-on-at .ensures) ∙ c .if1 .left))
 
 pub token-end-spec : {M : Type 1} → statement M
 token-end-spec =

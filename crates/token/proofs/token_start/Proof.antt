@@ -3,14 +3,14 @@ use Prim.Native.Nat.{_-_}
 use mathlib.Core.Path.{_≡_, refl, sym, _∙_}
 use native.Mathlib.Omega.{arith}
 use lib.ListN.{length}
+use Rattle.base.proofs.Lists.{endFrom, passes-inside, end-more, end-none}
 use Rattle.token.specs.Token.{space}
-use Rattle.token.proofs.Runs.{runEnd, passes-inside, end-more, end-none}
 use borrow.Author.Needs.{needs}
 use Rattle.token.proofs.token_start.Statement.{statement}
 use Rattle.token.proofs.token_start.Tie as tie
 
 abbrev Inv-loop : tie.InvT-loop
-Inv-loop text at i₀ i = runEnd space text at ≡ runEnd space text i
+Inv-loop text at i₀ i = endFrom space text at ≡ endFrom space text i
 
 abbrev μ-loop : tie.MeasureT-loop
 μ-loop text at i₀ i = length text - i
@@ -31,7 +31,7 @@ loop-again : tie.Need-loop-again Inv-loop μ-loop
 loop-again c = let s = c .before .before .before .before .args .text .now in let i = c .before .before .loop .i in let e = sym (c .before .is-space-at .ensures) ∙ c .if1 .taken in c .before .before .loop .inv ∙ end-more space refl s i e
 
 returns : tie.Need-returns Inv-loop μ-loop
-returns c = let s = c .before .before .before .before .args .text .now in let i = c .before .before .loop .i in sym (c .before .before .loop .inv ∙ end-none space refl s i (sym (c .before .is-space-at .ensures) ∙ c .if1 .left))
+returns c = let s = c .before .before .before .before .args .text .now in let i = c .before .before .loop .i in sym (c .before .before .loop .inv ∙ end-none space s i (sym (c .before .is-space-at .ensures) ∙ c .if1 .left))
 
 pub token-start-spec : {M : Type 1} → statement M
 token-start-spec =

@@ -1,9 +1,10 @@
 -- Tokens by their places in a text.
 use Prim.Native.Nat.{ℕ, suc, _+_}
 use mathlib.Core.List.{List, [], _∷_}
-use mathlib.Core.Bool.{Bool, cond, _&&_}
+use mathlib.Core.Bool.{cond, _&&_}
 use lib.Dec.{eqb}
 use lib.ListN.{length, drop}
+use Rattle.base.specs.Lists.{takeWhile}
 use Rattle.token.specs.declared.Token.{Token}
 use Rattle.token.specs.Token.{space, tokens}
 
@@ -12,14 +13,9 @@ abbrev pub first : List (List ℕ) → List ℕ
 first [] = []
 first (w ∷ ts) = w
 
--- the bytes that a text starts with and that pass a test
-abbrev pub run : (ℕ → Bool) → List ℕ → List ℕ
-run test [] = []
-run test (a ∷ s) = let more = a ∷ run test s in cond (test a) more []
-
 -- where the first token from a place on starts
 abbrev pub startAt : List ℕ → ℕ → ℕ
-startAt s at = at + length (run space (drop at s))
+startAt s at = at + length (takeWhile space (drop at s))
 
 -- the first token from a place on; start and end are the text's end where there is none
 abbrev pub tokenAt : List ℕ → ℕ → Token

@@ -1,11 +1,6 @@
 use borrow.Author.Needs.{needs}
 use Rattle.utf8.proofs.is_two.Statement.{statement}
 use Rattle.utf8.proofs.is_two.Tie as tie
-use Rattle.utf8.proofs.is_two.Reads as reads
-use Rattle.utf8.proofs.is_two.Lts as lts
-use Rattle.base.proofs.both.Reads as both-reads
-use Rattle.base.proofs.in_range.Reads as in-range-reads
-use Rattle.utf8.proofs.is_tail.Reads as is-tail-reads
 
 in-range-requires : tie.Need-in-range-requires
 in-range-requires c κs = search needs

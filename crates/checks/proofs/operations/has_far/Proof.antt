@@ -5,7 +5,8 @@ use native.Mathlib.Omega.{arith}
 use lib.ListN.{length, getD}
 use Rattle.base.proofs.Skips.{skips-all}
 use Rattle.checks.specs.Code.Blocks.{checkFrom}
-use Rattle.checks.proofs.Blocks.{or-left, or-right, near-passes, skips-passing}
+use Rattle.checks.proofs.Blocks.{near-passes, skips-passing}
+use Rattle.base.proofs.Tests.{or-left, or-right}
 use borrow.Author.Needs.{needs}
 use Rattle.checks.proofs.operations.has_far.Statement.{statement}
 use Rattle.checks.proofs.operations.has_far.Tie as tie

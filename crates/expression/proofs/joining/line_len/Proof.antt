@@ -6,7 +6,6 @@ use lib.Dec.{eqb}
 use Rattle.base.proofs.Tests.{by-bool}
 use Rattle.expression.specs.Code.Lengths.{lineOf}
 use Rattle.expression.specs.Parse.{operator}
-use borrow.Author.Needs.{needs}
 use Rattle.expression.proofs.joining.line_len.Statement.{statement}
 use Rattle.expression.proofs.joining.line_len.Tie as tie
 

@@ -1,6 +1,6 @@
 -- `expression::names::has_tag` meets its contract: what is compared so far.
 use Prim.Native.Nat.{ℕ, _-_, _≤_}
-use mathlib.Core.Path.{_≡_, sym, ap, _∙_}
+use mathlib.Core.Path.{_≡_, ap, _∙_}
 use native.Mathlib.Omega.{arith}
 use Rattle.expression.specs.Code.Table.{hasTag}
 use Rattle.expression.proofs.Tags.{has-none, has-more}

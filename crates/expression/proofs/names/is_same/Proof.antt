@@ -5,7 +5,6 @@ use Rattle.expression.proofs.Lookup.{sameFrom, same-start, same-more, s
 use Prim.Native.Nat.{_-_, _≤_}
 use mathlib.Core.Path.{_≡_, sym, _∙_}
 use native.Mathlib.Omega.{arith}
-use Rattle.expression.proofs.Lookup.{sameFrom, same-more, same-stop, same-end}
 use borrow.Author.Needs.{needs}
 use Rattle.expression.proofs.names.is_same.Statement.{statement}
 use Rattle.expression.proofs.names.is_same.Tie as tie

@@ -3,7 +3,8 @@ use Prim.Native.Nat.{ℕ, _+_}
 use native.Mathlib.Omega.{arith}
 use mathlib.Core.Path.{sym, ap, _∙_}
 use lib.ListN.{drop}
-use Rattle.decimal.specs.Decimal.{digits}
+use Rattle.base.specs.Lists.{takeWhile}
+use Rattle.decimal.specs.Decimal.{digit}
 use Rattle.decimal.specs.declared.Digits.{Digits}
 use Rattle.decimal.proofs.Laws.{length-word}
 use Rattle.expression.proofs.Atoms.{run-inside, literal-large, literal-is}
@@ -30,13 +31,13 @@ add-t11 : tie.Need-add-t11
 add-t11 c = omega (arith, length-word (c .before .before .before .value .given .0 .0) (omega arith))
 
 returns : tie.Need-returns
-returns c = let a = c .before .before .before .before .args in literal-large (digits (drop (a .start) (a .text .now))) (a .start) (sym (ap (λ (d : Digits). d .value) (c .before .before .digits-at .ensures)) ∙ c .enum-told .given .1)
+returns c = let a = c .before .before .before .before .args in literal-large (takeWhile digit (drop (a .start) (a .text .now))) (a .start) (sym (ap (λ (d : Digits). d .value) (c .before .before .digits-at .ensures)) ∙ c .enum-told .given .1)
 
 returns-2 : tie.Need-returns-2
 returns-2 c =
     let a = c .before .before .before .before .before .before .before .args in
     let e = c .before .before .before .before .before .digits-at .ensures in
-    literal-is (digits (drop (a .start) (a .text .now))) (a .start) _ _ _
+    literal-is (takeWhile digit (drop (a .start) (a .text .now))) (a .start) _ _ _
     (sym (ap (λ (d : Digits). d .value) e) ∙ c .before .before .before .value .given .1)
     (ap (λ (d : Digits). a .start + d .len) e)
     (ap (λ (n : ℕ). 6 + n) (c .decimal-len .ensures))

@@ -14,8 +14,8 @@ use Rattle.machine.proofs.operations.apply.Tie as tie
 wrapped : (a b r : ℕ) → a < 2 ^ 64 → b < 2 ^ 64 → r < 2 ^ 64 → (r + b) % 2 ^ 64 ≡ a → r ≡ (a + (2 ^ 64 - b)) % 2 ^ 64
 wrapped a b r ha hb hr e = omega arith
 
-positive : {b : ℕ} → 1 ≤ b → b ≡ 0 → ⊥
-positive h e = omega arith
+not-zero : {b : ℕ} → 1 ≤ b → b ≡ 0 → ⊥
+not-zero h e = omega arith
 
 lt-here : (c : tie.At-match-rest) → binaryOf (c .before .args .kind) ≡ lt
 lt-here c =
@@ -46,7 +46,7 @@ returns-3 : tie.Need-returns-3
 returns-3 c = rw (c .before .match .keys3) (ap some (c .wrapping-mul .ensures))
 
 returns-4 : tie.Need-returns-4
-returns-4 c = rw (c .match .keys4, ne-eqb (c .before .args .b) 0 (positive (c .before .pre (c .match .keys4))))
+returns-4 c = rw (c .match .keys4, ne-eqb (c .before .args .b) 0 (not-zero (c .before .pre (c .match .keys4))))
 
 returns-5 : tie.Need-returns-5
 returns-5 c = rw (c .before .match .keys5, eq-eqb _ _ (c .if1 .taken))

@@ -3,7 +3,7 @@ use Prim.Native.Nat.{_+_, _<_}
 use native.Mathlib.Omega.{arith}
 use lib.ListN.{length}
 use borrow.Author.Tests.{lt-ltb, le-ltb}
-use Rattle.machine.proofs.Stack.{length-down, down-push}
+use Rattle.base.proofs.Stack.{length-stack, stack-push}
 use Rattle.machine.proofs.Effects.{fails-by, moves-by}
 use borrow.Author.Needs.{needs}
 use Rattle.machine.proofs.operations.push.Statement.{statement}
@@ -14,7 +14,7 @@ stop-requires c κs = search needs
 
 returns : tie.Need-returns
 returns c =
-    λ w h. fails-by 48 0 (c .stop .ensures) (omega arith) (omega arith) (omega arith) h (simp (length-down, le-ltb _ _ (c .before .if1 .taken)))
+    λ w h. fails-by 48 0 (c .stop .ensures) (omega arith) (omega arith) (omega arith) h (simp (length-stack, le-ltb _ _ (c .before .if1 .taken)))
 
 mul-stack : tie.Need-mul-stack
 mul-stack c = search needs
@@ -40,7 +40,7 @@ returns-2 c =
     let n : a .r .items < length (a .stack .now) = omega arith in
     λ w h.
     moves-by (a .r .items + 1) (a .r .used) (c .go-on .ensures) (omega arith) (omega arith) h
-    (simp (length-down, lt-ltb _ _ (c .before .before .if1 .left), down-push))
+    (simp (length-stack, lt-ltb _ _ (c .before .before .if1 .left), stack-push))
 
 pub push-spec : {M : Type 1} → statement M
 push-spec =

@@ -5,7 +5,8 @@ use native.Mathlib.Omega.{arith}
 use lib.ListN.{length, getD, take}
 use borrow.Author.Tests.{lt-ltb, le-ltb}
 use Rattle.machine.specs.Machine.{storeOf}
-use Rattle.machine.proofs.Stack.{no-item, down-pop}
+use Rattle.base.proofs.Stack.{stack-pop}
+use Rattle.machine.proofs.Stack.{no-item}
 use Rattle.machine.proofs.Storage.{store-in, store-past}
 use Rattle.machine.proofs.Effects.{fails-by, moves-by}
 use borrow.Author.Needs.{needs}
@@ -20,7 +21,7 @@ returns c =
     let a = c .before .before .before .before .args in
     let m = a .work .now in
     fails-by 47 0 (c .stop .ensures) (omega arith) (omega arith) (omega arith) (omega arith)
-    (no-item (λ (s : List ℕ). storeOf (length m) (a .slot) s (take (a .r .used) m)) (a .r .items) (a .stack .now) (c .before .if1 .taken))
+    (no-item (λ (s : List ℕ). storeOf (length m) (a .slot) s (take (a .r .used) m)) (a .stack .now) (a .r .items) (c .before .if1 .taken))
 
 mul-v : tie.Need-mul-v
 mul-v c = search needs
@@ -38,7 +39,7 @@ returns-2 : tie.Need-returns-2
 returns-2 c =
     let a = c .before .before .before .before .before .before .before .args in
     fails-by 50 (c .before .requested .result) (c .stop2 .ensures) (omega arith) (omega arith) (omega arith) (omega arith)
-    (rw (down-pop (a .r .items) (a .stack .now) (c .before .before .before .before .if1 .left), le-ltb (a .slot) 65536 (c .before .before .if2 .taken), c .before .requested .ensures))
+    (rw (stack-pop (a .stack .now) (a .r .items) (c .before .before .before .before .if1 .left), le-ltb (a .slot) 65536 (c .before .before .if2 .taken), c .before .requested .ensures))
 
 stop-requires-3 : tie.Need-stop-requires-3
 stop-requires-3 c κs = search needs
@@ -47,7 +48,7 @@ returns-3 : tie.Need-returns-3
 returns-3 c =
     let a = c .before .before .before .before .before .before .before .args in
     fails-by 51 0 (c .stop3 .ensures) (omega arith) (omega arith) (omega arith) (omega arith)
-    (rw (down-pop (a .r .items) (a .stack .now) (c .before .before .before .before .if1 .left), lt-ltb (a .slot) 65536 (c .before .before .if2 .left), le-ltb _ _ (c .before .if3 .taken)))
+    (rw (stack-pop (a .stack .now) (a .r .items) (c .before .before .before .before .if1 .left), lt-ltb (a .slot) 65536 (c .before .before .if2 .left), le-ltb _ _ (c .before .if3 .taken)))
 
 mul-work : tie.Need-mul-work
 mul-work c = search needs
@@ -70,7 +71,7 @@ returns-4 c =
     let m = a .work .now in
     let v = getD (a .stack .now) (a .r .items - 1) 0 in
     moves-by (a .r .items - 1) (a .r .used) (c .go-on .ensures) (omega arith) (omega arith) (omega arith)
-    (rw (down-pop (a .r .items) (a .stack .now) (c .before .before .before .before .before .before .if1 .left), lt-ltb (a .slot) 65536 (c .before .before .before .before .if2 .left), lt-ltb (a .slot) (length m) (c .before .before .before .if3 .left), store-in (a .r .used) (a .slot) v m (c .before .before .if4 .taken) (omega arith)))
+    (rw (stack-pop (a .stack .now) (a .r .items) (c .before .before .before .before .before .before .if1 .left), lt-ltb (a .slot) 65536 (c .before .before .before .before .if2 .left), lt-ltb (a .slot) (length m) (c .before .before .before .if3 .left), store-in (a .r .used) (a .slot) v m (c .before .before .if4 .taken) (omega arith)))
 
 zero-out-requires : tie.Need-zero-out-requires
 zero-out-requires c κs = search needs
@@ -100,7 +101,7 @@ returns-5 c =
     let z = c .before .before .before .before .zero-out in
     let v = getD (a .stack .now) (a .r .items - 1) 0 in
     moves-by (a .r .items - 1) (a .slot + 1) (c .go-on2 .ensures) (omega arith) (omega arith) (omega arith)
-    (rw (down-pop (a .r .items) (a .stack .now) (c .before .before .before .before .before .before .before .before .before .before .if1 .left), lt-ltb (a .slot) 65536 (c .before .before .before .before .before .before .before .before .if2 .left), lt-ltb (a .slot) (length m) (c .before .before .before .before .before .before .before .if3 .left), store-past (a .r .used) (a .slot) v m (z .last .0) (c .before .before .before .before .before .before .if4 .left) (c .before .before .before .before .before .before .before .if3 .left) (z .ensures)))
+    (rw (stack-pop (a .stack .now) (a .r .items) (c .before .before .before .before .before .before .before .before .before .before .if1 .left), lt-ltb (a .slot) 65536 (c .before .before .before .before .before .before .before .before .if2 .left), lt-ltb (a .slot) (length m) (c .before .before .before .before .before .before .before .if3 .left), store-past (a .r .used) (a .slot) v m (z .last .0) (c .before .before .before .before .before .before .if4 .left) (c .before .before .before .before .before .before .before .if3 .left) (z .ensures)))
 
 pub store-spec : {M : Type 1} → statement M
 store-spec =

@@ -5,7 +5,7 @@ use Prim.Native.Nat.{ℕ, _-_, _≤_}
 use native.Mathlib.Omega.{arith}
 use lib.ListN.{length, getD, take, length-set}
 use Rattle.machine.specs.Machine.{swapOf}
-use Rattle.machine.proofs.Stack.{below-two, down-two, down-swap}
+use Rattle.machine.proofs.Stack.{below-two, stack-two, stack-swap}
 use Rattle.machine.proofs.Effects.{fails-by, moves-by}
 use borrow.Author.Needs.{needs}
 use Rattle.machine.proofs.operations.swap.Statement.{statement}
@@ -19,7 +19,7 @@ returns c =
     let a = c .before .before .before .args in
     λ w h.
     fails-by 47 0 (c .stop .ensures) (omega arith) (omega arith) (omega arith) h
-    (below-two (λ (s : List ℕ). swapOf s (take (a .r .used) w)) (a .r .items) (a .stack .now) (c .before .if1 .taken) (λ b. refl))
+    (below-two (λ (s : List ℕ). swapOf s (take (a .r .used) w)) (a .stack .now) (a .r .items) (c .before .if1 .taken) (λ b. refl))
 
 sub-b : tie.Need-sub-b
 sub-b c = search needs
@@ -69,7 +69,7 @@ returns-2 c =
     let k : n ≤ length s = omega arith in
     λ w u.
     moves-by n (a .r .used) (c .go-on .ensures) (omega arith) (omega arith) u
-    (rw (down-swap n (getD s (n - 2) 0) (getD s (n - 1) 0) s h k, down-two n s h))
+    (rw (stack-swap s n (getD s (n - 2) 0) (getD s (n - 1) 0) h k, stack-two s n h))
 
 pub swap-spec : {M : Type 1} → statement M
 swap-spec =

@@ -1,6 +1,6 @@
 -- `operations::two` meets its contract: too few items, a divisor of 0, and the value in the place of two items.
 use Prim.Native.Nat.{ℕ, _-_, _≤_}
-use mathlib.Core.Path.{_≡_, refl}
+use mathlib.Core.Path.{refl}
 use mathlib.Core.Logic.{⊎-elim}
 use mathlib.Core.List.{List}
 use native.Mathlib.Omega.{arith}
@@ -8,14 +8,12 @@ use lib.ListN.{length, take}
 use borrow.Author.Tests.{eq-eqb}
 use Rattle.machine.specs.Machine.{twoOf}
 use Rattle.machine.specs.Code.Registers.{binaryOf}
-use Rattle.machine.proofs.Stack.{below-two, down-two, down-put}
+use Rattle.base.proofs.Tests.{positive}
+use Rattle.machine.proofs.Stack.{below-two, stack-two, stack-put}
 use Rattle.machine.proofs.Effects.{fails-by, moves-by}
 use borrow.Author.Needs.{needs}
 use Rattle.machine.proofs.operations.two.Statement.{statement}
 use Rattle.machine.proofs.operations.two.Tie as tie
-
-positive : (b : ℕ) → (b ≡ 0 → ⊥) → 1 ≤ b
-positive b n = omega arith
 
 stop-requires : tie.Need-stop-requires
 stop-requires c κs = search needs
@@ -25,7 +23,7 @@ returns c =
     let a = c .before .before .before .args in
     λ w h.
     fails-by 47 0 (c .stop .ensures) (omega arith) (omega arith) (omega arith) h
-    (below-two (λ (s : List ℕ). twoOf (binaryOf (a .kind)) s (take (a .r .used) w)) (a .r .items) (a .stack .now) (c .before .if1 .taken) (λ b. refl))
+    (below-two (λ (s : List ℕ). twoOf (binaryOf (a .kind)) s (take (a .r .used) w)) (a .stack .now) (a .r .items) (c .before .if1 .taken) (λ b. refl))
 
 sub-b : tie.Need-sub-b
 sub-b c = search needs
@@ -50,7 +48,7 @@ returns-2 c =
     let a = c .before .before .before .before .before .before .before .args in
     λ w h.
     fails-by 49 0 (c .stop2 .ensures) (omega arith) (omega arith) (omega arith) h
-    (rw (down-two (a .r .items) (a .stack .now) (c .before .before .before .before .before .if1 .left), c .before .before .if2 .taken, eq-eqb _ _ (c .before .if3 .taken)))
+    (rw (stack-two (a .stack .now) (a .r .items) (c .before .before .before .before .before .if1 .left), c .before .before .if2 .taken, eq-eqb _ _ (c .before .if3 .taken)))
 
 apply-requires : tie.Need-apply-requires
 apply-requires c κs = λ e. ⊎-elim (λ w. positive _ (w .1 .left)) (λ w. absurd (w .left e)) (c .if2 .came)
@@ -80,7 +78,7 @@ returns-3 c =
     let k : a .r .items ≤ length (a .stack .now) = omega arith in
     λ w u.
     moves-by (a .r .items - 1) (a .r .used) (c .go-on .ensures) (omega arith) (omega arith) u
-    (rw (down-two (a .r .items) (a .stack .now) h, ← c .before .before .apply .ensures, down-put))
+    (rw (stack-two (a .stack .now) (a .r .items) h, ← c .before .before .apply .ensures, stack-put))
 
 pub two-spec : {M : Type 1} → statement M
 two-spec =

@@ -3,13 +3,11 @@ use mathlib.Core.Path.{_≡_, refl, sym}
 use mathlib.Core.Logic.{inl, inr, ⊎-elim}
 use Prim.Native.Nat.{ℕ, _≤_}
 use native.Mathlib.Omega.{arith}
+use Rattle.base.proofs.Tests.{positive}
 use Rattle.kinds.specs.Kinds.{kindOf}
 use Rattle.kinds.proofs.ByKind.{end, _&_, span, unpriced}
 use Rattle.machine.proofs.price.gas_cost.Statement.{statement}
 use Rattle.machine.proofs.price.gas_cost.Tie as tie
-
-low : (k : ℕ) → (k ≡ 0 → ⊥) → 1 ≤ k
-low k n = omega arith
 
 high : (k : ℕ) → 13 ≤ k → (k ≡ 13 → ⊥) → (k ≡ 14 → ⊥) → 15 ≤ k
 high k h n m = omega arith
@@ -33,7 +31,7 @@ returns-4 c = rw (c .match .keys2)
 returns-5 : tie.Need-returns-5
 returns-5 c =
     let k = c .before .before .args .kind in
-    let one : 1 ≤ k = low k (λ e. c .before .match .rest .0 .0 .1 (inl e)) in
+    let one : 1 ≤ k = positive k (λ e. c .before .match .rest .0 .0 .1 (inl e)) in
     span {P = λ j. _≡_ {A = ℕ} 2 (kindOf j .price)} 1 4 k (refl & refl & refl & refl & end) (omega arith) (omega arith)
 
 returns-6 : tie.Need-returns-6

@@ -5,9 +5,10 @@ use mathlib.Core.Path.{sym, ap, _∙_}
 use native.Mathlib.Omega.{arith}
 use lib.ListN.{take, drop}
 use denote.Ref.{now}
+use Rattle.base.proofs.Parts.{length-part}
 use Rattle.ops.specs.Line.{ruleOf, partRead}
 use Rattle.ops.proofs.Words.{rest-within}
-use Rattle.ops.proofs.Trimmed.{start-within, end-within, raw-length, skip-read, part-read}
+use Rattle.ops.proofs.Trimmed.{start-within, end-within, skip-read, part-read}
 use borrow.Author.Needs.{needs}
 use Rattle.ops.proofs.line.read_line.Statement.{statement}
 use Rattle.ops.proofs.line.read_line.Tie as tie
@@ -68,7 +69,7 @@ add-read-operand c =
     let n = rest-within (now (last .result)) _ _ (sym (c .before .before .before .part .ensures) ∙ g .1) in
     let h = start-within raw (now (first .result)) (now (last .result)) (first .ensures .text) (last .ensures .text) in
     let k = end-within raw (now (first .result)) (now (last .result)) (first .ensures .text) (last .ensures .text) in
-    let w = raw-length (now (a .text)) (a .start) (a .end) (c .before .before .before .before .before .before .before .before .before .before .pre .0) (c .before .before .before .before .before .before .before .before .before .before .pre .1) in
+    let w = length-part (now (a .text)) (a .start) (a .end) (c .before .before .before .before .before .before .before .before .before .before .pre .0) (c .before .before .before .before .before .before .before .before .before .before .pre .1) in
     let e = c .before .before .before .before .before .before .before .before .before .before .pre .1 in
     let z = c .before .before .before .before .before .before .before .before .before .before .good .0 .0 in
     record { fits = omega arith }
@@ -83,7 +84,7 @@ read-operand-requires c κs =
     let n = rest-within (now (last .result)) _ _ (sym (c .before .before .before .part .ensures) ∙ g .1) in
     let h = start-within raw (now (first .result)) (now (last .result)) (first .ensures .text) (last .ensures .text) in
     let k = end-within raw (now (first .result)) (now (last .result)) (first .ensures .text) (last .ensures .text) in
-    let w = raw-length (now (a .text)) (a .start) (a .end) (c .before .before .before .before .before .before .before .before .before .before .pre .0) (c .before .before .before .before .before .before .before .before .before .before .pre .1) in
+    let w = length-part (now (a .text)) (a .start) (a .end) (c .before .before .before .before .before .before .before .before .before .before .pre .0) (c .before .before .before .before .before .before .before .before .before .before .pre .1) in
     let e = c .before .before .before .before .before .before .before .before .before .before .pre .1 in
     let z = c .before .before .before .before .before .before .before .before .before .before .good .0 .0 in
     (n, omega arith)

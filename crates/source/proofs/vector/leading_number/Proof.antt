@@ -2,7 +2,8 @@
 use mathlib.Core.Path.{_≡_, sym, ap, _∙_}
 use lib.ListN.{length}
 use denote.Ref.{now}
-use Rattle.decimal.specs.Decimal.{digits}
+use Rattle.base.specs.Lists.{takeWhile}
+use Rattle.decimal.specs.Decimal.{digit}
 use Rattle.decimal.specs.declared.Digits.{Digits}
 use Rattle.source.specs.Vector.{ofDigits}
 use Rattle.source.proofs.Numbers.{asKeyValue, no-digit, some-digits}
@@ -13,16 +14,16 @@ use Rattle.source.proofs.vector.leading_number.Tie as tie
 digits-at-requires : tie.Need-digits-at-requires
 digits-at-requires c κs = search needs
 
-len-is : (c : tie.After-digits-at) → c .digits-at .result .len ≡ length (digits (now (c .before .before .args .text)))
+len-is : (c : tie.After-digits-at) → c .digits-at .result .len ≡ length (takeWhile digit (now (c .before .before .args .text)))
 len-is c = ap (λ (d : Digits). d .len) (c .digits-at .ensures)
 
-number-is : (c : tie.Else1) → ofDigits (digits (now (c .before .before .before .before .args .text))) ≡ asKeyValue (c .before .before .digits-at .result .value)
+number-is : (c : tie.Else1) → ofDigits (takeWhile digit (now (c .before .before .before .before .args .text))) ≡ asKeyValue (c .before .before .digits-at .result .value)
 number-is c =
-    some-digits (digits (now (c .before .before .before .before .args .text))) (λ z. c .if1 .left (len-is (c .before .before) ∙ z))
+    some-digits (takeWhile digit (now (c .before .before .before .before .args .text))) (λ z. c .if1 .left (len-is (c .before .before) ∙ z))
     ∙ ap (λ (d : Digits). asKeyValue (d .value)) (sym (c .before .before .digits-at .ensures))
 
 returns : tie.Need-returns
-returns c = sym (no-digit (digits (now (c .before .before .before .before .args .text))) (sym (len-is (c .before .before)) ∙ c .if1 .taken))
+returns c = sym (no-digit (takeWhile digit (now (c .before .before .before .before .args .text))) (sym (len-is (c .before .before)) ∙ c .if1 .taken))
 
 enum-known-value : tie.Need-enum-known-value
 enum-known-value c = search needs
