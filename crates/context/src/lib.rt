@@ -4,8 +4,9 @@ ghost use mathlib.Core.Bool.{_&&_};
 ghost use Prim.Native.Nat.{_+_, _≤_};
 ghost use lib.ListN.{length, drop};
 ghost use Rattle.base.specs.Equal.{equal};
+ghost use Rattle.numbered.specs.Numbered.{Answered};
 ghost use Rattle.context.specs.Gate.{isHexDigit, allHexDigits, isNetwork, isGenesisId};
-ghost use Rattle.context.specs.Gate.{gateOf, contextErrorNumbered, gateNumbered, Gated};
+ghost use Rattle.context.specs.Gate.{gateOf, contextErrorNumbered, gateNumbered};
 use numbered::Numbered;
 use numbered::plain;
 
@@ -62,7 +63,8 @@ pub fn execution_gate(
     expected_protocol: &[u8],
     expected_vm: &[u8],
 ) -> Gate
-    ensures { λ r. ⌜ Gated (gateOf (now («chain_id» .entry)) (now («network_id» .entry)) (now («genesis_id» .entry))
+    ensures { λ r. ⌜ Answered gateNumbered
+        (gateOf (now («chain_id» .entry)) (now («network_id» .entry)) (now («genesis_id» .entry))
         (now («protocol_version» .entry)) (now («vm_version» .entry)) (now («computed_genesis_id» .entry))
         (now («expected_protocol» .entry)) (now («expected_vm» .entry)))
         r ⌝ }
