@@ -1,5 +1,4 @@
 -- Document 01's number of each refusal of a call, with the values that it carries.
-use mathlib.Core.Path.{_≡_}
 use mathlib.Core.List.{[], _∷_}
 use Rattle.numbered.specs.declared.Numbered.{Numbered}
 use Rattle.numbered.specs.Numbered.{plain, carrying}
@@ -27,8 +26,3 @@ refusalNumbered OutsideStorage = plain 51
 abbrev pub checkNumbered : Check → Numbered
 checkNumbered Passed = plain 0
 checkNumbered (Refused f) = refusalNumbered f
-
--- the answer r is c, and says its number
-pub record Checked (c r : Check) : Type 0 where
-  pub answer : r ≡ c
-  pub says : checkNumbered r ≡ checkNumbered c

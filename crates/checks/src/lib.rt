@@ -1,6 +1,7 @@
 // What is tested before a run: the lent buffers' lengths, and the verifier; and the refusals of a call, those of its run included.
 ghost use mathlib.Core.Path.{_≡_};
-ghost use Rattle.checks.specs.Numbers.{refusalNumbered, checkNumbered, Checked};
+ghost use Rattle.numbered.specs.Numbered.{Answered};
+ghost use Rattle.checks.specs.Numbers.{refusalNumbered, checkNumbered};
 ghost use Rattle.checks.specs.Verify.{buffersFit, verifyOf};
 
 mod operations;
@@ -87,7 +88,7 @@ pub fn buffers_fit(
 // Tests a program before it is run, and the used length of the storage that it would run on. It refuses with 34 of document 01 where kinds
 // and operands differ in length, then with the first of 41 to 45 that applies; 44 and 45 go by the position of the operation.
 pub fn verify(kinds: &[u8], operands: &[u64], used: usize) -> Check
-    ensures { λ r. ⌜ Checked (verifyOf (now (kinds .entry)) (now (operands .entry)) used) r ⌝ }
+    ensures { λ r. ⌜ Answered checkNumbered (verifyOf (now (kinds .entry)) (now (operands .entry)) used) r ⌝ }
 {
     let size = kinds.len();
     if size != operands.len() {

@@ -5,6 +5,7 @@ use mathlib.Core.Path.{_≡_, sym, ap, subst, _∙_}
 use mathlib.Core.List.{[], _∷_}
 use lib.ListN.{length}
 use Rattle.numbered.specs.Numbered.{carrying}
+use Rattle.numbered.proofs.Told.{word-told}
 use Rattle.ops.specs.declared.ParsedOps.the-variants.{Read}
 use Rattle.base.specs.Outcome.{is, refused}
 use Rattle.ops.specs.Ops.{Reading, answerOf, opsOf}
@@ -12,7 +13,6 @@ use Rattle.ops.specs.Numbers.{parsedOpsNumbered}
 use Rattle.perform.specs.declared.Answer.{Answer}
 use Rattle.perform.specs.Numbers.{answerNumbered}
 use Rattle.perform.specs.Run as Run
-use Rattle.contract.proofs.Answers.{word-told}
 use Rattle.correctness.specs.Call.{Compilation, Left, readingOf, withProgram}
 use Rattle.correctness.specs.Statement.{Found, Hypotheses, Statement, foundBy, foundIn}
 use Rattle.correctness.proofs.CompileStatement.{compile-statement}

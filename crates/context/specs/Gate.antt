@@ -1,6 +1,5 @@
 -- The chain gate: refusals 35 to 40 of document 01, in its order.
 use Prim.Native.Nat.{ℕ}
-use mathlib.Core.Path.{_≡_}
 use mathlib.Core.List.{List}
 use mathlib.Core.Bool.{Bool, _&&_, _||_}
 use lib.Dec.{eqb}
@@ -49,8 +48,3 @@ contextErrorNumbered GenesisMismatch = plain 40
 abbrev pub gateNumbered : Gate → Numbered
 gateNumbered Passed = plain 0
 gateNumbered (Refused e) = contextErrorNumbered e
-
--- the answer r is g, and says its number
-pub record Gated (g r : Gate) : Type 0 where
-  pub answer : r ≡ g
-  pub says : gateNumbered r ≡ gateNumbered g

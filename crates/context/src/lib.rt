@@ -4,9 +4,10 @@ ghost use Prim.Native.Nat.{_+_, _≤_};
 ghost use lib.ListN.{length, drop};
 ghost use Rattle.base.specs.Equal.{equal};
 ghost use Rattle.base.specs.Code.Skips.{SkipsIf};
-ghost use Rattle.context.specs.Gate.{isHexDigit, isNetwork, isGenesisId};
+ghost use Rattle.context.specs.Gate.{isHexDigit, isNetwork, isGenesisId, gateOf, contextErrorNumbered, gateNumbered};
 ghost use Rattle.base.specs.Lists.{all};
-ghost use Rattle.context.specs.Gate.{gateOf, contextErrorNumbered, gateNumbered, Gated};
+ghost use Rattle.context.specs.Gate.{isHexDigit, isNetwork, isGenesisId, gateOf, contextErrorNumbered, gateNumbered};
+ghost use Rattle.numbered.specs.Numbered.{Answered};
 use numbered::Numbered;
 use numbered::plain;
 
@@ -67,7 +68,8 @@ pub fn execution_gate(
     expected_protocol: &[u8],
     expected_vm: &[u8],
 ) -> Gate
-    ensures { λ r. ⌜ Gated (gateOf (now («chain_id» .entry)) (now («network_id» .entry)) (now («genesis_id» .entry))
+    ensures { λ r. ⌜ Answered gateNumbered
+        (gateOf (now («chain_id» .entry)) (now («network_id» .entry)) (now («genesis_id» .entry))
         (now («protocol_version» .entry)) (now («vm_version» .entry)) (now («computed_genesis_id» .entry))
         (now («expected_protocol» .entry)) (now («expected_vm» .entry)))
         r ⌝ }

@@ -5,11 +5,12 @@ use mathlib.Core.List.{List, [], _∷_}
 use mathlib.Core.Bool.{true, false}
 use native.Mathlib.Omega.{arith}
 use lib.Dec.{eqb, leb}
-use lib.ListN.{length, getD}
+use lib.ListN.{length}
 use Rattle.base.proofs.Tests.{by-bool, never}
 use Rattle.numbered.specs.declared.Numbered.{Numbered}
 use Rattle.numbered.specs.Numbered.{plain, carrying}
 use Rattle.base.specs.Outcome.{Outcome, is, refused}
+use Rattle.numbered.proofs.Told.{word-told}
 use Rattle.source.specs.declared.function.FunctionError.the-variants.{NoFunction, NoParameters, UnclosedParameters, NoBody, UnclosedBody}
 use Rattle.source.specs.declared.vector.KeyError.the-variants.{NoKey, NoColon, NoDigit, TooLarge}
 use Rattle.expression.specs.declared.ExprError.the-variants.{InvalidCharacter, UnexpectedEnd, UnbalancedParenthesis, InvalidLiteral, UnknownIdentifier, TooDeep, UnconsumedTokens}
@@ -20,10 +21,6 @@ use Rattle.contract.specs.Numbers.{refusalNumbered}
 use Rattle.contract.specs.Assembled.{assembledTree}
 use Rattle.contract.specs.Output.{Assembly, stemFits, output, nothing, written, named, assembled}
 use Rattle.contract.proofs.Accepted.{rejected-is}
-
--- values are told by their words
-pub word-told : {m n : Numbered} (i : ℕ) → m ≡ n → getD (m .words) i 0 ≡ getD (n .words) i 0
-word-told i e = ap (λ (x : Numbered). getD (x .words) i 0) e
 
 -- no refusal has the number 0
 pub never-0 : (why : Refusal) → eqb (refusalNumbered why .number) 0 ≡ false

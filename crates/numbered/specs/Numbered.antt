@@ -1,5 +1,6 @@
 -- A number of document 01 with the values that its entry names, as the first of eight words.
 use Prim.Native.Nat.{ℕ, _-_}
+use mathlib.Core.Path.{_≡_}
 use mathlib.Core.List.{List, [], _∷_, _++_}
 use lib.ListN.{length, replicate}
 use Rattle.numbered.specs.declared.Numbered.{Numbered}
@@ -17,3 +18,8 @@ plain number = carrying number []
 -- with the place of a key, or the number of a line
 abbrev pub located : Numbered → ℕ → Numbered
 located n place = carrying (n .number) (place ∷ [])
+
+-- the answer r is the one expected, and says its number and values
+pub record Answered {A : Type 0} (numbered : A → Numbered) (expected r : A) : Type 0 where
+  pub answer : r ≡ expected
+  pub says : numbered r ≡ numbered expected

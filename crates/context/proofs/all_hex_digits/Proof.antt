@@ -42,13 +42,13 @@ loop-again : tie.Need-loop-again Inv-loop μ-loop
 loop-again c =
     let a = c .before .before .before .before .before .before .args in
     let l = c .before .before .before .before .loop in
-    let r = c .both .ensures ∙ ap (λ p. l .so && p) (c .before .is-hex-digit .ensures) in
-    (omega arith, skips-if-more (λ i. all isHexDigit (drop i (a .s .now))) 0 (l .i) (l .so) _ (c .both .result) (l .inv .1) (hex-next (a .s .now) (l .i) (omega arith)) r)
+    let r = c .both .ensures ∙ ap (λ p. l .all && p) (c .before .is-hex-digit .ensures) in
+    (omega arith, skips-if-more (λ i. all isHexDigit (drop i (a .s .now))) 0 (l .i) (l .all) _ (c .both .result) (l .inv .1) (hex-next (a .s .now) (l .i) (omega arith)) r)
 
 returns : tie.Need-returns Inv-loop μ-loop
 returns c =
     let l = c .before .loop in
-    sym (l .inv .1 ∙ ap (λ p. l .so && p) (all-end isHexDigit _ _ (c .loop-test .left)) ∙ and-true (l .so))
+    sym (l .inv .1 ∙ ap (λ p. l .all && p) (all-end isHexDigit _ _ (c .loop-test .left)) ∙ and-true (l .all))
 
 pub all-hex-digits-spec : {M : Type 1} → statement M
 all-hex-digits-spec =
