@@ -14,7 +14,6 @@ use Rattle.contract.specs.Numbers.{refusalNumbered}
 use Rattle.contract.specs.Output.{Assembly, assembled}
 use Rattle.contract.proofs.Answers.{tells, never-0, no-text}
 use Rattle.assembler.specs.declared.Answer.{Answer}
-use Rattle.numbered.specs.declared.Numbered.{Numbered}
 use Rattle.base.specs.Outcome.{Outcome, is, refused}
 use Rattle.assembler.specs.declared.Answer.the-variants.{Success, Refused}
 use Rattle.assembler.specs.Answers.{answerNumbered, Assembles}

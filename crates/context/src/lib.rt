@@ -6,7 +6,6 @@ ghost use Rattle.base.specs.Equal.{equal};
 ghost use Rattle.base.specs.Code.Skips.{SkipsIf};
 ghost use Rattle.context.specs.Gate.{isHexDigit, isNetwork, isGenesisId, gateOf, contextErrorNumbered, gateNumbered};
 ghost use Rattle.base.specs.Lists.{all};
-ghost use Rattle.context.specs.Gate.{isHexDigit, isNetwork, isGenesisId, gateOf, contextErrorNumbered, gateNumbered};
 ghost use Rattle.numbered.specs.Numbered.{Answered};
 use numbered::Numbered;
 use numbered::plain;

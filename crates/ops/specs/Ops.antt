@@ -12,7 +12,7 @@ use Rattle.utf8.specs.Utf8.{utf8}
 use Rattle.lines.specs.Lines.{lines}
 use Rattle.lines.specs.Cursor.{span}
 use Rattle.trim.specs.Trim.{trimmed, passed}
-use Rattle.kinds.specs.Kinds.{Operation, operation}
+use Rattle.kinds.specs.Kinds.{operation}
 use Rattle.ops.specs.Line.{Rule, fromStr, lineOf}
 use Rattle.ops.specs.Numbers.{parsedOpsNumbered}
 use Rattle.ops.specs.declared.OpsError.{OpsError}

@@ -6,9 +6,9 @@ use mathlib.Core.Bool.{true, false}
 use borrow.Author.Tests.{eq-eqb, ne-eqb}
 use native.Mathlib.Omega.{arith}
 use lib.Dec.{eqb}
-use lib.ListN.{length, getD, drop, length-append, length-drop, List·getD-append}
+use lib.ListN.{length, getD, drop, drop-of-length-le, length-append, length-drop, List·getD-append}
 use lib.Seq.{getD-drop}
-use Rattle.base.proofs.Tests.{by-bool, by-eqb, never}
+use Rattle.base.proofs.Tests.{by-bool, by-leb, by-eqb, never}
 use Rattle.base.proofs.Parts.{next}
 use Rattle.search.specs.First.{prefixOf}
 
@@ -80,3 +80,9 @@ module _ (b : ℕ) (s : List ℕ) (i : ℕ) where
 
   pub byte-no : i < length s → (getD s i 0 ≡ b → ⊥) → prefixOf (b ∷ []) (drop i s) ≡ false
   byte-no h n = other-at (b ∷ []) s 0 i (i + 1) (omega arith) h refl (λ e. n (sym e))
+
+  pub byte-at : prefixOf (b ∷ []) (drop i s) ≡ true → (i < length s) × (getD s i 0 ≡ b)
+  byte-at e =
+      by-leb (length s) i
+      (λ h. never (ap (prefixOf (b ∷ [])) (sym (drop-of-length-le s h)) ∙ e))
+      (λ h. (h, by-eqb (getD s i 0) b (λ q. q) (λ q. never (sym (byte-no h q) ∙ e))))
