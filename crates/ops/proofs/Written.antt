@@ -17,7 +17,7 @@ use Rattle.decimal.proofs.Laws.{decimal-digits, length-positive, round-trip}
 use Rattle.kinds.specs.Kinds.{kindOf, Operation, operation}
 use Rattle.ops.specs.Kinds.{follows}
 use Rattle.ops.specs.Line.{Rule, fromStr, ReadsDigits, lineOf}
-use Rattle.ops.specs.Ops.{startOf, thenRead, readLines, notEmpty, readBy, readText}
+use Rattle.ops.specs.Ops.{Reading, startOf, thenRead, readLines, notEmpty, readBy, readText}
 use Rattle.ops.specs.Written.{shown, written, writtenAll, remark, remarks, cleared, IsOperation, IsRemark, Each, none, one}
 use Rattle.ops.specs.declared.line.LineRead.the-variants.{Op}
 use Rattle.ops.specs.declared.OpsError.the-variants.{NotUtf8}
