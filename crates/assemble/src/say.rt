@@ -4,7 +4,7 @@ ghost use lib.ListN.{length};
 ghost use Rattle.contract.specs.Output.{assembled};
 ghost use Rattle.assemble.specs.Streams.{Says};
 use crate::message::message;
-use assembler::Answer;
+use assembler::AssemblyAnswer;
 
 // How many bytes of a buffer are ops text for standard output, or a message for standard error.
 pub enum Said {
@@ -20,12 +20,12 @@ pub fn say(contract: &[u8], vector: &[u8], stem: &[u8], out: &mut [u8]) -> Said
 {
     let answer = assembler::assemble(contract, vector, stem, out);
     match answer {
-        Answer::Refused(why) => {
+        AssemblyAnswer::Refused(why) => {
             let refusal = why.numbered();
             let words = refusal.words;
             Said::Message(message(refusal.number, words[0], out))
         }
-        Answer::Success {
+        AssemblyAnswer::Success {
             written,
             k: _,
             p: _,

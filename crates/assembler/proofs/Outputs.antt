@@ -7,38 +7,38 @@ use mathlib.Core.Option.{some}
 use native.Mathlib.Omega.{arith}
 use borrow.Author.Tests.{le-leb, lt-leb}
 use lib.ListN.{length, take, drop, length-append}
-use Rattle.base.proofs.Parts.{middle}
+use Rattle.base.proofs.Parts.{take-drop-slice}
 use Rattle.decimal.specs.Decimal.{decimal}
 use Rattle.base.specs.Ascii.{ascii}
 use Rattle.base.specs.Overwrite.{overwrite}
 use Rattle.expression.specs.Tree.{Tree}
 use Rattle.expression.specs.Code.Lengths.{lenOf}
 use Rattle.expression.specs.Parse.{meaning}
-use Rattle.expression.specs.Code.Source.{sources, treeIn, envOf}
-use Rattle.expression.specs.Written.{opsOf}
+use Rattle.expression.specs.Code.Source.{sources, treeOr0, envOf}
+use Rattle.expression.specs.Written.{treeOps}
 use Rattle.expression.specs.Code.Texts.{textOf}
 use Rattle.expression.proofs.Written.{written-append, text-length}
 use Rattle.writer.specs.Code.Overwrites.{Overwrites}
 use Rattle.writer.proofs.Pieces.{overwrites-then}
-use Rattle.emission.specs.Code.Emitted.{treeBetween, Means}
-use Rattle.contract.specs.declared.assembly.Assembly as Code
-use Rattle.contract.specs.declared.state.Last.{Last}
-use Rattle.contract.specs.declared.state.Last.the-variants.{Is, Nothing}
+use Rattle.emission.specs.Code.Emitted.{treeBetween, MeansTree}
+use Rattle.contract.specs.declared.check.CheckedContract as Code
+use Rattle.contract.specs.declared.state.LastReturned.{LastReturned}
+use Rattle.contract.specs.declared.state.LastReturned.the-variants.{Is, Nothing}
 use Rattle.contract.specs.declared.state.Returned.{Returned}
 use Rattle.contract.specs.declared.state.Status.{Status}
 use Rattle.contract.specs.declared.state.Status.the-variants as Status
 use Rattle.contract.specs.declared.state.Status.the-variants.{Going}
-use Rattle.contract.specs.declared.refusal.Refusal.{Refusal}
-use Rattle.contract.specs.declared.refusal.Refusal.the-variants.{BadStem, OutputTooLong}
+use Rattle.contract.specs.declared.refusal.AssembleError.{AssembleError}
+use Rattle.contract.specs.declared.refusal.AssembleError.the-variants.{BadStem, OutputTooLong}
 use Rattle.contract.specs.Part.{part}
 use Rattle.contract.specs.Assembled.{assembledTree}
 use Rattle.numbered.specs.declared.Numbered.{Numbered}
 use Rattle.base.specs.Outcome.{Outcome, is}
 use Rattle.contract.specs.Code.Held.{LastIs, ReturnIs}
 use Rattle.contract.specs.Code.Concluded.{Accepts, ConcludesBy, Concludes}
-use Rattle.contract.specs.Output.{stemFits, header, output, named, assembled}
-use Rattle.assembler.specs.declared.Answer.{Answer}
-use Rattle.assembler.specs.declared.Answer.the-variants.{Success, Refused}
+use Rattle.contract.specs.Output.{stemFits, header, output, withStem, assembled}
+use Rattle.assembler.specs.declared.AssemblyAnswer.{AssemblyAnswer}
+use Rattle.assembler.specs.declared.AssemblyAnswer.the-variants.{Success, Refused}
 use Rattle.assembler.specs.Answers.{Assembles}
 
 pub header-length : (stem : List ℕ) (e : ℕ) → length (header stem e) ≡ 26 + length stem + length (decimal e)
@@ -65,50 +65,50 @@ haltLine = ascii "Halt\n"
 output-text : (stem : List ℕ) (e : ℕ) (t : Tree) → output stem e t ≡ (header stem e ++ textOf t) ++ haltLine
 unfolding output
 output-text stem e t =
-    ap (λ (x : List ℕ). header stem e ++ x) (written-append (opsOf t) (record { kind = 15; operand = 0 } ∷ []))
+    ap (λ (x : List ℕ). header stem e ++ x) (written-append (treeOps t) (record { kind = 15; operand = 0 } ∷ []))
     ∙ sym (append-assoc (header stem e) (textOf t) haltLine)
 
 pub output-length : (stem : List ℕ) (e : ℕ) (t : Tree) → length (output stem e t) ≡ length (header stem e) + lenOf t + 5
 output-length stem e t = omega (arith, ap length (output-text stem e t), length-append (header stem e ++ textOf t) haltLine, length-append (header stem e) (textOf t), text-length t)
 
 -- what is concluded of the contract, by the status
-pub is-going : {s vector : List ℕ} {o : Outcome Numbered (ℕ × Tree)} {a : Code.Assembly} → Concludes s vector o a → a .state .status ≡ Going → Accepts s vector o a
+pub is-going : {s vector : List ℕ} {o : Outcome Numbered (ℕ × Tree)} {a : Code.CheckedContract} → Concludes s vector o a → a .state .status ≡ Going → Accepts s vector o a
 is-going {s} {vector} {o} {a} c e = subst (λ (x : Status). ConcludesBy x s vector o a) e (c .by)
 
-pub is-refused : {s vector : List ℕ} {o : Outcome Numbered (ℕ × Tree)} {a : Code.Assembly} {why : Refusal} → Concludes s vector o a → a .state .status ≡ Status.Refused why → (stem out : List ℕ) → Assembles (named o stem (length out)) out out (Refused why)
+pub is-refused : {s vector : List ℕ} {o : Outcome Numbered (ℕ × Tree)} {a : Code.CheckedContract} {why : AssembleError} → Concludes s vector o a → a .state .status ≡ Status.Refused why → (stem out : List ℕ) → Assembles (withStem o stem (length out)) out out (Refused why)
 is-refused {s} {vector} {o} {a} c e stem out =
     let q = subst (λ (x : Status). ConcludesBy x s vector o a) e (c .by) .0 in
     rw q (record { answer = refl; buffer = refl })
 
-pub as-assembled : (contract vector stem : List ℕ) {out after : List ℕ} {r : Answer} → Assembles (named (assembledTree contract vector) stem (length out)) out after r → Assembles (assembled contract vector stem (length out)) out after r
+pub as-assembled : (contract vector stem : List ℕ) {out after : List ℕ} {r : AssemblyAnswer} → Assembles (withStem (assembledTree contract vector) stem (length out)) out after r → Assembles (assembled contract vector stem (length out)) out after r
 unfolding assembled
 as-assembled contract vector stem x = x
 
 -- the stem does not fit
-pub stem-refused : {s vector : List ℕ} {o : Outcome Numbered (ℕ × Tree)} {a : Code.Assembly} (stem out : List ℕ) → Accepts s vector o a → stemFits stem ≡ false → Assembles (named o stem (length out)) out out (Refused BadStem)
+pub stem-refused : {s vector : List ℕ} {o : Outcome Numbered (ℕ × Tree)} {a : Code.CheckedContract} (stem out : List ℕ) → Accepts s vector o a → stemFits stem ≡ false → Assembles (withStem o stem (length out)) out out (Refused BadStem)
 stem-refused stem out acc f = rw (acc .accepts) (simp f (record { answer = refl; buffer = refl }))
 
-module _ {s vector : List ℕ} {o : Outcome Numbered (ℕ × Tree)} {a : Code.Assembly} (acc : Accepts s vector o a) {last : Last} (q : a .state .last ≡ last) where
+module _ {s vector : List ℕ} {o : Outcome Numbered (ℕ × Tree)} {a : Code.CheckedContract} (acc : Accepts s vector o a) {last : LastReturned} (q : a .state .last ≡ last) where
   returned-as : LastIs s (a .state .table) (a .state .values) last (some (acc .t))
-  returned-as = subst (λ (x : Last). LastIs s (a .state .table) (a .state .values) x (some (acc .t))) q (acc .returned)
+  returned-as = subst (λ (x : LastReturned). LastIs s (a .state .table) (a .state .values) x (some (acc .t))) q (acc .returned)
 
-pub no-return : {s vector : List ℕ} {o : Outcome Numbered (ℕ × Tree)} {a : Code.Assembly} → Accepts s vector o a → a .state .last ≡ Nothing → ⊥
+pub no-return : {s vector : List ℕ} {o : Outcome Numbered (ℕ × Tree)} {a : Code.CheckedContract} → Accepts s vector o a → a .state .last ≡ Nothing → ⊥
 no-return acc q = returned-as acc q
 
-module _ {s vector : List ℕ} {o : Outcome Numbered (ℕ × Tree)} {a : Code.Assembly} (acc : Accepts s vector o a) {l : Returned} (q : a .state .last ≡ Is l) where
+module _ {s vector : List ℕ} {o : Outcome Numbered (ℕ × Tree)} {a : Code.CheckedContract} (acc : Accepts s vector o a) {l : Returned} (q : a .state .last ≡ Is l) where
   returned : ReturnIs s (a .state .table) (a .state .values) l (acc .t)
   returned = returned-as acc q
 
   between : part s (l .start) (l .end) ≡ drop (l .start) (take (l .end) s)
-  between = middle s (l .start) (l .end) (returned .ordered) (returned .inside)
+  between = take-drop-slice s (l .start) (l .end) (returned .ordered) (returned .inside)
 
   is-tree : meaning (envOf s (sources (a .state .table) (a .state .values)) (l .count)) (drop (l .start) (take (l .end) s)) ≡ is (acc .t)
   is-tree = ap (meaning (envOf s (sources (a .state .table) (a .state .values)) (l .count))) (sym between) ∙ returned .means
 
   same-tree : treeBetween s (sources (a .state .table) (a .state .values)) (l .count) (l .start) (l .end) ≡ acc .t
-  same-tree = ap treeIn is-tree
+  same-tree = ap treeOr0 is-tree
 
-  pub means : Means s (sources (a .state .table) (a .state .values)) (l .count) (l .start) (l .end)
+  pub means : MeansTree s (sources (a .state .table) (a .state .values)) (l .count) (l .start) (l .end)
   means = record {
     few = omega (arith, returned .few, acc .reached .represents .holds .room);
     stand = λ i h. acc .reached .represents .stand i (omega (arith, returned .few));
@@ -123,7 +123,7 @@ module _ {s vector : List ℕ} {o : Outcome Numbered (ℕ × Tree)} {a : Code.As
     size : length (output stem (a .expected) (acc .t)) ≡ length (header stem (a .expected)) + l .read .len + 5
     size = omega (arith, output-length stem (a .expected) (acc .t), returned .figures .len)
 
-    pub no-room : length out < length (header stem (a .expected)) + l .read .len + 5 → Assembles (named o stem (length out)) out out (Refused OutputTooLong)
+    pub no-room : length out < length (header stem (a .expected)) + l .read .len + 5 → Assembles (withStem o stem (length out)) out out (Refused OutputTooLong)
     no-room h =
         let b = lt-leb (length (output stem (a .expected) (acc .t))) (length out) (omega (arith, size)) in
         rw (acc .accepts) (simp (f, b) (record { answer = refl; buffer = refl }))
@@ -132,7 +132,7 @@ module _ {s vector : List ℕ} {o : Outcome Numbered (ℕ × Tree)} {a : Code.As
         → {mid after : List ℕ} {n w : ℕ}
         → Overwrites out 0 (header stem (a .expected) ++ textOf (treeBetween s (sources (a .state .table) (a .state .values)) (l .count) (l .start) (l .end))) mid n
         → Overwrites mid n haltLine after w
-        → Assembles (named o stem (length out)) out after (Success w (l .read .k) (l .read .p) (a .expected))
+        → Assembles (withStem o stem (length out)) out after (Success w (l .read .k) (l .read .p) (a .expected))
     written-whole h {mid} {after} {n} {w} p r =
         let b = le-leb (length (output stem (a .expected) (acc .t))) (length out) (omega (arith, size)) in
         let y = length-append (header stem (a .expected)) (textOf (treeBetween s (sources (a .state .table) (a .state .values)) (l .count) (l .start) (l .end))) in

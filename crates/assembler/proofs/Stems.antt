@@ -6,7 +6,7 @@ use mathlib.Core.Bool.{true, false}
 use native.Mathlib.Omega.{arith}
 use borrow.Author.Tests.{lt-ltb, le-ltb, le-leb, lt-leb, eq-eqb, ne-eqb}
 use lib.ListN.{length, getD, drop}
-use Rattle.base.proofs.Tests.{never, by-leb, by-eqb}
+use Rattle.base.proofs.Tests.{false-true, by-leb, by-eqb}
 use Rattle.base.specs.Lists.{isNot}
 use Rattle.base.proofs.Lists.{all-more, all-end}
 use Rattle.utf8.specs.Utf8.{utf8}
@@ -29,7 +29,7 @@ module _ (stem : List ℕ) (e : length stem ≡ 0 → ⊥) (h : length stem ≤ 
 pub stem-short : (stem : List ℕ) → stemFits stem ≡ true → length stem ≤ 255
 stem-short stem f =
     by-leb (length stem) 255 (λ h. h)
-    (λ h. by-eqb (length stem) 0 (λ e. omega arith) (λ e. never (stem-long stem e h ∙ f)))
+    (λ h. by-eqb (length stem) 0 (λ e. omega arith) (λ e. false-true (stem-long stem e h ∙ f)))
 
 -- from a place on, byte by byte
 module _ (s : List ℕ) (i : ℕ) where

@@ -2,14 +2,14 @@
 ghost use mathlib.Core.Path.{_≡_};
 ghost use lib.ListN.{length};
 ghost use Rattle.contract.specs.Output.{assembled};
-ghost use Rattle.assembler.specs.Answers.{answerNumbered, Assembles};
+ghost use Rattle.assembler.specs.Answers.{assemblyAnswerNumbered, Assembles};
 
 mod header;
 mod output;
 mod stem;
 
-use contract::assembly::checked;
-use contract::refusal::Refusal;
+use contract::check::check_contract;
+use contract::refusal::AssembleError;
 use contract::state::Status;
 use numbered::Numbered;
 use numbered::carrying_four;
@@ -17,28 +17,28 @@ use output::write_output;
 use stem::stem_fits;
 
 // A success has the bytes written, k, p and the value.
-pub enum Answer {
+pub enum AssemblyAnswer {
     Success {
         written: usize,
         k: u64,
         p: u64,
         value: u64,
     },
-    Refused(Refusal),
+    Refused(AssembleError),
 }
 
-impl Answer {
+impl AssemblyAnswer {
     pub fn numbered(self) -> Numbered
-        ensures { λ r. ⌜ r ≡ answerNumbered self ⌝ }
+        ensures { λ r. ⌜ r ≡ assemblyAnswerNumbered self ⌝ }
     {
         match self {
-            Answer::Success {
+            AssemblyAnswer::Success {
                 written,
                 k,
                 p,
                 value,
             } => carrying_four(0, written as u64, k, p, value),
-            Answer::Refused(why) => why.numbered(),
+            AssemblyAnswer::Refused(why) => why.numbered(),
         }
     }
 }
@@ -46,17 +46,17 @@ impl Answer {
 // Assembles a contract with its vector: writes a header with the stem and the expected value, and the operations of the last return's
 // expression, at the start of `out`. It refuses with the first of document 01's 1 to 26 that applies, and then leaves `out` unchanged;
 // a success leaves unchanged what lies behind the text.
-pub fn assemble(contract: &[u8], vector: &[u8], stem: &[u8], out: &mut [u8]) -> Answer
+pub fn assemble(contract: &[u8], vector: &[u8], stem: &[u8], out: &mut [u8]) -> AssemblyAnswer
     ensures { λ r. ⌜ Assembles (assembled (now (contract .entry)) (now (vector .entry)) (now (stem .entry)) (length (now (out .entry)))) (now (out .entry)) (now (out .exit)) r ⌝ }
 {
-    let assembly = checked(contract, vector);
+    let assembly = check_contract(contract, vector);
     let state = assembly.state;
     let status = state.status;
     match status {
-        Status::Refused(why) => Answer::Refused(why),
+        Status::Refused(why) => AssemblyAnswer::Refused(why),
         Status::Going => {
             if !stem_fits(stem) {
-                return Answer::Refused(Refusal::BadStem);
+                return AssemblyAnswer::Refused(AssembleError::BadStem);
             }
             write_output(contract, stem, assembly, out)
         }

@@ -1,33 +1,38 @@
 // The output of an accepted contract: the header, the operations of the last return's tree, `Halt`.
 ghost use Rattle.assembler.specs.Code.Ready.{Ready, Writes};
-use crate::Answer;
+use crate::AssemblyAnswer;
 use crate::header::header_len;
 use crate::header::put_header;
-use contract::assembly::Assembly;
-use contract::refusal::Refusal;
-use contract::state::Last;
+use contract::check::CheckedContract;
+use contract::refusal::AssembleError;
+use contract::state::LastReturned;
 use emission::emit;
 use writer::put_bytes;
 
 // `assemble` calls it where `checked` accepts the contract and the stem fits (25).
-pub fn write_output(contract: &[u8], stem: &[u8], assembly: Assembly, out: &mut [u8]) -> Answer
+pub fn write_output(
+    contract: &[u8],
+    stem: &[u8],
+    assembly: CheckedContract,
+    out: &mut [u8],
+) -> AssemblyAnswer
     requires { ⌜ Ready (now contract) (now stem) assembly ⌝ }
     ensures { λ r. ⌜ Writes (now (contract .entry)) (now (stem .entry)) assembly (now (out .entry)) (now (out .exit)) r ⌝ }
 {
     let expected = assembly.expected;
     let state = assembly.state;
     let last = state.last;
-    let Last::Is(returned) = last else {
-        return Answer::Refused(Refusal::NoReturn);
+    let LastReturned::Is(returned) = last else {
+        return AssemblyAnswer::Refused(AssembleError::NoReturn);
     };
     let read = returned.read;
     let room = out.len();
     let frame = header_len(stem, expected) + 5;
     if room < frame {
-        return Answer::Refused(Refusal::OutputTooLong);
+        return AssemblyAnswer::Refused(AssembleError::OutputTooLong);
     }
     if ((room - frame) as u64) < read.len {
-        return Answer::Refused(Refusal::OutputTooLong);
+        return AssemblyAnswer::Refused(AssembleError::OutputTooLong);
     }
     let table = state.table;
     let values = state.values;
@@ -37,7 +42,7 @@ pub fn write_output(contract: &[u8], stem: &[u8], assembly: Assembly, out: &mut 
     let first = put_header(out, stem, expected);
     let halt = emit(contract, start, end, count, table, values, out, first);
     let written = put_bytes(out, halt, b"Halt\n");
-    Answer::Success {
+    AssemblyAnswer::Success {
         written,
         k: read.k,
         p: read.p,

@@ -9,8 +9,8 @@ use Rattle.numbered.specs.Numbered.{carrying}
 use Rattle.ops.specs.Ops.{readText, answerOf, opsOf, kindsOf, operandsOf, trimmedLine, trimmedPlace}
 use Rattle.ops.specs.Numbers.{parsedOpsNumbered}
 use Rattle.contract.specs.Output.{Assembly}
-use Rattle.perform.specs.Numbers.{answerNumbered}
-use Rattle.perform.specs.Run.{Result}
+use Rattle.perform.specs.Numbers.{runAnswerNumbered}
+use Rattle.perform.specs.Run.{RunResult}
 use Rattle.atc_vm.specs.Words.{Tells}
 
 pub record Assembled (a : Assembly) (out outAfter words : List ℕ) (r : ℕ) : Type 0 where
@@ -26,8 +26,8 @@ pub record Read (text kinds operands kindsAfter operandsAfter words : List ℕ) 
 abbrev pub placeNumbered : List ℕ → ℕ → Numbered
 placeNumbered text line = carrying 0 (trimmedPlace text line ∷ length (trimmedLine text line) ∷ [])
 
-pub record Ran (t : Result) (stack work storage words : List ℕ) (r : ℕ) : Type 0 where
-  pub tells : Tells (answerNumbered (t .answer)) words r
+pub record Ran (t : RunResult) (stack work storage words : List ℕ) (r : ℕ) : Type 0 where
+  pub tells : Tells (runAnswerNumbered (t .answer)) words r
   pub stackLeft : stack ≡ t .stack
   pub workLeft : work ≡ t .work
   pub storageLeft : storage ≡ t .storage

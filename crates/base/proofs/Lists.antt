@@ -6,8 +6,8 @@ use mathlib.Core.Bool.{Bool, true, false, _&&_, and-assoc}
 use native.Mathlib.Omega.{arith}
 use lib.ListN.{length, getD, take, drop, take-append-drop, drop-of-length-le, List·getD-eq-default}
 use Rattle.base.specs.Lists.{all, takeWhile}
-use Rattle.base.proofs.Tests.{never, by-bool, by-leb, and-left, and-right, and-both}
-use Rattle.base.proofs.Parts.{next}
+use Rattle.base.proofs.Tests.{false-true, by-bool, by-leb, and-left, and-right, and-both}
+use Rattle.base.proofs.Parts.{drop-cons-at}
 
 -- tests that say the same, and one that says more
 pub takeWhile-same : (p q : ℕ → Bool) → ((a : ℕ) → p a ≡ q a) → (s : List ℕ) → takeWhile p s ≡ takeWhile q s
@@ -84,19 +84,19 @@ module _ (test : ℕ → Bool) where
 -- from a place on, one element more or none
 module _ (test : ℕ → Bool) (s : List ℕ) (i : ℕ) where
   pub all-more : i < length s → all test (drop i s) ≡ (test (getD s i 0) && all test (drop (i + 1) s))
-  all-more h = ap (all test) (next s i (i + 1) h refl)
+  all-more h = ap (all test) (drop-cons-at s i (i + 1) h refl)
 
   pub all-end : length s ≤ i → all test (drop i s) ≡ true
   all-end h = ap (all test) (drop-of-length-le s h)
 
   pub takeWhile-more : i < length s → test (getD s i 0) ≡ true → takeWhile test (drop i s) ≡ getD s i 0 ∷ takeWhile test (drop (i + 1) s)
-  takeWhile-more h e = rw (next s i (i + 1) h refl) (simp e)
+  takeWhile-more h e = rw (drop-cons-at s i (i + 1) h refl) (simp e)
 
   pub takeWhile-none : test (getD s i 0) ≡ false → takeWhile test (drop i s) ≡ []
   takeWhile-none e =
       by-leb (length s) i
       (λ h. ap (takeWhile test) (drop-of-length-le s h))
-      (λ h. rw (next s i (i + 1) h refl) (simp e))
+      (λ h. rw (drop-cons-at s i (i + 1) h refl) (simp e))
 
 -- where the elements that pass end, from a place on; past the list's end a place reads 0
 abbrev pub endFrom : (ℕ → Bool) → List ℕ → ℕ → ℕ
@@ -104,7 +104,7 @@ endFrom test s i = i + length (takeWhile test (drop i s))
 
 module _ (test : ℕ → Bool) (past : test 0 ≡ false) (s : List ℕ) (i : ℕ) where
   pub passes-inside : test (getD s i 0) ≡ true → i < length s
-  passes-inside e = by-leb (length s) i (λ h. never (sym (ap test (List·getD-eq-default s 0 h) ∙ past) ∙ e)) (λ h. h)
+  passes-inside e = by-leb (length s) i (λ h. false-true (sym (ap test (List·getD-eq-default s 0 h) ∙ past) ∙ e)) (λ h. h)
 
   pub end-more : test (getD s i 0) ≡ true → endFrom test s i ≡ endFrom test s (i + 1)
   end-more e = omega (arith, ap length (takeWhile-more test s i (passes-inside e) e))

@@ -7,7 +7,7 @@ use native.Mathlib.Numerals.{add-one}
 use lib.ListN.{length, take, drop, set, length-append, length-drop, length-set, take-append-drop, drop-of-length-le}
 use lib.Seq.{slice, append-snoc, length-take-le, take-at, drop-at, take-take, drop-drop, drop-append-add, set-split, take-set-le, drop-set-lt, getD-set-same}
 use Rattle.base.specs.Overwrite.{overwrite}
-use Rattle.base.proofs.Parts.{next}
+use Rattle.base.proofs.Parts.{drop-cons-at}
 
 pub overwrite-none : (at : ℕ) (buffer : List ℕ) → overwrite at [] buffer ≡ buffer
 overwrite-none at buffer = ap (λ (l : List ℕ). l ++ drop at buffer) (append-nil (take at buffer)) ∙ take-append-drop at buffer
@@ -25,7 +25,7 @@ overwrite-last at bytes b buffer h =
     let k = at + length bytes in
     let n : at + length (bytes ++ b ∷ []) ≡ k + 1 = omega (arith, length-append bytes (b ∷ [])) in
     let tail : drop k (set buffer k b) ≡ b ∷ drop (k + 1) buffer =
-    next (set buffer k b) k (k + 1) (simp length-set h) refl
+    drop-cons-at (set buffer k b) k (k + 1) (simp length-set h) refl
     ∙ ap (λ (a : ℕ). a ∷ drop (k + 1) (set buffer k b)) (getD-set-same buffer k b 0 h)
     ∙ ap (λ (l : List ℕ). b ∷ l) (drop-set-lt (k + 1) buffer k b (omega arith)) in
     let e = drop-drop (length (bytes ++ b ∷ [])) at buffer in

@@ -4,7 +4,7 @@ use native.Mathlib.Nat.{le-trans}
 use native.Mathlib.Omega.{arith}
 use mathlib.Core.Path.{_≡_, refl, sym, ap, _∙_}
 use mathlib.Core.Bool.{Bool, true, false, _&&_, _||_}
-use Rattle.base.proofs.Tests.{never, and-left, and-right, by-leb}
+use Rattle.base.proofs.Tests.{false-true, and-left, and-right, by-leb}
 use Rattle.base.specs.Code.Skips.{Skips, SkipsTo, SkipsIf, AllFrom}
 
 module _ (P : ℕ → Type 0) (at : ℕ) where
@@ -14,7 +14,7 @@ module _ (P : ℕ → Type 0) (at : ℕ) where
 
   -- one more, by a test joined with those before it
   pub either-more : (n : ℕ) (hit t : Bool) → (hit ≡ false → AllFrom at n P) → (t ≡ false → P (at + n)) → (hit || t) ≡ false → AllFrom at (n + 1) P
-  either-more n true t a p e = never (sym e)
+  either-more n true t a p e = false-true (sym e)
   either-more n false t a p e = all-more n (a refl) (p e)
 
   pub both-more : (n : ℕ) (all t : Bool) → (all ≡ true → AllFrom at n P) → (t ≡ true → P (at + n)) → (all && t) ≡ true → AllFrom at (n + 1) P

@@ -7,8 +7,8 @@ use native.Mathlib.Omega.{arith}
 use lib.Dec.{leb, eqb}
 use Rattle.base.specs.Range.{within}
 
-pub never : {P : Type 0} → false ≡ true → P
-never e = absurd (let z : _≡_ {A = ℕ} 0 1 = cc in omega arith)
+pub false-true : {P : Type 0} → false ≡ true → P
+false-true e = absurd (let z : _≡_ {A = ℕ} 0 1 = cc in omega arith)
 
 pub and-left : (p q : Bool) → (p && q) ≡ true → p ≡ true
 and-left true q e = refl
@@ -16,7 +16,7 @@ and-left false q e = e
 
 pub and-right : (p q : Bool) → (p && q) ≡ true → q ≡ true
 and-right true q e = e
-and-right false q e = never e
+and-right false q e = false-true e
 
 pub and-both : (p q : Bool) → p ≡ true → q ≡ true → (p && q) ≡ true
 and-both p q e f = rw e f
@@ -30,7 +30,7 @@ or-left true q e = e
 or-left false q e = refl
 
 pub or-right : (p q : Bool) → (p || q) ≡ false → q ≡ false
-or-right true q e = never (sym e)
+or-right true q e = false-true (sym e)
 or-right false q e = e
 
 pub or-by-left : (p q : Bool) → p ≡ true → (p || q) ≡ true
@@ -44,10 +44,10 @@ by-or true q e y n = y refl
 by-or false q e y n = n e
 
 -- two tests that say the same are one
-pub same : (p q : Bool) → (p ≡ true → q ≡ true) → (q ≡ true → p ≡ true) → p ≡ q
-same true q f g = sym (f refl)
-same false true f g = g refl
-same false false f g = refl
+pub bool-ext : (p q : Bool) → (p ≡ true → q ≡ true) → (q ≡ true → p ≡ true) → p ≡ q
+bool-ext true q f g = sym (f refl)
+bool-ext false true f g = g refl
+bool-ext false false f g = refl
 
 pub by-bool : {P : Type 0} (p : Bool) → (p ≡ true → P) → (p ≡ false → P) → P
 by-bool true y n = y refl

@@ -4,7 +4,7 @@ use mathlib.Core.Path.{_≡_}
 use mathlib.Core.List.{List}
 use denote.Ref.{RefT, ptr, now}
 
--- r is the part of s that starts at a place, and these are its bytes
+-- r is the part of s that starts at an offset, and these are its bytes
 pub record Part (s r : RefT (List ℕ)) (at : ℕ) (bytes : List ℕ) : Type 0 where
   pub text : now r ≡ bytes
   pub block : ptr r .0 ≡ ptr s .0

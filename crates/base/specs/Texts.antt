@@ -2,7 +2,7 @@
 use Prim.Native.Nat.{ℕ}
 use mathlib.Core.List.{List, [], _∷_}
 
--- one element more in front of the first
+-- one more element in front of the first
 abbrev pub front : ℕ → List (List ℕ) → List (List ℕ)
 front a [] = (a ∷ []) ∷ []
 front a (t ∷ ts) = (a ∷ t) ∷ ts

@@ -5,7 +5,7 @@ use mathlib.Core.List.{List}
 use mathlib.Core.Bool.{true}
 use borrow.Author.Tests.{ne-eqb}
 use lib.ListN.{length, getD, drop, drop-of-length-le}
-use Rattle.base.proofs.Parts.{next}
+use Rattle.base.proofs.Parts.{drop-cons-at}
 use Rattle.kinds.specs.Kinds.{operation}
 use Rattle.kinds.proofs.ByKind.{takes-target}
 use Rattle.checks.specs.declared.Check.{Check}
@@ -16,7 +16,7 @@ use Rattle.checks.specs.Verify.{thenCheck, targetFits, operationCheck, o
 pub check-at : (n i : ℕ) (ks vs : List ℕ) (x : Check) → i < length ks → i < length vs → operationCheck n (operation (getD ks i 0) (getD vs i 0)) ≡ x
     → operationsCheck n (drop i ks) (drop i vs) ≡ thenCheck x (operationsCheck n (drop (i + 1) ks) (drop (i + 1) vs))
 unfolding operationsCheck
-check-at n i ks vs x h k e = rw (next ks i (i + 1) h refl, next vs i (i + 1) k refl, e)
+check-at n i ks vs x h k e = rw (drop-cons-at ks i (i + 1) h refl, drop-cons-at vs i (i + 1) k refl, e)
 
 pub check-end : (n i : ℕ) (ks vs : List ℕ) → length ks ≤ i → operationsCheck n (drop i ks) (drop i vs) ≡ Passed
 unfolding operationsCheck

@@ -8,7 +8,7 @@ use Rattle.context.specs.declared.Gate.{Gate}
 use Rattle.context.specs.declared.Gate.the-variants as gate
 use Rattle.base.specs.Need.{need}
 use Rattle.kinds.specs.Kinds.{target, takes, Operation, operation}
-use Rattle.checks.specs.declared.Refusal.the-variants.{BufferLengths, Context, EmptyProgram, ProgramTooLarge, StorageTooLarge, UnknownKind, JumpOutOfRange}
+use Rattle.checks.specs.declared.VmError.the-variants.{BufferLengths, Context, EmptyProgram, ProgramTooLarge, StorageTooLarge, UnknownKind, JumpOutOfRange}
 use Rattle.checks.specs.declared.Check.{Check}
 use Rattle.checks.specs.declared.Check.the-variants.{Passed, Refused}
 

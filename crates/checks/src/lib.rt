@@ -1,7 +1,7 @@
 // What is tested before a run: the lent buffers' lengths, and the verifier; and the refusals of a call, those of its run included.
 ghost use mathlib.Core.Path.{_≡_};
 ghost use Rattle.numbered.specs.Numbered.{Answered};
-ghost use Rattle.checks.specs.Numbers.{refusalNumbered, checkNumbered};
+ghost use Rattle.checks.specs.Numbers.{vmErrorNumbered, checkNumbered};
 ghost use Rattle.checks.specs.Verify.{buffersFit, verifyOf};
 
 mod operations;
@@ -14,7 +14,7 @@ use numbered::carrying_one;
 use numbered::carrying_two;
 use numbered::plain;
 
-pub enum Refusal {
+pub enum VmError {
     BufferLengths,
     Context(context::ContextError),
     EmptyProgram,
@@ -30,31 +30,31 @@ pub enum Refusal {
     OutsideStorage,
 }
 
-impl Refusal {
+impl VmError {
     pub fn numbered(self) -> Numbered
-        ensures { λ r. ⌜ r ≡ refusalNumbered self ⌝ }
+        ensures { λ r. ⌜ r ≡ vmErrorNumbered self ⌝ }
     {
         match self {
-            Refusal::BufferLengths => plain(34),
-            Refusal::Context(e) => e.numbered(),
-            Refusal::EmptyProgram => plain(41),
-            Refusal::ProgramTooLarge(size) => carrying_one(42, size as u64),
-            Refusal::StorageTooLarge(used) => carrying_one(43, used as u64),
-            Refusal::UnknownKind => plain(44),
-            Refusal::JumpOutOfRange => plain(45),
-            Refusal::OutOfGas { price, left } => carrying_two(46, price, left),
-            Refusal::StackUnderflow => plain(47),
-            Refusal::StackLimitExceeded => plain(48),
-            Refusal::DivisionByZero => plain(49),
-            Refusal::StorageLimitExceeded(slots) => carrying_one(50, slots),
-            Refusal::OutsideStorage => plain(51),
+            VmError::BufferLengths => plain(34),
+            VmError::Context(e) => e.numbered(),
+            VmError::EmptyProgram => plain(41),
+            VmError::ProgramTooLarge(size) => carrying_one(42, size as u64),
+            VmError::StorageTooLarge(used) => carrying_one(43, used as u64),
+            VmError::UnknownKind => plain(44),
+            VmError::JumpOutOfRange => plain(45),
+            VmError::OutOfGas { price, left } => carrying_two(46, price, left),
+            VmError::StackUnderflow => plain(47),
+            VmError::StackLimitExceeded => plain(48),
+            VmError::DivisionByZero => plain(49),
+            VmError::StorageLimitExceeded(slots) => carrying_one(50, slots),
+            VmError::OutsideStorage => plain(51),
         }
     }
 }
 
 pub enum Check {
     Passed,
-    Refused(Refusal),
+    Refused(VmError),
 }
 
 impl Check {
@@ -92,16 +92,16 @@ pub fn verify(kinds: &[u8], operands: &[u64], used: usize) -> Check
 {
     let size = kinds.len();
     if size != operands.len() {
-        return Check::Refused(Refusal::BufferLengths);
+        return Check::Refused(VmError::BufferLengths);
     }
     if size == 0 {
-        return Check::Refused(Refusal::EmptyProgram);
+        return Check::Refused(VmError::EmptyProgram);
     }
     if size > MAX_PROGRAM_OPS {
-        return Check::Refused(Refusal::ProgramTooLarge(size));
+        return Check::Refused(VmError::ProgramTooLarge(size));
     }
     if used > MAX_STORAGE_SLOTS {
-        return Check::Refused(Refusal::StorageTooLarge(used));
+        return Check::Refused(VmError::StorageTooLarge(used));
     }
     operations::verify_operations(kinds, operands)
 }

@@ -7,12 +7,12 @@ ghost use lib.ListN.{length, getD};
 ghost use Rattle.base.specs.Code.Skips.{Skips, SkipsTo, AllFrom};
 ghost use Rattle.base.specs.Need.{need};
 ghost use Rattle.kinds.specs.Kinds.{operation};
-ghost use Rattle.checks.specs.declared.Refusal.the-variants.{JumpOutOfRange};
+ghost use Rattle.checks.specs.declared.VmError.the-variants.{JumpOutOfRange};
 ghost use Rattle.checks.specs.declared.Check.the-variants as check;
 ghost use Rattle.checks.specs.Verify.{operationCheck, operationsCheck};
 ghost use Rattle.checks.specs.Code.Blocks.{checkFrom};
 use super::Check;
-use super::Refusal;
+use super::VmError;
 
 // How many operations a block has.
 const BLOCK: usize = 16;
@@ -139,7 +139,7 @@ fn verify_operation(kind: u8, operand: u64, size: usize) -> Check
     ensures { λ r. ⌜ r ≡ operationCheck size (operation kind operand) ⌝ }
 {
     if kind > 15 {
-        return Check::Refused(Refusal::UnknownKind);
+        return Check::Refused(VmError::UnknownKind);
     }
     match kind {
         7 => verify_target(operand as usize, size),
@@ -153,7 +153,7 @@ fn verify_target(target: usize, size: usize) -> Check
     ensures { λ r. ⌜ r ≡ need (ltb target size) (check.Refused JumpOutOfRange) check.Passed ⌝ }
 {
     if target >= size {
-        return Check::Refused(Refusal::JumpOutOfRange);
+        return Check::Refused(VmError::JumpOutOfRange);
     }
     Check::Passed
 }

@@ -9,12 +9,12 @@ use lib.Dec.{leb}
 use lib.ListN.{length, take, drop}
 use lib.Seq.{take-at, drop-append-seam}
 use Rattle.base.proofs.Tests.{by-leb, inside, below, above}
-use Rattle.utf8.specs.Utf8.{tail}
+use Rattle.utf8.specs.Utf8.{utf8-tail}
 use Rattle.utf8.specs.Encode.{encode, encodes, Valid}
 
 abbrev pub tails : List ℕ → Bool
 tails [] = true
-tails (a ∷ s) = tail a && tails s
+tails (a ∷ s) = utf8-tail a && tails s
 
 -- how many tail bytes follow a first byte
 abbrev pub following : ℕ → ℕ
@@ -32,13 +32,13 @@ pub record Char (c : ℕ) : Type 0 where
   pub lead : ℕ
   pub rest : List ℕ
   pub is : encode c ≡ lead ∷ rest
-  pub leads : tail lead ≡ false
+  pub leads : utf8-tail lead ≡ false
   pub follow : tails rest ≡ true
   pub many : length rest ≡ following lead
   pub code : value (lead ∷ rest) ≡ c
 
 -- 0x80 to 0xBF
-is-tail : (n : ℕ) → tail (0x80 + n % 64) ≡ true
+is-tail : (n : ℕ) → utf8-tail (0x80 + n % 64) ≡ true
 is-tail n = inside 0x80 0xBF (0x80 + n % 64) (omega arith) (omega arith)
 
 char1 : (c : ℕ) → c ≤ 0x7F → Char c

@@ -11,7 +11,7 @@ use Rattle.base.proofs.Tests.{between, by-leb, and-left, and-right}
 use Rattle.base.proofs.Parts.{length-zero}
 use Rattle.lines.specs.Lines.{front, feedNext, lines}
 use Rattle.lines.proofs.Laws.{lines-other, no-return, by-start}
-use Rattle.utf8.specs.Utf8.{tail}
+use Rattle.utf8.specs.Utf8.{utf8-tail}
 use Rattle.utf8.specs.Encode.{encode, encodes}
 use Rattle.code_points.proofs.Chars.{tails, Char, char, value}
 
@@ -38,8 +38,8 @@ tails-lines : (l s : List ℕ) → tails l ≡ true → lines (l ++ s) ≡ front
 unfolding fronts
 tails-lines [] s e = refl
 tails-lines (a ∷ l) s e =
-    let b = between 0x80 0xBF a (and-left (tail a) (tails l) e) in
-    high a (l ++ s) (omega arith) ∙ ap (front a) (tails-lines l s (and-right (tail a) (tails l) e))
+    let b = between 0x80 0xBF a (and-left (utf8-tail a) (tails l) e) in
+    high a (l ++ s) (omega arith) ∙ ap (front a) (tails-lines l s (and-right (utf8-tail a) (tails l) e))
 
 pub ascii : (c : ℕ) → c ≤ 0x7F → encode c ≡ c ∷ []
 ascii c h = simp (le-leb c 0x7F h)

@@ -6,12 +6,12 @@ use mathlib.Core.Bool.{true, false}
 use native.Mathlib.Omega.{arith}
 use lib.ListN.{length, take, drop, length-append, take-append-drop}
 use lib.Seq.{append-snoc, take-append-seam, drop-append-seam, length-take-le}
-use Rattle.base.proofs.Tests.{by-bool, by-eqb, never, and-left, and-right}
+use Rattle.base.proofs.Tests.{by-bool, by-eqb, false-true, and-left, and-right}
 use Rattle.search.specs.declared.Found.the-variants.{At}
 use Rattle.search.specs.First.{prefixOf, firstFrom, firstAt}
 use Rattle.search.proofs.Prefix.{same, other, common, split}
 use Rattle.search.proofs.Laws.{from-hit, from-miss, from-end, within}
-use Rattle.utf8.specs.Utf8.{tail}
+use Rattle.utf8.specs.Utf8.{utf8-tail}
 use Rattle.utf8.specs.Encode.{encode, encodes}
 use Rattle.code_points.specs.Place.{bytePlace}
 use Rattle.code_points.proofs.Chars.{tails, char, unique}
@@ -35,16 +35,16 @@ step : (p : List ℕ) (n a : ℕ) (l s : List ℕ) → prefixOf p (a ∷ l ++ s)
 step p n a l s h e = let k : n + 1 + length l ≡ n + suc (length l) = omega arith in from-miss p n a (l ++ s) h ∙ e ∙ ap (λ (m : ℕ). firstFrom m p s) k
 
 -- what starts with no tail byte does not stand among tail bytes
-skip : (n b : ℕ) (p l s : List ℕ) → tail b ≡ false → tails l ≡ true → firstFrom n (b ∷ p) (l ++ s) ≡ firstFrom (n + length l) (b ∷ p) s
+skip : (n b : ℕ) (p l s : List ℕ) → utf8-tail b ≡ false → tails l ≡ true → firstFrom n (b ∷ p) (l ++ s) ≡ firstFrom (n + length l) (b ∷ p) s
 skip n b p [] s f e = let k : n ≡ n + 0 = omega arith in ap (λ (m : ℕ). firstFrom m (b ∷ p) s) k
 skip n b p (a ∷ l) s f e =
     step (b ∷ p) n a l s
-    (other b a p (l ++ s) (λ q. never (sym f ∙ ap tail q ∙ and-left (tail a) (tails l) e)))
-    (skip (n + 1) b p l s f (and-right (tail a) (tails l) e))
+    (other b a p (l ++ s) (λ q. false-true (sym f ∙ ap utf8-tail q ∙ and-left (utf8-tail a) (tails l) e)))
+    (skip (n + 1) b p l s f (and-right (utf8-tail a) (tails l) e))
 
 -- what does not stand at a character's first byte stands at none of its bytes
 next-char : (n c : ℕ) (ds s : List ℕ) → prefixOf (encodes ds) (encode c ++ s) ≡ false → firstFrom n (encodes ds) (encode c ++ s) ≡ firstFrom (n + length (encode c)) (encodes ds) s
-next-char n c [] s = λ h. never (sym h)
+next-char n c [] s = λ h. false-true (sym h)
 next-char n c (d ∷ ds) s =
     let x = char c in
     let y = char d in

@@ -7,7 +7,7 @@ use borrow.Author.Tests.{eqb-true, le-leb, lt-leb}
 use native.Mathlib.Omega.{arith}
 use lib.Dec.{eqb}
 use Rattle.base.specs.Range.{within}
-use Rattle.base.proofs.Tests.{by-leb, by-or, between, inside, never, same}
+use Rattle.base.proofs.Tests.{by-leb, by-or, between, inside, false-true, bool-ext}
 use Rattle.trim.specs.Trim.{white1, white2, white3}
 use Rattle.trim.proofs.White.{by-white1, by-white2, by-white3}
 use Rattle.utf8.specs.Encode.{encode, encode3}
@@ -87,7 +87,7 @@ module _ (c : ℕ) where
       (λ p q r. one 0x202F refl (omega arith))
       (λ p q r. one 0x205F refl (omega arith))
       (λ p q r. one 0x3000 refl (omega arith)))
-      (λ h e. never e)
+      (λ h e. false-true e)
 
 pub white-bytes : (c : ℕ) → whiteBytes (encode c) ≡ white c
-white-bytes c = same (whiteBytes (encode c)) (white c) (from-bytes c) (to-bytes c)
+white-bytes c = bool-ext (whiteBytes (encode c)) (white c) (from-bytes c) (to-bytes c)

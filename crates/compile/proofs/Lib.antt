@@ -1,4 +1,4 @@
 pub mod Assembled
-pub mod Composing
+pub mod Composition
 pub mod Delivery
 pub mod Examples

@@ -4,18 +4,18 @@ use mathlib.Core.List.{[], _∷_}
 use Rattle.numbered.specs.declared.Numbered.{Numbered}
 use Rattle.numbered.specs.Numbered.{carrying}
 use Rattle.ops.specs.declared.OpsError.{OpsError}
-use Rattle.perform.specs.declared.Answer as perform
-use Rattle.contract.specs.Numbers.{refusalNumbered}
+use Rattle.perform.specs.declared.RunAnswer as perform
+use Rattle.contract.specs.Numbers.{assembleErrorNumbered}
 use Rattle.compile.specs.declared.Compiled.{Compiled}
 use Rattle.compile.specs.declared.Compiled.the-variants.{NotAssembled, NotRead, Ran}
 
 -- a refusal of assembly or reading ends it; else assembly's number and values, the operations read, and the transition's answer
-pub data Answer : Type 0 where
-  notAssembled : Numbered → Answer
-  notRead : OpsError → Answer
-  ran : Numbered → ℕ → perform.Answer → Answer
+pub data CompileAnswer : Type 0 where
+  notAssembled : Numbered → CompileAnswer
+  notRead : OpsError → CompileAnswer
+  ran : Numbered → ℕ → perform.RunAnswer → CompileAnswer
 
-abbrev pub answerOf : Compiled → Answer
-answerOf (NotAssembled why) = notAssembled (refusalNumbered why)
-answerOf (NotRead e) = notRead e
-answerOf (Ran written k p value operations a) = ran (carrying 0 (written ∷ k ∷ p ∷ value ∷ [])) operations a
+abbrev pub compileAnswerOf : Compiled → CompileAnswer
+compileAnswerOf (NotAssembled why) = notAssembled (assembleErrorNumbered why)
+compileAnswerOf (NotRead e) = notRead e
+compileAnswerOf (Ran written k p value operations a) = ran (carrying 0 (written ∷ k ∷ p ∷ value ∷ [])) operations a

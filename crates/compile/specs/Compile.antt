@@ -12,12 +12,12 @@ use Rattle.base.specs.Outcome.{is, refused}
 use Rattle.perform.specs.Run as Run
 use Rattle.correctness.specs.Call.{Compilation, Left, assemblyOf, readingOf, transitionOn}
 use Rattle.compile.specs.declared.Compiled.{Compiled}
-use Rattle.compile.specs.Answer.{Answer, notAssembled, notRead, ran, answerOf}
-use Rattle.compile.specs.Numbers.{numbered, compiledNumbered}
+use Rattle.compile.specs.Answer.{CompileAnswer, notAssembled, notRead, ran, compileAnswerOf}
+use Rattle.compile.specs.Numbers.{compileNumbered, compiledNumbered}
 
 -- the answer, and what is left in the buffers
-pub record Result : Type 0 where
-  pub answer : Answer
+pub record CompileResult : Type 0 where
+  pub answer : CompileAnswer
   pub left : Left
 
 -- the buffers as they are lent; when assembly has written its text; and then reading its operations
@@ -56,30 +56,30 @@ readIn x os =
     }
 
 -- the transition takes all of both program buffers
-abbrev pub runOn : Compilation → Left → Run.Result
+abbrev pub runOn : Compilation → Left → Run.RunResult
 runOn x b = transitionOn x (b .kinds) (b .operands)
 
 abbrev pub ranIn : Compilation → Left → Left
 ranIn x b =
-    let t : Run.Result = runOn x b in
+    let t : Run.RunResult = runOn x b in
     record { out = b .out; kinds = b .kinds; operands = b .operands; stack = t .stack; work = t .work; storage = t .storage }
 
 -- after an assembly's answer 0 and a reading
-abbrev pub thenRun : Compilation → Numbered → Reading → Result
-thenRun x a (refused e) = record { answer = notRead e; left = assembledIn x }
-thenRun x a (is os) = record { answer = ran a (length os) (runOn x (readIn x os) .answer); left = ranIn x (readIn x os) }
+abbrev pub afterReading : Compilation → Numbered → Reading → CompileResult
+afterReading x a (refused e) = record { answer = notRead e; left = assembledIn x }
+afterReading x a (is os) = record { answer = ran a (length os) (runOn x (readIn x os) .answer); left = ranIn x (readIn x os) }
 
 -- after an assembly's answer
-abbrev pub thenRead : Compilation → Numbered → Result
-thenRead x a = need (eqb (a .number) 0) (record { answer = notAssembled a; left = lent x }) (thenRun x a (readingOf x))
+abbrev pub afterAssembly : Compilation → Numbered → CompileResult
+afterAssembly x a = need (eqb (a .number) 0) (record { answer = notAssembled a; left = lent x }) (afterReading x a (readingOf x))
 
-unfoldable pub compileOf : Compilation → Result
-compileOf x = thenRead x (assemblyOf x .answer)
+unfoldable pub compileOf : Compilation → CompileResult
+compileOf x = afterAssembly x (assemblyOf x .answer)
 
 -- a call's answer r and the buffers b at its exit are those of a result
-pub record Composes (c : Result) (r : Compiled) (b : Left) : Type 0 where
-  pub answer : answerOf r ≡ c .answer
-  pub number : compiledNumbered r ≡ numbered (c .answer)
+pub record Composes (c : CompileResult) (r : Compiled) (b : Left) : Type 0 where
+  pub answer : compileAnswerOf r ≡ c .answer
+  pub number : compiledNumbered r ≡ compileNumbered (c .answer)
   pub out : b .out ≡ c .left .out
   pub kinds : b .kinds ≡ c .left .kinds
   pub operands : b .operands ≡ c .left .operands

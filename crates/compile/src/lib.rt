@@ -3,16 +3,16 @@ ghost use mathlib.Core.Path.{_≡_};
 ghost use Rattle.context.specs.Gate.{gateOf};
 ghost use Rattle.compile.specs.Numbers.{compiledNumbered};
 ghost use Rattle.compile.specs.Delivery.{Delivers};
-use contract::refusal::Refusal;
+use contract::refusal::AssembleError;
 use numbered::Numbered;
 use ops::OpsError;
 use ops::ParsedOps;
-use perform::Answer;
+use perform::RunAnswer;
 use perform::State;
 
 // A refusal of assembly or reading ends the call. Otherwise: what assembly and reading gave, and the transition's answer.
 pub enum Compiled {
-    NotAssembled(Refusal),
+    NotAssembled(AssembleError),
     NotRead(OpsError),
     Ran {
         written: usize,
@@ -20,7 +20,7 @@ pub enum Compiled {
         p: u64,
         value: u64,
         operations: usize,
-        answer: Answer,
+        answer: RunAnswer,
     },
 }
 
@@ -99,8 +99,8 @@ pub fn compile(
 {
     let assembled = assembler::assemble(contract, vector, stem, out);
     match assembled {
-        assembler::Answer::Refused(why) => Compiled::NotAssembled(why),
-        assembler::Answer::Success {
+        assembler::AssemblyAnswer::Refused(why) => Compiled::NotAssembled(why),
+        assembler::AssemblyAnswer::Success {
             written,
             k,
             p,

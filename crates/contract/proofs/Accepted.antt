@@ -39,15 +39,15 @@ use Rattle.expression.specs.Parse.{meaning}
 use Rattle.contract.specs.Part.{part}
 use Rattle.numbered.specs.declared.Numbered.{Numbered}
 use Rattle.numbered.specs.Numbered.{plain}
-use Rattle.contract.specs.State.{State, started, bound, each}
+use Rattle.contract.specs.Scope.{Scope, started, bound, each}
 use Rattle.base.specs.Outcome.{Outcome, is, refused, andThen}
 use Rattle.contract.specs.Statement.{Statement, skipped, noEquals, binds, returns, statement}
-use Rattle.contract.specs.Body.{treeOr, performed, lineRead}
+use Rattle.contract.specs.Body.{treeOr, statementRead, lineRead}
 use Rattle.contract.specs.Parameters.{keyed, parameterBound}
 use Rattle.contract.specs.Assembled.{readable, bodyRead, compared, returned, functionRead, placesOf, assembledTree}
 use Rattle.contract.specs.Code.Concluded.{concluded}
 use Rattle.contract.proofs.Words.{Words, WordsIn, meaning-words}
-use Rattle.contract.proofs.Wrong.{WrongIn, meaning-wrong}
+use Rattle.contract.proofs.Refusals.{WrongIn, meaning-wrong}
 
 -- a vector's number is below 2^64
 abbrev WordIs : KeyValue → Type 0
@@ -76,25 +76,25 @@ abbrev LastFits : Option Tree → Type 0
 LastFits none = Unit {0}
 LastFits (some t) = Fits t
 
-record Sized (st : State) : Type 0 where
+record Sized (st : Scope) : Type 0 where
   pub env : WordsIn (st .env)
   pub last : LastFits (st .last)
 
 abbrev Ranged : Numbered → Type 0
 Ranged r = (1 ≤ r .number) × (r .number ≤ 24)
 
-abbrev Leaves : Outcome Numbered State → Type 0
+abbrev Leaves : Outcome Numbered Scope → Type 0
 Leaves o = Either Ranged Sized o
 
-bound-sized : (st : State) (name : List ℕ) (t : Tree) → Sized st → Words t → Leaves (bound st name t)
+bound-sized : (st : Scope) (name : List ℕ) (t : Tree) → Sized st → Words t → Leaves (bound st name t)
 bound-sized st name t h w = go (ltb (length (st .env)) 256)
   where
     go : (b : Bool) → Leaves (need b (refused (plain 21)) (is (record { env = record { name = name; tree = t } ∷ st .env; last = st .last })))
     go true = record { env = (w, h .env); last = h .last }
     go false = (omega arith, omega arith)
 
-each-sized : (one : ℕ → State → List ℕ → Outcome Numbered State) → ((n : ℕ) (st : State) (s : List ℕ) → Sized st → Leaves (one n st s))
-    → (n : ℕ) (st : State) (ss : List (List ℕ)) → Sized st → Leaves (each one n st ss)
+each-sized : (one : ℕ → Scope → List ℕ → Outcome Numbered Scope) → ((n : ℕ) (st : Scope) (s : List ℕ) → Sized st → Leaves (one n st s))
+    → (n : ℕ) (st : Scope) (ss : List (List ℕ)) → Sized st → Leaves (each one n st ss)
 unfolding each
 each-sized one h n st [] z = z
 each-sized one h n st (s ∷ rest) z = then-either Ranged Sized (one n st s) _ (h n st s z) (λ next y. each-sized one h (n + 1) next rest y)
@@ -106,7 +106,7 @@ key-ranged NoDigit = (omega arith, omega arith)
 key-ranged TooLarge = (omega arith, omega arith)
 
 -- the parameters
-bound-to-sized : (st : State) (name : List ℕ) (place : ℕ) (x : KeyValue) → WordIs x → Sized st → Leaves (andThen (keyed x place) (λ n. bound st name (num n)))
+bound-to-sized : (st : Scope) (name : List ℕ) (place : ℕ) (x : KeyValue) → WordIs x → Sized st → Leaves (andThen (keyed x place) (λ n. bound st name (num n)))
 bound-to-sized st name place (Is n) w h = bound-sized st name (num n) h w
 bound-to-sized st name place (Key.Refused e) w h = key-ranged e
 
@@ -115,11 +115,11 @@ parameters-sized vector names =
     each-sized (parameterBound vector) (λ place st name. bound-to-sized st name place (vectorNumber vector name) (vector-word vector name)) 1 started names (record { env = tt; last = tt })
 
 -- the lines of the body
-tree-sized : (m : Outcome Numbered Tree) (line : ℕ) (follows : Tree → Outcome Numbered State) → WrongIn m → ((t : Tree) → m ≡ is t → kOf t ≤ 32768 → Leaves (follows t)) → Leaves (treeOr m line follows)
+tree-sized : (m : Outcome Numbered Tree) (line : ℕ) (follows : Tree → Outcome Numbered Scope) → WrongIn m → ((t : Tree) → m ≡ is t → kOf t ≤ 32768 → Leaves (follows t)) → Leaves (treeOr m line follows)
 tree-sized (refused r) line follows w h = (omega (arith, w .0), omega (arith, w .1))
 tree-sized (is t) line follows w h = by-bool (leb (kOf t) 32768) (λ e. rw e (h t refl (leb-true (kOf t) 32768 e))) (λ e. rw e (omega arith, omega arith))
 
-performed-sized : (line : ℕ) (st : State) (x : Statement) → Sized st → Leaves (performed line st x)
+performed-sized : (line : ℕ) (st : Scope) (x : Statement) → Sized st → Leaves (statementRead line st x)
 performed-sized line st skipped h = h
 performed-sized line st noEquals h = (omega arith, omega arith)
 performed-sized line st (binds name s) h = tree-sized (meaning (st .env) s) line (bound st name) (meaning-wrong (st .env) s) (λ t e k. bound-sized st name t h (meaning-words (st .env) s t (h .env) e))
@@ -154,7 +154,7 @@ module _ (vector : List ℕ) where
   returned-sound n none h q = (omega arith, omega arith)
   returned-sound n (some t) h q = compared-sound n t (valueOf t) h refl q
 
-  concluded-sound : (n : ℕ) (o : Outcome Numbered State) → Leaves o → vectorNumber vector (ascii "expected") ≡ Is n → Sound vector (concluded n o)
+  concluded-sound : (n : ℕ) (o : Outcome Numbered Scope) → Leaves o → vectorNumber vector (ascii "expected") ≡ Is n → Sound vector (concluded n o)
   concluded-sound n o h q = then-either Ranged (λ r. Accepted vector (r .0) (r .1)) o _ h (λ st s. returned-sound n (st .last) (s .last) q)
 
   expected-sound : (contract : List ℕ) (p : Places) (x : KeyValue) → vectorNumber vector (ascii "expected") ≡ x → Sound vector (andThen (keyed x 0) (λ expected. concluded expected (bodyRead contract vector p)))

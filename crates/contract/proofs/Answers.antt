@@ -6,7 +6,7 @@ use mathlib.Core.Bool.{true, false}
 use native.Mathlib.Omega.{arith}
 use lib.Dec.{eqb, leb}
 use lib.ListN.{length}
-use Rattle.base.proofs.Tests.{by-bool, never}
+use Rattle.base.proofs.Tests.{by-bool, false-true}
 use Rattle.numbered.specs.declared.Numbered.{Numbered}
 use Rattle.numbered.specs.Numbered.{plain, carrying}
 use Rattle.base.specs.Outcome.{Outcome, is, refused}
@@ -15,15 +15,15 @@ use Rattle.source.specs.declared.function.FunctionError.the-variants.{NoFunctio
 use Rattle.source.specs.declared.vector.KeyError.the-variants.{NoKey, NoColon, NoDigit, TooLarge}
 use Rattle.expression.specs.declared.ExprError.the-variants.{InvalidCharacter, UnexpectedEnd, UnbalancedParenthesis, InvalidLiteral, UnknownIdentifier, TooDeep, UnconsumedTokens}
 use Rattle.expression.specs.Tree.{Tree, kOf, pOf}
-use Rattle.contract.specs.declared.refusal.Refusal.{Refusal}
-use Rattle.contract.specs.declared.refusal.Refusal.the-variants.{Contract, Vector, Function, Key, NoEquals, Expression, TooLong, TooManyBindings, NoReturn, NoValue, NotExpected, BadStem, OutputTooLong}
-use Rattle.contract.specs.Numbers.{refusalNumbered}
+use Rattle.contract.specs.declared.refusal.AssembleError.{AssembleError}
+use Rattle.contract.specs.declared.refusal.AssembleError.the-variants.{Contract, Vector, Function, Key, NoEquals, Expression, TooLong, TooManyBindings, NoReturn, NoValue, NotExpected, BadStem, OutputTooLong}
+use Rattle.contract.specs.Numbers.{assembleErrorNumbered}
 use Rattle.contract.specs.Assembled.{assembledTree}
-use Rattle.contract.specs.Output.{Assembly, stemFits, output, nothing, written, named, assembled}
+use Rattle.contract.specs.Output.{Assembly, stemFits, output, nothing, writtenInto, withStem, assembled}
 use Rattle.contract.proofs.Accepted.{rejected-is}
 
 -- no refusal has the number 0
-pub never-0 : (why : Refusal) → eqb (refusalNumbered why .number) 0 ≡ false
+pub never-0 : (why : AssembleError) → eqb (assembleErrorNumbered why .number) 0 ≡ false
 never-0 Contract = refl
 never-0 Vector = refl
 never-0 (Function NoFunction) = refl
@@ -69,12 +69,12 @@ module _ (contract vector stem : List ℕ) where
     -- an assembly is refused with one of 1 to 25, or all is well but the room
     pub by-answer : (P : Assembly → Type 0)
         → ((r : Numbered) → 1 ≤ r .number → r .number ≤ 25 → P (nothing r))
-        → ((v : ℕ) (t : Tree) → assembledTree contract vector ≡ is (v, t) → stemFits stem ≡ true → P (written (output stem v t) v t room))
+        → ((v : ℕ) (t : Tree) → assembledTree contract vector ≡ is (v, t) → stemFits stem ≡ true → P (writtenInto (output stem v t) v t room))
         → P whole
     unfolding assembled
     by-answer P f g = go (assembledTree contract vector) refl
       where
-        go : (x : Outcome Numbered (ℕ × Tree)) → assembledTree contract vector ≡ x → P (named x stem room)
+        go : (x : Outcome Numbered (ℕ × Tree)) → assembledTree contract vector ≡ x → P (withStem x stem room)
         go (refused r) e = let h = rejected-is vector r contract e in f r (h .0) (omega (arith, h .1))
         go (is (v, t)) e = by-bool (stemFits stem) (λ s. rw s (g v t e s)) (λ s. rw s (f (plain 25) (omega arith) (omega arith)))
 
@@ -104,4 +104,4 @@ module _ (contract vector stem : List ℕ) where
     no-text =
         by-answer (λ (a : Assembly). eqb (a .answer .number) 0 ≡ false → a .text ≡ [])
         (λ r h g e. refl)
-        (λ v t e f. by-bool (leb (length (output stem v t)) room) (λ b. rw b (λ q. never (sym q))) (λ b. rw b (λ q. refl)))
+        (λ v t e f. by-bool (leb (length (output stem v t)) room) (λ b. rw b (λ q. false-true (sym q))) (λ b. rw b (λ q. refl)))

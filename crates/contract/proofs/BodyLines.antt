@@ -5,7 +5,7 @@ use mathlib.Core.List.{List, [], _∷_}
 use native.Mathlib.Omega.{arith}
 use lib.ListN.{take, drop, drop-of-length-le}
 use lib.Seq.{length-take-le}
-use Rattle.base.proofs.Parts.{middle}
+use Rattle.base.proofs.Parts.{take-drop-slice}
 use Rattle.lines.specs.declared.Line.{Line}
 use Rattle.lines.specs.declared.Step.the-variants.{Next, Done}
 use Rattle.lines.specs.Lines.{lines}
@@ -13,8 +13,8 @@ use Rattle.lines.specs.Cursor.{lineAt}
 use Rattle.lines.proofs.Cursor.{step-line, step-done}
 use Rattle.contract.specs.Part.{part}
 use Rattle.contract.specs.Code.Held.{Within}
-use Rattle.contract.proofs.Holding.{part-take}
-use Rattle.contract.proofs.Coming.{Item}
+use Rattle.contract.proofs.Tables.{part-take}
+use Rattle.contract.proofs.Loops.{Item}
 
 -- the lines from a place on, of the text before another
 abbrev pub linesFrom : List ℕ → ℕ → ℕ → List (List ℕ)
@@ -22,7 +22,7 @@ linesFrom s end at = lines (drop at (take end s))
 
 module _ (s : List ℕ) (start end : ℕ) (w : Within s start end) where
   pub all-lines : lines (part s start end) ≡ linesFrom s end start
-  all-lines = ap lines (middle s start end (w .ordered) (w .inside))
+  all-lines = ap lines (take-drop-slice s start end (w .ordered) (w .inside))
 
   pub lines-done : (at : ℕ) → lineAt (take end s) at ≡ Done → linesFrom s end at ≡ []
   lines-done at e = step-done (take end s) at e

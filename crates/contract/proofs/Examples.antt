@@ -10,7 +10,7 @@ use Rattle.expression.specs.Tree.{Tree, num, bin, valueOf, kOf, pOf}
 use Rattle.expression.specs.Parse.{parseF, meaning}
 use Rattle.base.specs.Ascii.{ascii}
 use Rattle.numbered.specs.Numbered.{plain, carrying}
-use Rattle.contract.specs.State.{started, each}
+use Rattle.contract.specs.Scope.{started, each}
 use Rattle.base.specs.Outcome.{is, refused}
 use Rattle.contract.specs.Body.{lineRead}
 use Rattle.decimal.specs.Decimal.{decimal}

@@ -8,40 +8,40 @@ use borrow.Author.Tests.{le-leb}
 use lib.ListN.{take, drop}
 use lib.Seq.{length-take-le}
 use Rattle.source.specs.declared.parameters.Span.{Span}
-use Rattle.expression.specs.declared.figures.Read.{Read}
+use Rattle.expression.specs.declared.figures.Figures.{Figures}
 use Rattle.expression.specs.Tree.{Tree, kOf}
 use Rattle.expression.specs.Parse.{Env, meaning}
 use Rattle.expression.specs.Code.Table.{columns}
 use Rattle.expression.proofs.Meaning.{meaning-empty}
 use Rattle.trim.specs.Trim.{trimmed}
-use Rattle.contract.specs.declared.body.Checked.{Checked}
-use Rattle.contract.specs.declared.body.Checked.the-variants.{Is, Refused}
-use Rattle.contract.specs.declared.refusal.Refusal.{Refusal}
-use Rattle.contract.specs.declared.refusal.Refusal.the-variants.{NoEquals}
-use Rattle.contract.specs.declared.state.State as Code
-use Rattle.contract.specs.declared.statement.Statement.{Statement}
-use Rattle.contract.specs.declared.statement.Statement.the-variants as Stmt
+use Rattle.contract.specs.declared.body.CheckedExpression.{CheckedExpression}
+use Rattle.contract.specs.declared.body.CheckedExpression.the-variants.{Is, Refused}
+use Rattle.contract.specs.declared.refusal.AssembleError.{AssembleError}
+use Rattle.contract.specs.declared.refusal.AssembleError.the-variants.{NoEquals}
+use Rattle.contract.specs.declared.state.TableState as Code
+use Rattle.contract.specs.declared.statement.StatementSpans.{StatementSpans}
+use Rattle.contract.specs.declared.statement.StatementSpans.the-variants as Stmt
 use Rattle.contract.specs.Part.{part}
-use Rattle.contract.specs.State.{State, bound}
+use Rattle.contract.specs.Scope.{Scope, bound}
 use Rattle.numbered.specs.Numbered.{plain}
 use Rattle.numbered.specs.declared.Numbered.{Numbered}
 use Rattle.base.specs.Outcome.{Outcome, is, refused}
 use Rattle.contract.specs.Statement.{binds, returns}
-use Rattle.contract.specs.Body.{treeOr, performed, lineRead}
-use Rattle.contract.specs.Code.Places.{Inside, AllInside, Stands, statementAt, texts}
-use Rattle.contract.specs.Code.Stored.{refusedAs, returning, numberIn, Placed, Small, Bound}
-use Rattle.contract.specs.Code.Held.{Represents, Good, Leads, Follows, ChecksAll, Within, LetWithin}
+use Rattle.contract.specs.Body.{treeOr, statementRead, lineRead}
+use Rattle.contract.specs.Code.Places.{Inside, AllInside, StatementStands, statementAt, texts}
+use Rattle.contract.specs.Code.Stored.{refusedAs, returning, numberIn, SpanFits, FiguresFit, Bound}
+use Rattle.contract.specs.Code.Held.{Represents, NotRefused, Simulates, SimulatesStep, ChecksAll, Within, LetWithin}
 use Rattle.contract.proofs.Places.{stands}
-use Rattle.contract.proofs.Holding.{part-take}
-use Rattle.contract.proofs.Sourced.{Gives}
-use Rattle.contract.proofs.Leading.{leads-on, leads-off, represents-later, leads-later, bound-leads}
-use Rattle.contract.proofs.Checking.{figures-small}
+use Rattle.contract.proofs.Tables.{part-take}
+use Rattle.contract.proofs.Sources.{Gives}
+use Rattle.contract.proofs.Simulation.{leads-on, leads-off, represents-later, leads-later, bound-leads}
+use Rattle.contract.proofs.Expressions.{figures-small}
 
-tree-found : {m : Outcome Numbered Tree} {t : Tree} (line : ℕ) (f : Tree → Outcome Numbered State) → m ≡ is t → kOf t ≤ 32768 → treeOr m line f ≡ f t
+tree-found : {m : Outcome Numbered Tree} {t : Tree} (line : ℕ) (f : Tree → Outcome Numbered Scope) → m ≡ is t → kOf t ≤ 32768 → treeOr m line f ≡ f t
 tree-found {t = t} line f e l = let b = le-leb (kOf t) 32768 l in rw (e, b)
 
 -- an expression from start to end of the contract s, on a line
-module _ (s : List ℕ) (a : Code.State) (expr : Span) (w : Within s (expr .start) (expr .end)) (line : ℕ) where
+module _ (s : List ℕ) (a : Code.TableState) (expr : Span) (w : Within s (expr .start) (expr .end)) (line : ℕ) where
   abbrev text : List ℕ
   text = part s (expr .start) (expr .end)
 
@@ -51,21 +51,21 @@ module _ (s : List ℕ) (a : Code.State) (expr : Span) (w : Within s (expr .star
   abbrev behind : List ℕ
   behind = take (expr .end) s
 
-  later : {st : State} → Represents before a st → Represents behind a st
+  later : {st : Scope} → Represents before a st → Represents behind a st
   later q = represents-later s (expr .start) (expr .end) (w .ordered) (w .inside) q
 
   part-in : part behind (expr .start) (expr .end) ≡ text
   part-in = part-take s (expr .end) (expr .end) (omega arith) (w .inside) (expr .start) (expr .end - expr .start) (omega (arith, w .ordered, length-take-le (expr .end) s (w .inside)))
 
-  expression-refused : {why : Refusal} → ChecksAll behind (columns (a .table) (a .values)) line text (Refused why)
-      → (f : State → Tree → Outcome Numbered State) → Follows before a (λ st. treeOr (meaning (st .env) text) line (f st)) behind (refusedAs a why)
+  expression-refused : {why : AssembleError} → ChecksAll behind (columns (a .table) (a .values)) line text (Refused why)
+      → (f : Scope → Tree → Outcome Numbered Scope) → SimulatesStep before a (λ st. treeOr (meaning (st .env) text) line (f st)) behind (refusedAs a why)
   expression-refused k f = record { leads = λ st q. leads-off refl (k .is (st .env) (later q .holds) (f st)) }
 
-  module _ {v : Read} (k : ChecksAll behind (columns (a .table) (a .values)) line text (Is v)) where
-    small : Good before a → Small v
+  module _ {v : Figures} (k : ChecksAll behind (columns (a .table) (a .values)) line text (Is v)) where
+    small : NotRefused before a → FiguresFit v
     small g = let x = k .is (g .st .env) (later (g .represents) .holds) in figures-small (x .1 .1 .0) (x .1 .1 .1)
 
-    return-read : Follows before a (λ st. performed line st (returns text)) behind (returning a expr v)
+    return-read : SimulatesStep before a (λ st. statementRead line st (returns text)) behind (returning a expr v)
     return-read = record {
       leads = λ st q.
           let x = k .is (st .env) (later q .holds) in
@@ -98,20 +98,20 @@ module _ (s : List ℕ) (a : Code.State) (expr : Span) (w : Within s (expr .star
       means = λ l. rw part-in e;
     }
 
-    let-read : (name : Span) (r : Code.State) → name .start ≤ name .end → name .end ≤ expr .start → Bound a name expr v (part s (name .start) (name .end)) r
-        → Follows before a (λ st. performed line st (binds (part s (name .start) (name .end)) text)) behind r
+    let-read : (name : Span) (r : Code.TableState) → name .start ≤ name .end → name .end ≤ expr .start → Bound a name expr v (part s (name .start) (name .end)) r
+        → SimulatesStep before a (λ st. statementRead line st (binds (part s (name .start) (name .end)) text)) behind r
     let-read name r o h b = record {
       leads = λ st q.
           let x = k .is (st .env) (later q .holds) in
           let n = length-take-le (expr .end) s (w .inside) in
           let e : part behind (name .start) (name .end) ≡ part s (name .start) (name .end) = part-take s (expr .end) (expr .end) (omega arith) (w .inside) (name .start) (name .end - name .start) (let y = w .ordered in omega arith) in
           let z = tree-found line (bound st (part s (name .start) (name .end))) (x .1 .0) (x .1 .1 .0) in
-          subst (λ (u : Outcome Numbered State). Leads behind r u is) (ap (λ (u : List ℕ). bound st u (x .0)) e ∙ sym z) (bound-leads behind a r name expr v b o (let y = w .ordered in omega arith) (sym e) (later q) (x .1 .1 .1) (gives (x .1 .0)));
+          subst (λ (u : Outcome Numbered Scope). Simulates behind r u is) (ap (λ (u : List ℕ). bound st u (x .0)) e ∙ sym z) (bound-leads behind a r name expr v b o (let y = w .ordered in omega arith) (sym e) (later q) (x .1 .1 .1) (gives (x .1 .0)));
     }
 
 -- the line from start to end of the contract
 module _ (s : List ℕ) (start end : ℕ) (w : Within s start end) where
-  here : (r : Statement) → r ≡ statementAt s start end → Stands s start end (trimmed (part s start end)) r
+  here : (r : StatementSpans) → r ≡ statementAt s start end → StatementStands s start end (trimmed (part s start end)) r
   here r e = rw e (stands s start end (w .ordered) (w .inside))
 
   within : (p : Span) → Inside start end p → Within s (p .start) (p .end)
@@ -132,43 +132,43 @@ module _ (s : List ℕ) (start end : ℕ) (w : Within s start end) where
     return-within = within expr return-inside
 
   -- what it makes of a state
-  module _ (a : Code.State) (line : ℕ) where
-    abbrev read : State → Outcome Numbered State
+  module _ (a : Code.TableState) (line : ℕ) where
+    abbrev read : Scope → Outcome Numbered Scope
     read st = lineRead line st (part s start end)
 
-    says : (r : Statement) → r ≡ statementAt s start end → (st : State) → read st ≡ performed line st (texts s r)
-    says r e st = ap (performed line st) (sym (here r e .says))
+    says : (r : StatementSpans) → r ≡ statementAt s start end → (st : Scope) → read st ≡ statementRead line st (texts s r)
+    says r e st = ap (statementRead line st) (sym (here r e .says))
 
     -- what a part of the line makes of a state is what the line does
-    wider : {f : State → Outcome Numbered State} {r : Code.State} (p : Span) → Inside start end p → Follows (take (p .start) s) a f (take (p .end) s) r → ((st : State) → read st ≡ f st) → Follows (take start s) a read (take end s) r
+    wider : {f : Scope → Outcome Numbered Scope} {r : Code.TableState} (p : Span) → Inside start end p → SimulatesStep (take (p .start) s) a f (take (p .end) s) r → ((st : Scope) → read st ≡ f st) → SimulatesStep (take start s) a read (take end s) r
     wider {f} {r} p i g e = record {
       leads = λ st q.
           let x = g .leads st (represents-later s start (p .start) (i .low) (let y = w .inside in omega (arith, i .ordered, i .high)) q) in
-          leads-later s (p .end) end (i .high) (w .inside) (subst (λ (u : Outcome Numbered State). Leads (take (p .end) s) r u is) (sym (e st)) x);
+          leads-later s (p .end) end (i .high) (w .inside) (subst (λ (u : Outcome Numbered Scope). Simulates (take (p .end) s) r u is) (sym (e st)) x);
     }
 
-    good-within : (p : Span) → Inside start end p → Good (take start s) a → Good (take (p .start) s) a
+    good-within : (p : Span) → Inside start end p → NotRefused (take start s) a → NotRefused (take (p .start) s) a
     good-within p i g = record { st = g .st; represents = represents-later s start (p .start) (i .low) (let y = w .inside in omega (arith, i .ordered, i .high)) (g .represents) }
 
-    abbrev ExprChecked : Span → Checked → Type 0
+    abbrev ExprChecked : Span → CheckedExpression → Type 0
     ExprChecked expr = ChecksAll (take (expr .end) s) (columns (a .table) (a .values)) line (part s (expr .start) (expr .end))
 
-    pub skipped-follows : Stmt.Skipped ≡ statementAt s start end → Follows (take start s) a read (take end s) a
+    pub skipped-follows : Stmt.Skipped ≡ statementAt s start end → SimulatesStep (take start s) a read (take end s) a
     skipped-follows e = record { leads = λ st q. leads-on (represents-later s start end (w .ordered) (w .inside) q) (says _ e st) }
 
-    pub no-equals-follows : Stmt.NoEquals ≡ statementAt s start end → Follows (take start s) a read (take end s) (refusedAs a (NoEquals line))
+    pub no-equals-follows : Stmt.NoEquals ≡ statementAt s start end → SimulatesStep (take start s) a read (take end s) (refusedAs a (NoEquals line))
     no-equals-follows e = record { leads = λ st q. leads-off refl (says _ e st) }
 
     module _ {name expr : Span} (e : Stmt.Let name expr ≡ statementAt s start end) where
-      line-let : {r : Code.State} → Follows (take (expr .start) s) a (λ st. performed line st (binds (part s (name .start) (name .end)) (part s (expr .start) (expr .end)))) (take (expr .end) s) r → Follows (take start s) a read (take end s) r
+      line-let : {r : Code.TableState} → SimulatesStep (take (expr .start) s) a (λ st. statementRead line st (binds (part s (name .start) (name .end)) (part s (expr .start) (expr .end)))) (take (expr .end) s) r → SimulatesStep (take start s) a read (take end s) r
       line-let g = wider expr (let-inside e .1 .0) g (says _ e)
 
-      pub let-refused : {why : Refusal} → ExprChecked expr (Refused why) → Follows (take start s) a read (take end s) (refusedAs a why)
+      pub let-refused : {why : AssembleError} → ExprChecked expr (Refused why) → SimulatesStep (take start s) a read (take end s) (refusedAs a why)
       let-refused k = line-let (expression-refused s a expr (let-within e .within) line k (λ st. bound st (part s (name .start) (name .end))))
 
-      module _ {v : Read} (k : ExprChecked expr (Is v)) where
+      module _ {v : Figures} (k : ExprChecked expr (Is v)) where
         -- the binding's places and figures fit the table
-        pub let-fits : Good (take start s) a → Placed name × (Placed expr × Small v)
+        pub let-fits : NotRefused (take start s) a → SpanFits name × (SpanFits expr × FiguresFit v)
         let-fits g =
             let l = let-within e in (
               record { ordered = l .ordered; fits = omega (arith, l .between, l .within .ordered, l .within .fits) },
@@ -178,15 +178,15 @@ module _ (s : List ℕ) (start end : ℕ) (w : Within s start end) where
               ),
             )
 
-        pub let-follows : {r : Code.State} → Bound a name expr v (part s (name .start) (name .end)) r → Follows (take start s) a read (take end s) r
+        pub let-follows : {r : Code.TableState} → Bound a name expr v (part s (name .start) (name .end)) r → SimulatesStep (take start s) a read (take end s) r
         let-follows {r} b = let l = let-within e in line-let (let-read s a expr (l .within) line k name r (l .ordered) (l .between) b)
 
     module _ {expr : Span} (e : Stmt.Return expr ≡ statementAt s start end) where
-      line-return : {r : Code.State} → Follows (take (expr .start) s) a (λ st. performed line st (returns (part s (expr .start) (expr .end)))) (take (expr .end) s) r → Follows (take start s) a read (take end s) r
+      line-return : {r : Code.TableState} → SimulatesStep (take (expr .start) s) a (λ st. statementRead line st (returns (part s (expr .start) (expr .end)))) (take (expr .end) s) r → SimulatesStep (take start s) a read (take end s) r
       line-return g = wider expr (return-inside e) g (says _ e)
 
-      pub return-refused : {why : Refusal} → ExprChecked expr (Refused why) → Follows (take start s) a read (take end s) (refusedAs a why)
+      pub return-refused : {why : AssembleError} → ExprChecked expr (Refused why) → SimulatesStep (take start s) a read (take end s) (refusedAs a why)
       return-refused k = line-return (expression-refused s a expr (return-within e) line k (λ st t. is (record { env = st .env; last = some t })))
 
-      pub return-follows : {v : Read} → ExprChecked expr (Is v) → Follows (take start s) a read (take end s) (returning a expr v)
+      pub return-follows : {v : Figures} → ExprChecked expr (Is v) → SimulatesStep (take start s) a read (take end s) (returning a expr v)
       return-follows k = line-return (return-read s a expr (return-within e) line k)

@@ -6,20 +6,20 @@ use mathlib.Core.Bool.{true, false}
 use native.Mathlib.Omega.{arith}
 use lib.ListN.{length, take, drop}
 use Rattle.base.specs.Ascii.{ascii}
-use Rattle.base.proofs.Parts.{rest, inner, length-part}
+use Rattle.base.proofs.Parts.{take-length-drop, take-drop-take, length-part}
 use Rattle.base.proofs.Tests.{by-bool}
 use Rattle.search.specs.declared.Found.the-variants.{At, Nothing}
 use Rattle.search.specs.First.{prefixOf, firstAt}
 use Rattle.search.proofs.Prefix.{fits}
 use Rattle.source.proofs.Found.{by-found, in-text}
-use Rattle.trim.specs.Trim.{passed, trimmed}
+use Rattle.trim.specs.Trim.{leadingBlanks, trimmed}
 use Rattle.source.proofs.Trimmed.{trimmed-place, trimmed-fits}
 use Rattle.source.specs.declared.parameters.Span.{Span}
 use Rattle.contract.specs.Part.{part}
-use Rattle.contract.specs.declared.statement.Statement.{Statement}
-use Rattle.contract.specs.declared.statement.Statement.the-variants.{Skipped, NoEquals, Let, Return}
+use Rattle.contract.specs.declared.statement.StatementSpans.{StatementSpans}
+use Rattle.contract.specs.declared.statement.StatementSpans.the-variants.{Skipped, NoEquals, Let, Return}
 use Rattle.contract.specs.Statement.{returns, letOf, statement}
-use Rattle.contract.specs.Code.Places.{trimmedIn, letAt, trimmedAt, statementAt, texts, Inside, AllInside, Stands}
+use Rattle.contract.specs.Code.Places.{trimmedIn, letAt, trimmedAt, statementAt, texts, Inside, AllInside, StatementStands}
 
 module _ (s : List ℕ) (start end : ℕ) (h : start ≤ end) (k : end ≤ length s) where
   pub part-length : length (part s start end) ≡ end - start
@@ -31,30 +31,30 @@ module _ (s : List ℕ) (start end : ℕ) (h : start ≤ end) (k : end ≤ lengt
   pub trimmed-is : let t = trimmedIn s start end in part s (t .start) (t .end) ≡ trimmed (part s start end)
   trimmed-is =
       let t = part s start end in
-      let n : start + (passed t + length (trimmed t)) - (start + passed t) ≡ length (trimmed t) = omega arith in
-      ap (λ (m : ℕ). take m (drop (start + passed t) s)) n
-      ∙ sym (trimmed-place t ∙ inner s t start (end - start) (passed t) (length (trimmed t)) (start + passed t) refl (trimmed-fits t) refl)
+      let n : start + (leadingBlanks t + length (trimmed t)) - (start + leadingBlanks t) ≡ length (trimmed t) = omega arith in
+      ap (λ (m : ℕ). take m (drop (start + leadingBlanks t) s)) n
+      ∙ sym (trimmed-place t ∙ take-drop-take s t start (end - start) (leadingBlanks t) (length (trimmed t)) (start + leadingBlanks t) refl (trimmed-fits t) refl)
 
   -- the part behind the first j bytes
   pub part-from : (j : ℕ) → j ≤ end - start → drop j (part s start end) ≡ part s (start + j) end
   part-from j l =
       let p = part s start end in
       let n : length p - j ≡ end - (start + j) = omega (arith, part-length) in
-      sym (rest p j)
-      ∙ inner s p start (end - start) j (length p - j) (start + j) refl (omega (arith, part-length)) refl
+      sym (take-length-drop p j)
+      ∙ take-drop-take s p start (end - start) j (length p - j) (start + j) refl (omega (arith, part-length)) refl
       ∙ ap (λ (m : ℕ). take m (drop (start + j) s)) n
 
   pub part-before : (i : ℕ) → i ≤ end - start → take i (part s start end) ≡ part s start (start + i)
   part-before i l =
       let n : i ≡ start + i - start = omega arith in
-      inner s (part s start end) start (end - start) 0 i start refl (omega (arith, part-length)) (omega arith)
+      take-drop-take s (part s start end) start (end - start) 0 i start refl (omega (arith, part-length)) (omega arith)
       ∙ ap (λ (m : ℕ). take m (drop start s)) n
 
 module _ (s : List ℕ) where
   inside-more : {a b c d : ℕ} {p : Span} → a ≤ c → d ≤ b → Inside c d p → Inside a b p
   inside-more h k i = record { low = omega arith; ordered = omega arith; high = omega arith }
 
-  all-inside-more : {a b c d : ℕ} (r : Statement) → a ≤ c → d ≤ b → AllInside c d r → AllInside a b r
+  all-inside-more : {a b c d : ℕ} (r : StatementSpans) → a ≤ c → d ≤ b → AllInside c d r → AllInside a b r
   all-inside-more Skipped h k i = tt
   all-inside-more NoEquals h k i = tt
   all-inside-more (Let name expr) h k i = (inside-more h k (i .0), (inside-more h k (i .1 .0), i .1 .1))
@@ -104,7 +104,7 @@ module _ (s : List ℕ) where
       pub at-neither : prefixOf (ascii "return ") (part s start end) ≡ false → trimmedAt s start end ≡ Skipped
       at-neither f = rw (e, f)
 
-    trimmed-stands : Stands s start end (part s start end) (trimmedAt s start end)
+    trimmed-stands : StatementStands s start end (part s start end) (trimmedAt s start end)
     trimmed-stands =
         by-bool (prefixOf (ascii "let ") (part s start end))
         (λ e.
@@ -126,7 +126,7 @@ module _ (s : List ℕ) where
 
   module _ (start end : ℕ) (h : start ≤ end) (k : end ≤ length s) where
     -- the line from start to end
-    pub stands : Stands s start end (trimmed (part s start end)) (statementAt s start end)
+    pub stands : StatementStands s start end (trimmed (part s start end)) (statementAt s start end)
     stands =
         let l = trimmedIn s start end in
         let i = trimmed-inside s start end h k in

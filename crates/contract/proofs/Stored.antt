@@ -9,8 +9,8 @@ use lib.Seq.{getD-set-same, getD-set-other}
 use Rattle.source.specs.declared.parameters.Span.{Span}
 use Rattle.expression.specs.declared.Bindings.{Bindings}
 use Rattle.expression.specs.declared.Values.{Values}
-use Rattle.expression.specs.declared.figures.Read.{Read}
-use Rattle.contract.specs.declared.state.Last.{Last}
+use Rattle.expression.specs.declared.figures.Figures.{Figures}
+use Rattle.contract.specs.declared.state.LastReturned.{LastReturned}
 use Rattle.contract.specs.declared.state.Status.{Status}
 use Rattle.contract.specs.declared.table.Row.{Row}
 use Rattle.contract.specs.Code.Stored.{Set, rowOf, More}
@@ -67,7 +67,7 @@ module _ {t : Bindings} {v : Values} (f : Full t v) where
     tag = simp length-set (f .tag);
   }
 
-  pub row-more : {name expr : Span} {r : Read} {w : List ℕ} {x : Row} {last : Last} {status : Status} → t .count < 256 → x ≡ rowOf name expr r w → More (record { table = t; values = v; last = last; status = status }) name expr r w (record { table = tableWith t v x; values = valuesWith t v x; last = last; status = status })
+  pub row-more : {name expr : Span} {r : Figures} {w : List ℕ} {x : Row} {last : LastReturned} {status : Status} → t .count < 256 → x ≡ rowOf name expr r w → More (record { table = t; values = v; last = last; status = status }) name expr r w (record { table = tableWith t v x; values = valuesWith t v x; last = last; status = status })
   row-more h e = record {
     table = record {
       count = refl;

@@ -20,7 +20,7 @@ use Rattle.contract.specs.Part.{part}
 use Rattle.numbered.specs.Numbered.{plain}
 use Rattle.numbered.specs.declared.Numbered.{Numbered}
 use Rattle.base.specs.Outcome.{Outcome, is, refused, andThen}
-use Rattle.contract.specs.State.{State, started, each}
+use Rattle.contract.specs.Scope.{Scope, started, each}
 use Rattle.contract.specs.Parameters.{keyed, parameterBound}
 use Rattle.contract.specs.Body.{lineRead}
 
@@ -28,7 +28,7 @@ abbrev pub readable : List ℕ → Bool
 readable s = leb (length s) 65536 && utf8 s
 
 -- the parameters are bound, which have places from 1; then the body is read, whose lines are numbered from 1
-abbrev pub bodyRead : List ℕ → List ℕ → Places → Outcome Numbered State
+abbrev pub bodyRead : List ℕ → List ℕ → Places → Outcome Numbered Scope
 bodyRead contract vector p =
     andThen (each (parameterBound vector) 1 started (parameters (part contract (p .«params_start») (p .«params_end»))))
     (λ st. each lineRead 1 st (lines (part contract (p .«body_start») (p .«body_end»))))

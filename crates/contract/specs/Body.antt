@@ -11,19 +11,19 @@ use Rattle.numbered.specs.Numbered.{carrying, located}
 use Rattle.numbered.specs.declared.Numbered.{Numbered}
 use Rattle.base.specs.Outcome.{Outcome, is, refused}
 use Rattle.contract.specs.Statement.{Statement, skipped, noEquals, binds, returns, statement}
-use Rattle.contract.specs.State.{State, bound}
+use Rattle.contract.specs.Scope.{Scope, bound}
 
 -- what follows from the tree of an expression on a line, whose k may be 32,768 at most
-abbrev pub treeOr : Outcome Numbered Tree → ℕ → (Tree → Outcome Numbered State) → Outcome Numbered State
+abbrev pub treeOr : Outcome Numbered Tree → ℕ → (Tree → Outcome Numbered Scope) → Outcome Numbered Scope
 treeOr (refused r) line follows = refused (located r line)
 treeOr (is t) line follows = need (leb (kOf t) 32768) (refused (carrying 20 (line ∷ []))) (follows t)
 
 -- a statement on a line
-abbrev pub performed : ℕ → State → Statement → Outcome Numbered State
-performed line st skipped = is st
-performed line st noEquals = refused (carrying 12 (line ∷ []))
-performed line st (binds name s) = treeOr (meaning (st .env) s) line (bound st name)
-performed line st (returns s) = treeOr (meaning (st .env) s) line (λ t. is (record { env = st .env; last = some t }))
+abbrev pub statementRead : ℕ → Scope → Statement → Outcome Numbered Scope
+statementRead line st skipped = is st
+statementRead line st noEquals = refused (carrying 12 (line ∷ []))
+statementRead line st (binds name s) = treeOr (meaning (st .env) s) line (bound st name)
+statementRead line st (returns s) = treeOr (meaning (st .env) s) line (λ t. is (record { env = st .env; last = some t }))
 
-abbrev pub lineRead : ℕ → State → List ℕ → Outcome Numbered State
-lineRead line st s = performed line st (statement (trimmed s))
+abbrev pub lineRead : ℕ → Scope → List ℕ → Outcome Numbered Scope
+lineRead line st s = statementRead line st (statement (trimmed s))

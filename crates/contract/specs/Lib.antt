@@ -1,6 +1,6 @@
 pub mod Part
 pub mod Statement
-pub mod State
+pub mod Scope
 pub mod Parameters
 pub mod Body
 pub mod Assembled

@@ -12,7 +12,7 @@ use Rattle.base.specs.Ascii.{ascii}
 use Rattle.kinds.specs.Kinds.{Operation}
 use Rattle.ops.specs.Written.{writtenAll}
 use Rattle.expression.specs.Tree.{Tree, kOf, pOf}
-use Rattle.expression.specs.Written.{opsOf}
+use Rattle.expression.specs.Written.{treeOps}
 use Rattle.numbered.specs.declared.Numbered.{Numbered}
 use Rattle.numbered.specs.Numbered.{plain, carrying}
 use Rattle.base.specs.Outcome.{Outcome, is, refused}
@@ -27,7 +27,7 @@ header stem expected = ascii "# contract: " ++ stem ++ 10 ∷ ascii "# expected:
 
 -- the tree's operations, left side, right side, operator; last `Halt`
 abbrev pub operationsOf : Tree → List Operation
-operationsOf t = opsOf t ++ record { kind = 15; operand = 0 } ∷ []
+operationsOf t = treeOps t ++ record { kind = 15; operand = 0 } ∷ []
 
 unfoldable pub output : List ℕ → ℕ → Tree → List ℕ
 output stem expected t = header stem expected ++ writtenAll (operationsOf t)
@@ -41,14 +41,14 @@ abbrev pub nothing : Numbered → Assembly
 nothing r = record { answer = r; text = [] }
 
 -- document 01's accepted: the answer is 0, with the bytes written, k, p and the value
-abbrev pub written : List ℕ → ℕ → Tree → ℕ → Assembly
-written text expected t room =
+abbrev pub writtenInto : List ℕ → ℕ → Tree → ℕ → Assembly
+writtenInto text expected t room =
     need (leb (length text) room) (nothing (plain 26))
     (record { answer = carrying 0 (length text ∷ kOf t ∷ pOf t ∷ expected ∷ []); text = text })
 
-abbrev pub named : Outcome Numbered (ℕ × Tree) → List ℕ → ℕ → Assembly
-named (refused r) stem room = nothing r
-named (is (expected, t)) stem room = need (stemFits stem) (nothing (plain 25)) (written (output stem expected t) expected t room)
+abbrev pub withStem : Outcome Numbered (ℕ × Tree) → List ℕ → ℕ → Assembly
+withStem (refused r) stem room = nothing r
+withStem (is (expected, t)) stem room = need (stemFits stem) (nothing (plain 25)) (writtenInto (output stem expected t) expected t room)
 
 unfoldable pub assembled : List ℕ → List ℕ → List ℕ → ℕ → Assembly
-assembled contract vector stem room = named (assembledTree contract vector) stem room
+assembled contract vector stem room = withStem (assembledTree contract vector) stem room

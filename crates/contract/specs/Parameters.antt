@@ -8,7 +8,7 @@ use Rattle.source.specs.declared.vector.KeyValue.{KeyValue}
 use Rattle.source.specs.declared.vector.KeyValue.the-variants.{Is, Refused}
 use Rattle.source.specs.Vector.{vectorNumber, keyErrorNumbered}
 use Rattle.expression.specs.Tree.{num}
-use Rattle.contract.specs.State.{State, bound}
+use Rattle.contract.specs.Scope.{Scope, bound}
 
 -- a key's number, or the refusal with the key's place
 abbrev pub keyed : KeyValue → ℕ → Outcome Numbered ℕ
@@ -16,5 +16,5 @@ keyed (Is n) place = is n
 keyed (Refused e) place = refused (located (keyErrorNumbered e) place)
 
 -- the parameter with a place, one more binding
-abbrev pub parameterBound : List ℕ → ℕ → State → List ℕ → Outcome Numbered State
+abbrev pub parameterBound : List ℕ → ℕ → Scope → List ℕ → Outcome Numbered Scope
 parameterBound vector place st name = andThen (keyed (vectorNumber vector name) place) (λ n. bound st name (num n))

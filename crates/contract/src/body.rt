@@ -4,21 +4,21 @@ ghost use Rattle.lines.specs.Lines.{lines};
 ghost use Rattle.expression.specs.Code.Table.{columns};
 ghost use Rattle.contract.specs.Part.{part};
 ghost use Rattle.contract.specs.Body.{lineRead};
-ghost use Rattle.contract.specs.State.{each};
-ghost use Rattle.contract.specs.Code.LastReturn.{ReadToLast, Meets};
-ghost use Rattle.contract.specs.Code.Held.{Good, Follows, ChecksAll, Within};
-use crate::refusal::Refusal;
-use crate::state::Last;
+ghost use Rattle.contract.specs.Scope.{each};
+ghost use Rattle.contract.specs.Code.LastReturn.{ReadToLast, ReadsBody};
+ghost use Rattle.contract.specs.Code.Held.{NotRefused, SimulatesStep, ChecksAll, Within};
+use crate::refusal::AssembleError;
+use crate::state::LastReturned;
 use crate::state::Returned;
-use crate::state::State;
 use crate::state::Status;
-use crate::statement::Statement;
+use crate::state::TableState;
+use crate::statement::StatementSpans;
 use crate::statement::statement_at;
 use crate::table::row_of;
 use expression::Bindings;
-use expression::Parsed;
+use expression::ParseResult;
 use expression::Values;
-use expression::figures::Read;
+use expression::figures::Figures;
 use expression::parse;
 use lines::Step;
 use lines::line_at;
@@ -28,18 +28,18 @@ use source::parameters::Span;
 const MAX_K: u64 = 32768;
 
 // The figures of an expression, or why it is refused.
-pub enum Checked {
-    Is(Read),
-    Refused(Refusal),
+pub enum CheckedExpression {
+    Is(Figures),
+    Refused(AssembleError),
 }
 
-// The lines from start to end of the contract. `read_places` calls it with the places that `find_function` found in a contract of at most
+// The lines from start to end of the contract. `read_places` calls it with the offsets that `find_function` found in a contract of at most
 // 65,536 bytes, and with a state that is not refused.
-pub fn read_body(contract: &[u8], start: usize, end: usize, a: State) -> State
-    requires { ⌜ Within (now contract) start end × Good (take start (now contract)) a ⌝ }
-    ensures { λ r. ⌜ Follows (take start (now (contract .entry))) a
+pub fn read_body(contract: &[u8], start: usize, end: usize, a: TableState) -> TableState
+    requires { ⌜ Within (now contract) start end × NotRefused (take start (now contract)) a ⌝ }
+    ensures { λ r. ⌜ SimulatesStep (take start (now (contract .entry))) a
         (λ st. each lineRead 1 st (lines (part (now (contract .entry)) start end))) (take end (now (contract .entry))) r
-        × Meets (now (contract .entry)) start end a r ⌝ }
+        × ReadsBody (now (contract .entry)) start end a r ⌝ }
 {
     let mut table = a.table;
     let mut values = a.values;
@@ -50,7 +50,7 @@ pub fn read_body(contract: &[u8], start: usize, end: usize, a: State) -> State
     while at < end {
         let step = line_at(&contract[..end], at);
         let Step::Next(l) = step else {
-            return State {
+            return TableState {
                 table,
                 values,
                 last,
@@ -61,34 +61,34 @@ pub fn read_body(contract: &[u8], start: usize, end: usize, a: State) -> State
         at = l.next;
         line += 1;
         match statement {
-            Statement::Skipped => {}
-            Statement::NoEquals => {
-                return State {
+            StatementSpans::Skipped => {}
+            StatementSpans::NoEquals => {
+                return TableState {
                     table,
                     values,
                     last,
-                    status: Status::Refused(Refusal::NoEquals(line)),
+                    status: Status::Refused(AssembleError::NoEquals(line)),
                 };
             }
-            Statement::Let(name, expr) => {
+            StatementSpans::Let(name, expr) => {
                 let checked = check(contract, expr, line, table, values);
                 match checked {
-                    Checked::Refused(why) => {
-                        return State {
+                    CheckedExpression::Refused(why) => {
+                        return TableState {
                             table,
                             values,
                             last,
                             status: Status::Refused(why),
                         };
                     }
-                    Checked::Is(read) => {
+                    CheckedExpression::Is(read) => {
                         let i = table.count;
                         if 256 <= i {
-                            return State {
+                            return TableState {
                                 table,
                                 values,
                                 last,
-                                status: Status::Refused(Refusal::TooManyBindings),
+                                status: Status::Refused(AssembleError::TooManyBindings),
                             };
                         }
                         let row = row_of(contract, name, expr, read);
@@ -106,19 +106,19 @@ pub fn read_body(contract: &[u8], start: usize, end: usize, a: State) -> State
                     }
                 }
             }
-            Statement::Return(expr) => {
+            StatementSpans::Return(expr) => {
                 let checked = check(contract, expr, line, table, values);
                 match checked {
-                    Checked::Refused(why) => {
-                        return State {
+                    CheckedExpression::Refused(why) => {
+                        return TableState {
                             table,
                             values,
                             last,
                             status: Status::Refused(why),
                         };
                     }
-                    Checked::Is(read) => {
-                        last = Last::Is(Returned {
+                    CheckedExpression::Is(read) => {
+                        last = LastReturned::Is(Returned {
                             start: expr.start,
                             end: expr.end,
                             count: table.count,
@@ -129,7 +129,7 @@ pub fn read_body(contract: &[u8], start: usize, end: usize, a: State) -> State
             }
         }
     }
-    State {
+    TableState {
         table,
         values,
         last,
@@ -138,7 +138,13 @@ pub fn read_body(contract: &[u8], start: usize, end: usize, a: State) -> State
 }
 
 // The expression of a line. Its names mean the bindings of the table, which is handed by value to no line without an expression.
-fn check(contract: &[u8], expr: Span, line: usize, table: Bindings, values: Values) -> Checked
+fn check(
+    contract: &[u8],
+    expr: Span,
+    line: usize,
+    table: Bindings,
+    values: Values,
+) -> CheckedExpression
     requires { ⌜ Within (now contract) (expr .start) (expr .end) ⌝ }
     ensures { λ r. ⌜ ChecksAll (take (expr .end) (now (contract .entry))) (columns table values) line
         (part (now (contract .entry)) (expr .start) (expr .end)) r
@@ -147,12 +153,12 @@ fn check(contract: &[u8], expr: Span, line: usize, table: Bindings, values: Valu
     let end = expr.end;
     let parsed = parse(&contract[..end], expr.start, table, values);
     match parsed {
-        Parsed::Refused(e) => Checked::Refused(Refusal::Expression(e, line)),
-        Parsed::Done(read) => {
+        ParseResult::Refused(e) => CheckedExpression::Refused(AssembleError::Expression(e, line)),
+        ParseResult::Done(read) => {
             if MAX_K < read.k {
-                return Checked::Refused(Refusal::TooLong(line));
+                return CheckedExpression::Refused(AssembleError::TooLong(line));
             }
-            Checked::Is(read)
+            CheckedExpression::Is(read)
         }
     }
 }

@@ -1,6 +1,6 @@
 // The assembler: a contract and its vector, up to the tree that is written out.
-pub mod assembly;
 mod body;
+pub mod check;
 mod parameters;
 pub mod refusal;
 pub mod state;

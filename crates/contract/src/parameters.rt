@@ -4,19 +4,19 @@ ghost use lib.ListN.{take};
 ghost use Rattle.source.specs.Vector.{vectorNumber};
 ghost use Rattle.source.specs.Parameters.{parameters};
 ghost use Rattle.expression.specs.Tree.{num};
-ghost use Rattle.expression.specs.Code.Figures.{Figures};
+ghost use Rattle.expression.specs.Code.Figures.{FiguresOf};
 ghost use Rattle.contract.specs.Part.{part};
 ghost use Rattle.contract.specs.Parameters.{keyed, parameterBound};
-ghost use Rattle.contract.specs.State.{each};
-ghost use Rattle.contract.specs.Code.Stored.{Small};
-ghost use Rattle.contract.specs.Code.Held.{Follows, Within, keyedAs};
-use crate::refusal::Refusal;
-use crate::state::State;
+ghost use Rattle.contract.specs.Scope.{each};
+ghost use Rattle.contract.specs.Code.Stored.{FiguresFit};
+ghost use Rattle.contract.specs.Code.Held.{SimulatesStep, Within, keyedAs};
+use crate::refusal::AssembleError;
 use crate::state::Status;
+use crate::state::TableState;
 use crate::table::row_of;
 use decimal::decimal_len;
-use expression::figures::Read;
-use expression::figures::Value;
+use expression::figures::Figures;
+use expression::figures::TreeValue;
 use source::parameters::NextParameter;
 use source::parameters::Span;
 use source::parameters::next_parameter;
@@ -24,16 +24,22 @@ use source::vector::KeyValue;
 use source::vector::json_u64_for_key;
 
 // A key's number, or why it is refused.
-pub enum Number {
+pub enum KeyNumber {
     Is(u64),
-    Refused(Refusal),
+    Refused(AssembleError),
 }
 
 // The parameters from start to end of the contract. `read_places` calls it with the places that `find_function` found in a contract of at
 // most 65,536 bytes.
-pub fn bind_parameters(contract: &[u8], vector: &[u8], start: usize, end: usize, a: State) -> State
+pub fn bind_parameters(
+    contract: &[u8],
+    vector: &[u8],
+    start: usize,
+    end: usize,
+    a: TableState,
+) -> TableState
     requires { ⌜ Within (now contract) start end ⌝ }
-    ensures { λ r. ⌜ Follows (take start (now (contract .entry))) a
+    ensures { λ r. ⌜ SimulatesStep (take start (now (contract .entry))) a
         (λ st. each (parameterBound (now (vector .entry))) 1 st (parameters (part (now (contract .entry)) start end)))
         (take end (now (contract .entry))) r ⌝ }
 {
@@ -46,7 +52,7 @@ pub fn bind_parameters(contract: &[u8], vector: &[u8], start: usize, end: usize,
     while at < end {
         let next = next_parameter(contract, at, end);
         let NextParameter::Is(p) = next else {
-            return State {
+            return TableState {
                 table,
                 values,
                 last,
@@ -57,9 +63,9 @@ pub fn bind_parameters(contract: &[u8], vector: &[u8], start: usize, end: usize,
         let behind = p.end;
         let number = number_for(vector, &contract[first..behind], place);
         let n = match number {
-            Number::Is(n) => n,
-            Number::Refused(why) => {
-                return State {
+            KeyNumber::Is(n) => n,
+            KeyNumber::Refused(why) => {
+                return TableState {
                     table,
                     values,
                     last,
@@ -70,11 +76,11 @@ pub fn bind_parameters(contract: &[u8], vector: &[u8], start: usize, end: usize,
         let read = literal(n);
         let i = table.count;
         if 256 <= i {
-            return State {
+            return TableState {
                 table,
                 values,
                 last,
-                status: Status::Refused(Refusal::TooManyBindings),
+                status: Status::Refused(AssembleError::TooManyBindings),
             };
         }
         let name = Span {
@@ -100,7 +106,7 @@ pub fn bind_parameters(contract: &[u8], vector: &[u8], start: usize, end: usize,
         at = p.next;
         place += 1;
     }
-    State {
+    TableState {
         table,
         values,
         last,
@@ -109,25 +115,25 @@ pub fn bind_parameters(contract: &[u8], vector: &[u8], start: usize, end: usize,
 }
 
 // The number that the vector has for a key with a place.
-pub fn number_for(vector: &[u8], key: &[u8], place: usize) -> Number
+pub fn number_for(vector: &[u8], key: &[u8], place: usize) -> KeyNumber
     ensures { λ r. ⌜ keyedAs r ≡ keyed (vectorNumber (now (vector .entry)) (now (key .entry))) place ⌝ }
 {
     let value = json_u64_for_key(vector, key);
     match value {
-        KeyValue::Is(n) => Number::Is(n),
-        KeyValue::Refused(e) => Number::Refused(Refusal::Key(e, place)),
+        KeyValue::Is(n) => KeyNumber::Is(n),
+        KeyValue::Refused(e) => KeyNumber::Refused(AssembleError::Key(e, place)),
     }
 }
 
 // The figures of a number.
-fn literal(n: u64) -> Read
-    ensures { λ r. ⌜ Figures (num n) r × Small r ⌝ }
+fn literal(n: u64) -> Figures
+    ensures { λ r. ⌜ FiguresOf (num n) r × FiguresFit r ⌝ }
 {
-    Read {
+    Figures {
         next: 0,
         k: 1,
         p: 1,
         len: 6 + decimal_len(n) as u64,
-        value: Value::Is(n),
+        value: TreeValue::Is(n),
     }
 }

@@ -1,6 +1,6 @@
 // Why an assembly is refused.
 ghost use mathlib.Core.Path.{_≡_};
-ghost use Rattle.contract.specs.Numbers.{refusalNumbered};
+ghost use Rattle.contract.specs.Numbers.{assembleErrorNumbered};
 use expression::ExprError;
 use numbered::Numbered;
 use numbered::carrying_one;
@@ -11,7 +11,7 @@ use source::vector::KeyError;
 
 // A key's refusal carries its place among the parameters from 1, or 0 for the expected value; a line's the number of that line.
 // The last two are given by crate assembler alone.
-pub enum Refusal {
+pub enum AssembleError {
     Contract,
     Vector,
     Function(FunctionError),
@@ -27,24 +27,24 @@ pub enum Refusal {
     OutputTooLong,
 }
 
-impl Refusal {
+impl AssembleError {
     pub fn numbered(self) -> Numbered
-        ensures { λ r. ⌜ r ≡ refusalNumbered self ⌝ }
+        ensures { λ r. ⌜ r ≡ assembleErrorNumbered self ⌝ }
     {
         match self {
-            Refusal::Contract => plain(1),
-            Refusal::Vector => plain(2),
-            Refusal::Function(e) => e.numbered(),
-            Refusal::Key(e, place) => located(e.numbered(), place as u64),
-            Refusal::NoEquals(line) => carrying_one(12, line as u64),
-            Refusal::Expression(e, line) => located(e.numbered(), line as u64),
-            Refusal::TooLong(line) => carrying_one(20, line as u64),
-            Refusal::TooManyBindings => plain(21),
-            Refusal::NoReturn => plain(22),
-            Refusal::NoValue => plain(23),
-            Refusal::NotExpected => plain(24),
-            Refusal::BadStem => plain(25),
-            Refusal::OutputTooLong => plain(26),
+            AssembleError::Contract => plain(1),
+            AssembleError::Vector => plain(2),
+            AssembleError::Function(e) => e.numbered(),
+            AssembleError::Key(e, place) => located(e.numbered(), place as u64),
+            AssembleError::NoEquals(line) => carrying_one(12, line as u64),
+            AssembleError::Expression(e, line) => located(e.numbered(), line as u64),
+            AssembleError::TooLong(line) => carrying_one(20, line as u64),
+            AssembleError::TooManyBindings => plain(21),
+            AssembleError::NoReturn => plain(22),
+            AssembleError::NoValue => plain(23),
+            AssembleError::NotExpected => plain(24),
+            AssembleError::BadStem => plain(25),
+            AssembleError::OutputTooLong => plain(26),
         }
     }
 }

@@ -1,30 +1,30 @@
 // How far an assembly has come: the bindings made and the last return, or why it is refused.
-use crate::refusal::Refusal;
+use crate::refusal::AssembleError;
 use expression::Bindings;
 use expression::Values;
-use expression::figures::Read;
+use expression::figures::Figures;
 
 // The last return: its expression stands from start to end of the contract, and count bindings were made before its line.
 pub struct Returned {
     pub start: usize,
     pub end: usize,
     pub count: usize,
-    pub read: Read,
+    pub read: Figures,
 }
 
-pub enum Last {
+pub enum LastReturned {
     Is(Returned),
     Nothing,
 }
 
 pub enum Status {
     Going,
-    Refused(Refusal),
+    Refused(AssembleError),
 }
 
-pub struct State {
+pub struct TableState {
     pub values: Values,
     pub table: Bindings,
-    pub last: Last,
+    pub last: LastReturned,
     pub status: Status,
 }

@@ -1,18 +1,18 @@
-// The state as it is stored: the first one, a refused one, and one binding more in the table.
+// The state as it is stored: the first one, a refused one, and one more binding in the table.
 ghost use mathlib.Core.Path.{_≡_};
 ghost use Prim.Native.Nat.{_≤_};
 ghost use lib.ListN.{length};
 ghost use Rattle.contract.specs.Part.{part};
 ghost use Rattle.contract.specs.Code.Held.{isRefused};
-ghost use Rattle.contract.specs.Code.Stored.{nothingYet, Small, Placed, rowOf, numberIn, isNone, refusedAs};
-use crate::refusal::Refusal;
-use crate::state::Last;
-use crate::state::State;
+ghost use Rattle.contract.specs.Code.Stored.{nothingYet, FiguresFit, SpanFits, rowOf, numberIn, isNone, refusedAs};
+use crate::refusal::AssembleError;
+use crate::state::LastReturned;
 use crate::state::Status;
+use crate::state::TableState;
 use expression::Bindings;
 use expression::Values;
-use expression::figures::Read;
-use expression::figures::Value;
+use expression::figures::Figures;
+use expression::figures::TreeValue;
 use expression::names::tag_of;
 use source::parameters::Span;
 
@@ -30,7 +30,7 @@ pub struct Row {
     pub tag: u8,
 }
 
-pub fn started() -> State
+pub fn started() -> TableState
     ensures { λ r. ⌜ r ≡ nothingYet ⌝ }
 {
     let table = Bindings {
@@ -48,10 +48,10 @@ pub fn started() -> State
         len: [0; 256],
         tag: [0; 256],
     };
-    State {
+    TableState {
         table,
         values,
-        last: Last::Nothing,
+        last: LastReturned::Nothing,
         status: Status::Going,
     }
 }
@@ -65,13 +65,13 @@ pub fn is_refused(status: Status) -> bool
     }
 }
 
-pub fn refuse(a: State, refusal: Refusal) -> State
+pub fn refuse(a: TableState, refusal: AssembleError) -> TableState
     ensures { λ r. ⌜ r ≡ refusedAs a refusal ⌝ }
 {
     let table = a.table;
     let values = a.values;
     let last = a.last;
-    State {
+    TableState {
         table,
         values,
         last,
@@ -82,8 +82,8 @@ pub fn refuse(a: State, refusal: Refusal) -> State
 // What the arrays hold of one binding. Its places lie before a closing parenthesis or brace of a contract of at most 65,536 bytes (1), and
 // its k is 1 or was tested to be 32,768 at most (20): so places and figures fit the arrays' types. The loops over parameters and lines
 // write it into the arrays themselves, at the count, where that is below 256 (21).
-pub fn row_of(text: &[u8], name: Span, expr: Span, read: Read) -> Row
-    requires { ⌜ Placed name × (Placed expr × (Small read × (name .end ≤ length (now text)))) ⌝ }
+pub fn row_of(text: &[u8], name: Span, expr: Span, read: Figures) -> Row
+    requires { ⌜ SpanFits name × (SpanFits expr × (FiguresFit read × (name .end ≤ length (now text)))) ⌝ }
     ensures { λ r. ⌜ r ≡ rowOf name expr read (part (now (text .entry)) (name .start) (name .end)) ⌝ }
 {
     let value = read.value;
@@ -101,20 +101,20 @@ pub fn row_of(text: &[u8], name: Span, expr: Span, read: Read) -> Row
     }
 }
 
-fn number(value: Value) -> u64
+fn number(value: TreeValue) -> u64
     ensures { λ r. ⌜ r ≡ numberIn value ⌝ }
 {
     match value {
-        Value::Is(n) => n,
-        Value::None => 0,
+        TreeValue::Is(n) => n,
+        TreeValue::None => 0,
     }
 }
 
-fn is_none(value: Value) -> bool
+fn is_none(value: TreeValue) -> bool
     ensures { λ r. ⌜ r ≡ isNone value ⌝ }
 {
     match value {
-        Value::Is(_) => false,
-        Value::None => true,
+        TreeValue::Is(_) => false,
+        TreeValue::None => true,
     }
 }

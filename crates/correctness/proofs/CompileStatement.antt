@@ -15,14 +15,14 @@ use Rattle.numbered.specs.Numbered.{carrying}
 use Rattle.contract.specs.Output.{operationsOf}
 use Rattle.base.specs.Outcome.{Outcome, is, refused}
 use Rattle.correctness.specs.Call.{Compilation, readingOf}
-use Rattle.correctness.specs.Statement.{Hypotheses, Statement, foundBy}
+use Rattle.correctness.specs.Statement.{Hypotheses, CompileStatement, observedBy}
 use Rattle.contract.proofs.Accepted.{accepted-is}
 use Rattle.contract.proofs.Answers.{tells}
 use Rattle.correctness.proofs.Operations.{operations-length}
 use Rattle.correctness.proofs.Reading.{reads-output}
 use Rattle.correctness.proofs.Transition.{kinds-length, operands-length, transition}
 
-pub compile-statement : (x : Compilation) (n k p v : ℕ) → Hypotheses x n k p v → Statement x k p v (foundBy x)
+pub compile-statement : (x : Compilation) (n k p v : ℕ) → Hypotheses x n k p v → CompileStatement x k p v (observedBy x)
 compile-statement x n k p v a =
     let d = tells (x .contract) (x .vector) (x .stem) (length (x .out)) (a .accepts) in
     let t = d .tree in

@@ -15,19 +15,19 @@ use Rattle.decimal.specs.Decimal.{decimal}
 use Rattle.token.specs.Token.{scan}
 use Rattle.ops.specs.Ops.{Reading, opsOf, kindsOf, operandsOf}
 use Rattle.context.specs.declared.Gate.the-variants as gate
-use Rattle.machine.specs.Machine.{outOfGas, stackLimitExceeded, whole}
+use Rattle.machine.specs.Machine.{outOfGas, stackLimitExceeded, runToEnd}
 use Rattle.perform.specs.declared.State.{State}
-use Rattle.perform.specs.declared.Answer.the-variants.{Success}
-use Rattle.perform.specs.Numbers.{answerNumbered}
+use Rattle.perform.specs.declared.RunAnswer.the-variants.{Success}
+use Rattle.perform.specs.Numbers.{runAnswerNumbered}
 use Rattle.perform.specs.Call.{Call}
 use Rattle.perform.specs.Run.{ofRun}
 use Rattle.expression.specs.Tree.{Tree, num, bin, valueOf, kOf, pOf}
 use Rattle.expression.specs.Parse.{parseF, meaning}
-use Rattle.contract.specs.State.{each}
+use Rattle.contract.specs.Scope.{each}
 use Rattle.contract.specs.Assembled.{assembledTree}
 use Rattle.contract.specs.Output.{operationsOf, output, assembled}
 use Rattle.correctness.specs.Call.{Compilation, readingOf, transitionOn}
-use Rattle.correctness.specs.Statement.{gasOf, SucceedsWith, Hypotheses, Statement, foundBy}
+use Rattle.correctness.specs.Statement.{gasOf, SucceedsWith, Hypotheses, CompileStatement, observedBy}
 use Rattle.correctness.proofs.CompileStatement.{compile-statement}
 use Rattle.correctness.proofs.Told.{told}
 use Rattle.correctness.proofs.Trees.{decided, meter, metered}
@@ -62,19 +62,19 @@ tally-accepted : (caller g : ℕ) → Hypotheses (call caller g) 67 3 2 24
 unfolding assembled output decimal assembledTree each meaning parseF scan tally vector
 tally-accepted caller g = record { accepts = refl; kindsRoom = refl; operandsRoom = refl; passes = refl; lent = refl; used = omega arith }
 
-tally-stated : (caller g : ℕ) → Statement (call caller g) 3 2 24 (foundBy (call caller g))
+tally-stated : (caller g : ℕ) → CompileStatement (call caller g) 3 2 24 (observedBy (call caller g))
 tally-stated caller g = compile-statement (call caller g) 67 3 2 24 (tally-accepted caller g)
 
 -- with a limit of 7 or more: 24, for 7 gas and 6 operations
 module _ (caller g : ℕ) (h : 7 ≤ g) where
-  tally-succeeds : SucceedsWith (tally-stated caller g .tree) 24 0 (replicate 4096 9) (foundBy (call caller g) .ending)
+  tally-succeeds : SucceedsWith (tally-stated caller g .tree) 24 0 (replicate 4096 9) (observedBy (call caller g) .ending)
   tally-succeeds =
       let stated = tally-stated caller g in
       let k = stated .k-counts in
       let p = stated .p-counts in
       stated .transition .success (omega arith) (omega arith)
 
-  tally-runs : (foundBy (call caller g) .ending .numbered ≡ carrying 0 (7 ∷ 6 ∷ 1 ∷ 0 ∷ [])) × (foundBy (call caller g) .ending .stack ≡ 24 ∷ replicate 4095 0)
+  tally-runs : (observedBy (call caller g) .ending .numbered ≡ carrying 0 (7 ∷ 6 ∷ 1 ∷ 0 ∷ [])) × (observedBy (call caller g) .ending .stack ≡ 24 ∷ replicate 4095 0)
   tally-runs = let k = tally-stated caller g .k-counts in (rw (← k) at (tally-succeeds .numbered), tally-succeeds .stack)
 
   abbrev reading : Reading
@@ -103,7 +103,7 @@ at-4097 = refl
 module _ (x : Call) (c room : ℕ) (used : List ℕ) where
   -- the number of the answer under the limit g, and what it carries
   abbrev numbered : ℕ → Numbered
-  numbered g = answerNumbered (ofRun x (whole (operationsOf (nest 4096)) c room g used) .answer)
+  numbered g = runAnswerNumbered (ofRun x (runToEnd (operationsOf (nest 4096)) c room g used) .answer)
 
   -- with 4096 the push that would meet 4,096 items is not paid, with 4097 it is
   short : numbered 4096 ≡ carrying 46 (1 ∷ 0 ∷ [])

@@ -12,7 +12,8 @@ use Rattle.machine.specs.Machine.{halt, decode}
 use Rattle.checks.specs.declared.Check.the-variants.{Passed}
 use Rattle.checks.specs.Verify.{operationCheck, operationsCheck}
 use Rattle.expression.specs.Tree.{Tree, num, bin, kOf}
-use Rattle.expression.specs.Written.{operatorOf, opsOf}
+use Rattle.expression.specs.Written.{treeOps}
+use Rattle.expression.specs.Code.Operator.{operatorOf}
 use Rattle.expression.proofs.Written.{ops-length}
 use Rattle.contract.specs.Output.{operationsOf}
 use Rattle.contract.proofs.Words.{Words}
@@ -40,7 +41,7 @@ number-fine n h = record { writable = omega arith; same = refl; passes = λ n. r
 halt-fine : Fine halt
 halt-fine = record { writable = omega arith; same = refl; passes = λ n. refl }
 
-ops-fine : (t : Tree) → Words t → Each Fine (opsOf t)
+ops-fine : (t : Tree) → Words t → Each Fine (treeOps t)
 ops-fine (num n) h = one (number-fine n h) none
 ops-fine (bin o l r) h = each-append (each-append (ops-fine l (h .0)) (ops-fine r (h .1))) (one (operator-fine o) none)
 
@@ -52,7 +53,7 @@ k-positive (num n) = omega arith
 k-positive (bin op l r) = omega (arith, k-positive l)
 
 pub operations-length : (t : Tree) → length (operationsOf t) ≡ 2 * kOf t
-operations-length t = omega (arith, length-append (opsOf t) (halt ∷ []), ops-length t)
+operations-length t = omega (arith, length-append (treeOps t) (halt ∷ []), ops-length t)
 
 pub all-writable : {os : List Operation} → Each Fine os → Each IsOperation os
 all-writable none = none

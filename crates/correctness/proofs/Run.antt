@@ -9,15 +9,15 @@ use mathlib.Core.Option.{some}
 use lib.ListN.{length, take, replicate, take-append-drop}
 use lib.Seq.{length-take-le}
 use Rattle.base.specs.Outcome as Outcome
-use Rattle.machine.specs.Machine.{Fault, stackLimitExceeded, Progress, done, stop, whole}
+use Rattle.machine.specs.Machine.{Fault, stackLimitExceeded, Progress, done, stop, runToEnd}
 use Rattle.numbered.specs.declared.Numbered.{Numbered}
-use Rattle.checks.specs.Numbers.{refusalNumbered}
+use Rattle.checks.specs.Numbers.{vmErrorNumbered}
 use Rattle.perform.specs.Call.{Call}
 use Rattle.perform.specs.Run.{refusalOf, ofRun}
 use Rattle.expression.specs.Tree.{Tree, valueOf, pOf}
 use Rattle.contract.specs.Output.{operationsOf}
-use Rattle.correctness.specs.Counting.{Short, Fills}
-use Rattle.correctness.specs.Statement.{Ending, gasOf, outOfGasAt, stackFull, SucceedsWith, RefusedWith, Compiled, endingOf}
+use Rattle.correctness.specs.Counting.{FirstUnpaid, FirstFull}
+use Rattle.correctness.specs.Statement.{Ending, gasOf, outOfGasAt, stackFull, SucceedsWith, RefusedWith, TreeRun, endingOf}
 use Rattle.correctness.proofs.Trees.{last, decided}
 use Rattle.correctness.proofs.Trace.{Metered, onward, trace}
 use Rattle.correctness.proofs.Ends.{refusedAt, succeeds, less-gas, less-room, less-both}
@@ -38,7 +38,7 @@ module _ (t : Tree) (v : ℕ) (e : valueOf t ≡ some v) (x : Call) (same : leng
 
   -- the run, and how the call ends with it
   abbrev progress : Progress
-  progress = whole (operationsOf t) (x .caller) (length (x .storage)) g used
+  progress = runToEnd (operationsOf t) (x .caller) (length (x .storage)) g used
 
   abbrev ran : Ending
   ran = endingOf (ofRun x progress)
@@ -56,7 +56,7 @@ module _ (t : Tree) (v : ℕ) (e : valueOf t ≡ some v) (x : Call) (same : leng
       go (Outcome.is g′) = record { storage = rw used-kept (take-append-drop (x .state .used) (x .storage)); after = used-kept; work = zeros }
       go (Outcome.refused f) = record { storage = refl; after = refl; work = zeros }
 
-  refused : (f : Fault) → progress ≡ stop f → RefusedWith (refusalNumbered (refusalOf f)) (x .stack) ran
+  refused : (f : Fault) → progress ≡ stop f → RefusedWith (vmErrorNumbered (refusalOf f)) (x .stack) ran
   refused f q = rw q (record { numbered = refl; stack = refl })
 
   success : gasOf t ≤ g → pOf t ≤ 4096 → SucceedsWith t v (x .state .used) (x .stack) ran
@@ -64,7 +64,7 @@ module _ (t : Tree) (v : ℕ) (e : valueOf t ≡ some v) (x : Call) (same : leng
       let d : g - (g - gasOf t) ≡ gasOf t = omega arith in
       rw (succeeds t v e (x .caller) (length (x .storage)) g used a b, used-kept, d) (record { numbered = refl; stack = refl })
 
-  gas : g < gasOf t → pOf t ≤ 4096 → (i : ℕ) × Short (operationsOf t) g i × RefusedWith (outOfGasAt t g i) (x .stack) ran
+  gas : g < gasOf t → pOf t ≤ 4096 → (i : ℕ) × FirstUnpaid (operationsOf t) g i × RefusedWith (outOfGasAt t g i) (x .stack) ran
   gas a b =
       let w = less-gas t v e (x .caller) (length (x .storage)) g used a b in
       (w .0, w .1, refused (refusedAt t g (w .0)) (w .2))
@@ -73,7 +73,7 @@ module _ (t : Tree) (v : ℕ) (e : valueOf t ≡ some v) (x : Call) (same : leng
   full a b = refused stackLimitExceeded (less-room t v e (x .caller) (length (x .storage)) g used a b)
 
   abbrev First : Type 0
-  First = (i : ℕ) × (j : ℕ) × Short (operationsOf t) g i × Fills (operationsOf t) j
+  First = (i : ℕ) × (j : ℕ) × FirstUnpaid (operationsOf t) g i × FirstFull (operationsOf t) j
       × (i ≤ j → RefusedWith (outOfGasAt t g i) (x .stack) ran) × (j < i → RefusedWith stackFull (x .stack) ran)
 
   first : g < gasOf t → 4096 < pOf t → First
@@ -98,7 +98,7 @@ module _ (t : Tree) (v : ℕ) (e : valueOf t ≡ some v) (x : Call) (same : leng
           which w (yes z) = not-both stackFull n (omega arith) (w .5 z)
           which w (no z) = not-both (outOfGasAt t g (w .0)) n (omega arith) (w .4 (omega arith))
 
-  pub compiled : Compiled t v g (x .state .used) (x .stack) (x .storage) ran
+  pub compiled : TreeRun t v g (x .state .used) (x .stack) (x .storage) ran
   compiled = record {
     storage = kept .storage;
     after = kept .after;

@@ -9,7 +9,7 @@ use lib.Seq.{drop-cons}
 use borrow.Author.Tests.{lt-ltb, le-ltb}
 use Rattle.kinds.specs.Kinds.{Operation}
 use Rattle.ops.specs.Written.{Each, none, one}
-use Rattle.machine.specs.Machine.{Frame, Effect, moves, jumps, ends, fails, costs, Progress, effectOf, priceOf, halt, settle, pay, actOf, machine, follow, runOf, start, whole}
+use Rattle.machine.specs.Machine.{Frame, Effect, moves, jumps, ends, fails, costs, Progress, effectOf, priceOf, halt, settle, pay, actOf, machine, follow, runOf, start, runToEnd}
 use Rattle.machine.proofs.Runs.{PricedAct, priced}
 use Rattle.correctness.specs.Counting.{opAt}
 
@@ -65,6 +65,6 @@ straight c room prog (x ∷ l) rest (suc n) g fr (one pl pls) e h =
     price (effectOf c room x (fr .stack) (fr .storage)) (rw (t, a) at (priced prog c room fr)) (pl c room (fr .stack) (fr .storage)) (decLt g price))
 
 -- a whole program of such operations
-pub whole-line : (l : List Operation) → Each Plain l → (c room g : ℕ) (m : List ℕ) → whole l c room g m ≡ line c room (runOf (machine l c room) (g + 1 - length l)) l g (start m)
-unfolding whole
+pub whole-line : (l : List Operation) → Each Plain l → (c room g : ℕ) (m : List ℕ) → runToEnd l c room g m ≡ line c room (runOf (machine l c room) (g + 1 - length l)) l g (start m)
+unfolding runToEnd
 whole-line l pl c room g m = straight c room l l [] (g + 1) g (start m) pl (sym (append-nil l)) (omega arith)

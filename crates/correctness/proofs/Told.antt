@@ -9,9 +9,9 @@ use lib.ListN.{length, getD, take}
 use Rattle.numbered.specs.declared.Numbered.{Numbered}
 use Rattle.context.specs.declared.ContextError.the-variants as context
 use Rattle.context.specs.declared.Gate.{Gate}
-use Rattle.machine.specs.Machine.{Progress, next, done, stop, decode, whole}
-use Rattle.checks.specs.declared.Refusal.{Refusal}
-use Rattle.checks.specs.declared.Refusal.the-variants as refusal
+use Rattle.machine.specs.Machine.{Progress, next, done, stop, decode, runToEnd}
+use Rattle.checks.specs.declared.VmError.{VmError}
+use Rattle.checks.specs.declared.VmError.the-variants as refusal
 use Rattle.checks.specs.declared.Check.{Check}
 use Rattle.checks.specs.declared.Check.the-variants as check
 use Rattle.checks.specs.Verify.{gateCheck}
@@ -19,17 +19,17 @@ use Rattle.ops.specs.declared.OpsError.the-variants as error
 use Rattle.ops.specs.declared.ParsedOps.{ParsedOps}
 use Rattle.ops.specs.declared.ParsedOps.the-variants as parsed
 use Rattle.ops.specs.Numbers.{parsedOpsNumbered}
-use Rattle.perform.specs.declared.Answer.{Answer}
-use Rattle.perform.specs.declared.Answer.the-variants.{Success, Refused}
-use Rattle.perform.specs.Numbers.{answerNumbered}
+use Rattle.perform.specs.declared.RunAnswer.{RunAnswer}
+use Rattle.perform.specs.declared.RunAnswer.the-variants.{Success, Refused}
+use Rattle.perform.specs.Numbers.{runAnswerNumbered}
 use Rattle.perform.specs.Call.{Call}
-use Rattle.perform.specs.Run.{Result, refusalOf, ofRun}
+use Rattle.perform.specs.Run.{RunResult, refusalOf, ofRun}
 use Rattle.vm.specs.Transition.{afterCheck, checksOf, transitionOf}
 use Rattle.numbered.specs.Numbered.{carrying}
 use Rattle.correctness.specs.Statement.{usedAfter}
 
 -- the refusal of a number and its first two words
-refusalFrom : ℕ → ℕ → ℕ → Refusal
+refusalFrom : ℕ → ℕ → ℕ → VmError
 refusalFrom n a b =
     cond (eqb n 34) refusal.BufferLengths
     (cond (eqb n 35) (refusal.Context context.InvalidChainId)
@@ -50,12 +50,12 @@ refusalFrom n a b =
     (cond (eqb n 50) (refusal.StorageLimitExceeded a)
     refusal.OutsideStorage))))))))))))))))
 
-answerFrom : Numbered → Answer
+answerFrom : Numbered → RunAnswer
 answerFrom x =
     cond (eqb (x .number) 0) (Success (getD (x .words) 0 0) (getD (x .words) 1 0) (getD (x .words) 2 0) (record { used = getD (x .words) 3 0 }))
     (Refused (refusalFrom (x .number) (getD (x .words) 0 0) (getD (x .words) 1 0)))
 
-back : (a : Answer) → answerFrom (answerNumbered a) ≡ a
+back : (a : RunAnswer) → answerFrom (runAnswerNumbered a) ≡ a
 unfolding answerFrom refusalFrom
 back (Success spent operations items state) = refl
 back (Refused refusal.BufferLengths) = refl
@@ -77,7 +77,7 @@ back (Refused refusal.DivisionByZero) = refl
 back (Refused (refusal.StorageLimitExceeded slots)) = refl
 back (Refused refusal.OutsideStorage) = refl
 
-pub told : {a b : Answer} → answerNumbered a ≡ answerNumbered b → a ≡ b
+pub told : {a b : RunAnswer} → runAnswerNumbered a ≡ runAnswerNumbered b → a ≡ b
 told {a} {b} e = sym (back a) ∙ ap answerFrom e ∙ back b
 
 pub read-told : (r : ParsedOps) (j : ℕ) → parsedOpsNumbered r ≡ carrying 0 (j ∷ []) → r ≡ parsed.Read j
@@ -94,7 +94,7 @@ read-told r j e = go r (ap (λ (x : Numbered). x .number) e) (ap (λ (x : Number
     go (parsed.Refused error.Empty) z w = absurd (omega arith)
 
 -- the used length after a refusal, and after any transition
-refused-used : (f : Refusal) (used : ℕ) → usedAfter (answerNumbered (Refused f)) used ≡ used
+refused-used : (f : VmError) (used : ℕ) → usedAfter (runAnswerNumbered (Refused f)) used ≡ used
 refused-used refusal.BufferLengths used = refl
 refused-used (refusal.Context context.InvalidChainId) used = refl
 refused-used (refusal.Context context.InvalidNetworkId) used = refl
@@ -114,15 +114,15 @@ refused-used refusal.DivisionByZero used = refl
 refused-used (refusal.StorageLimitExceeded slots) used = refl
 refused-used refusal.OutsideStorage used = refl
 
-pub used-told : (context : Gate) (x : Call) → transitionOf context x .state .used ≡ usedAfter (answerNumbered (transitionOf context x .answer)) (x .state .used)
+pub used-told : (context : Gate) (x : Call) → transitionOf context x .state .used ≡ usedAfter (runAnswerNumbered (transitionOf context x .answer)) (x .state .used)
 used-told context x =
     go (checksOf (gateCheck context) check.Passed x)
-    (whole (decode (x .kinds) (x .operands)) (x .caller) (length (x .storage)) (x .limit) (take (x .state .used) (x .storage)))
+    (runToEnd (decode (x .kinds) (x .operands)) (x .caller) (length (x .storage)) (x .limit) (take (x .state .used) (x .storage)))
   where
-    after : Check → Progress → Result
+    after : Check → Progress → RunResult
     after z o = afterCheck z x (ofRun x o)
 
-    go : (z : Check) (o : Progress) → after z o .state .used ≡ usedAfter (answerNumbered (after z o .answer)) (x .state .used)
+    go : (z : Check) (o : Progress) → after z o .state .used ≡ usedAfter (runAnswerNumbered (after z o .answer)) (x .state .used)
     go (check.Refused f) o = sym (refused-used f (x .state .used))
     go check.Passed (next h fr) = refl
     go check.Passed (stop f) = sym (refused-used (refusalOf f) (x .state .used))

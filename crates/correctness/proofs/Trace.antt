@@ -11,7 +11,7 @@ use borrow.Author.Tests.{lt-ltb, le-ltb}
 use Rattle.base.specs.Outcome.{Outcome, is, refused, andThen}
 use Rattle.kinds.specs.Kinds.{value, takes, Operation}
 use Rattle.machine.specs.Machine.{Fault, outOfGas, stackLimitExceeded, Progress, stop}
-use Rattle.correctness.specs.Counting.{price, cost, isPush, isOperator, pushes, operators, opAt, Short}
+use Rattle.correctness.specs.Counting.{price, cost, isPush, isOperator, pushes, operators, opAt, FirstUnpaid}
 
 -- what gas and height decide: the gas left, or a refusal
 abbrev pub Metered : Type 0
@@ -183,18 +183,18 @@ first-full (x ∷ l) h s a d = go (now x h a) (λ r d′. first-full l (rise x h
         each w (suc i) k m = w .2 i (omega arith) (meets-sooner x l h i (s .0) m)
 
 -- gas that does not cover the prices ends at a first operation
-pub first-short : (l : List Operation) (g : ℕ) → g < cost l → (i : ℕ) × Short l g i
+pub first-short : (l : List Operation) (g : ℕ) → g < cost l → (i : ℕ) × FirstUnpaid l g i
 unfolding cost
 first-short [] g h = absurd (omega arith)
 first-short (x ∷ l) g h = go (decLt g (price x)) (λ k. first-short l (g - price x) k)
   where
-    go : Dec (g < price x) → (g - price x < cost l → (i : ℕ) × Short l (g - price x) i) → (i : ℕ) × Short (x ∷ l) g i
+    go : Dec (g < price x) → (g - price x < cost l → (i : ℕ) × FirstUnpaid l (g - price x) i) → (i : ℕ) × FirstUnpaid (x ∷ l) g i
     go (yes k) ih = (zero, record { within = omega arith; paid = λ j a. absurd (omega arith); short = omega arith })
     go (no k) ih =
         let w = ih (omega arith) in
         (suc (w .0), record { within = omega (arith, w .1 .within); paid = each w; short = omega (arith, w .1 .short) })
       where
-        each : (w : (i : ℕ) × Short l (g - price x) i) → (j : ℕ) → j < suc (w .0) → cost (take j (x ∷ l)) + price (opAt (x ∷ l) j) ≤ g
+        each : (w : (i : ℕ) × FirstUnpaid l (g - price x) i) → (j : ℕ) → j < suc (w .0) → cost (take j (x ∷ l)) + price (opAt (x ∷ l) j) ≤ g
         each w zero a = omega arith
         each w (suc j) a = omega (arith, w .1 .paid j (omega arith))
 
@@ -205,7 +205,7 @@ cost-next [] i h = absurd (omega arith)
 cost-next (x ∷ l) zero h = omega arith
 cost-next (x ∷ l) (suc i) h = omega (arith, cost-next l i (omega arith))
 
-pub short-paid : (l : List Operation) (g i : ℕ) → Short l g i → cost (take i l) ≤ g
+pub short-paid : (l : List Operation) (g i : ℕ) → FirstUnpaid l g i → cost (take i l) ≤ g
 unfolding cost
 short-paid l g zero s = omega arith
 short-paid l g (suc i) s = omega (arith, cost-next l i (omega (arith, s .within)), s .paid i (omega arith))

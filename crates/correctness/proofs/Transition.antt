@@ -17,7 +17,7 @@ use Rattle.vm.specs.Transition.{checksOf, transitionOf}
 use Rattle.expression.specs.Tree.{Tree, valueOf, kOf}
 use Rattle.contract.specs.Output.{operationsOf}
 use Rattle.correctness.specs.Call.{withProgram}
-use Rattle.correctness.specs.Statement.{Compiled, endingOf}
+use Rattle.correctness.specs.Statement.{TreeRun, endingOf}
 use Rattle.contract.proofs.Words.{Words}
 use Rattle.correctness.proofs.Operations.{operations-fine, k-positive, operations-length, all-pass, decoded}
 use Rattle.correctness.proofs.Run.{compiled}
@@ -45,7 +45,7 @@ module _ (t : Tree) where
     y = withProgram x ks vs
 
     pub transition : buffersFit (2 * kOf t) (2 * kOf t) (length (x .stack)) (length (x .work)) (length (x .storage)) (x .state .used) ≡ true → x .state .used ≤ 65536
-        → Compiled t v (x .limit) (x .state .used) (x .stack) (x .storage) (endingOf (transitionOf gate.Passed y))
+        → TreeRun t v (x .limit) (x .state .used) (x .stack) (x .storage) (endingOf (transitionOf gate.Passed y))
     transition b u =
         let fit : buffersFit (length ks) (length vs) (length (x .stack)) (length (x .work)) (length (x .storage)) (x .state .used) ≡ true = rw (kinds-length, operands-length) b in
         let passes : checksOf Passed Passed y ≡ Passed = rw (fit, verifies h k (x .state .used) u) in

@@ -5,7 +5,7 @@ use lib.ListN.{length}
 use Rattle.ops.specs.Ops.{Reading, readText}
 use Rattle.context.specs.declared.Gate.{Gate}
 use Rattle.perform.specs.Call.{Call}
-use Rattle.perform.specs.Run.{Result}
+use Rattle.perform.specs.Run.{RunResult}
 use Rattle.vm.specs.Transition.{transitionOf}
 use Rattle.contract.specs.Output.{Assembly, assembled}
 
@@ -49,5 +49,5 @@ withProgram x kinds operands = record {
 }
 
 -- the transition on two program buffers, which it takes whole
-abbrev pub transitionOn : Compilation → (kinds operands : List ℕ) → Result
+abbrev pub transitionOn : Compilation → (kinds operands : List ℕ) → RunResult
 transitionOn x kinds operands = transitionOf (x .context) (withProgram (x .run) kinds operands)

@@ -42,16 +42,16 @@ abbrev pub heightBefore : List Operation → ℕ → ℕ
 heightBefore l i = pushes (take i l) - operators (take i l)
 
 -- operation i is the first whose price exceeds what is left of g
-pub record Short (l : List Operation) (g i : ℕ) : Type 0 where
+pub record FirstUnpaid (l : List Operation) (g i : ℕ) : Type 0 where
   pub within : i < length l
   pub paid : (j : ℕ) → j < i → costBefore l j + price (opAt l j) ≤ g
   pub short : g < costBefore l i + price (opAt l i)
 
 -- operation j is a push that meets 4,096 items
-abbrev pub Meets : List Operation → ℕ → Type 0
-Meets l j = (j < length l) × (isPush (opAt l j) ≡ 1) × (heightBefore l j ≡ 4096)
+abbrev pub PushWhenFull : List Operation → ℕ → Type 0
+PushWhenFull l j = (j < length l) × (isPush (opAt l j) ≡ 1) × (heightBefore l j ≡ 4096)
 
 -- and the first such
-pub record Fills (l : List Operation) (j : ℕ) : Type 0 where
-  pub meets : Meets l j
-  pub first : (i : ℕ) → i < j → ¬ (Meets l i)
+pub record FirstFull (l : List Operation) (j : ℕ) : Type 0 where
+  pub meets : PushWhenFull l j
+  pub first : (i : ℕ) → i < j → ¬ (PushWhenFull l i)

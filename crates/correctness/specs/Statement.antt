@@ -17,13 +17,13 @@ use Rattle.ops.specs.Ops.{answerOf, opsOf, kindsOf, operandsOf}
 use Rattle.ops.specs.Numbers.{parsedOpsNumbered}
 use Rattle.context.specs.declared.Gate.the-variants as gate
 use Rattle.checks.specs.Verify.{buffersFit}
-use Rattle.perform.specs.Numbers.{answerNumbered}
-use Rattle.perform.specs.Run.{Result}
+use Rattle.perform.specs.Numbers.{runAnswerNumbered}
+use Rattle.perform.specs.Run.{RunResult}
 use Rattle.expression.specs.Tree.{Tree, valueOf, kOf, pOf}
 use Rattle.base.specs.Outcome.{is}
 use Rattle.contract.specs.Assembled.{assembledTree}
 use Rattle.contract.specs.Output.{operationsOf}
-use Rattle.correctness.specs.Counting.{price, opAt, costBefore, Short, Fills}
+use Rattle.correctness.specs.Counting.{price, opAt, costBefore, FirstUnpaid, FirstFull}
 use Rattle.correctness.specs.Call.{Compilation, Left, assemblyOf, readingOf, transitionOn}
 
 -- how a transition ends: its number and words, the used length after it, and the three buffers
@@ -35,7 +35,7 @@ pub record Ending : Type 0 where
   pub storage : List ℕ
 
 -- what is found after the three calls: the number and words of reading, the program buffers as it left them, and how the transition ended
-pub record Found : Type 0 where
+pub record Observed : Type 0 where
   pub reading : Numbered
   pub kinds : List ℕ
   pub operands : List ℕ
@@ -64,7 +64,7 @@ pub record RefusedWith (f : Numbered) (s : List ℕ) (r : Ending) : Type 0 where
   pub stack : r .stack ≡ replicate (length s) 0
 
 -- the program of the tree t, whose value is v, run under the limit g, with the stack buffer s and the storage buffer m
-pub record Compiled (t : Tree) (v g used : ℕ) (s m : List ℕ) (r : Ending) : Type 0 where
+pub record TreeRun (t : Tree) (v g used : ℕ) (s m : List ℕ) (r : Ending) : Type 0 where
   -- in every case
   pub storage : r .storage ≡ m
   pub after : r .used ≡ used
@@ -73,10 +73,10 @@ pub record Compiled (t : Tree) (v g used : ℕ) (s m : List ℕ) (r : Ending) : 
   pub exact : (r .numbered .number ≡ 0) ↔ ((gasOf t ≤ g) × (pOf t ≤ 4096))
   pub success : gasOf t ≤ g → pOf t ≤ 4096 → SucceedsWith t v used s r
   -- how it is refused: out of gas; stack full; whichever of the two is met first, and the price comes first
-  pub gas : g < gasOf t → pOf t ≤ 4096 → (i : ℕ) × Short (operationsOf t) g i × RefusedWith (outOfGasAt t g i) s r
+  pub gas : g < gasOf t → pOf t ≤ 4096 → (i : ℕ) × FirstUnpaid (operationsOf t) g i × RefusedWith (outOfGasAt t g i) s r
   pub full : gasOf t ≤ g → 4096 < pOf t → RefusedWith stackFull s r
   pub first : g < gasOf t → 4096 < pOf t
-      → (i : ℕ) × (j : ℕ) × Short (operationsOf t) g i × Fills (operationsOf t) j
+      → (i : ℕ) × (j : ℕ) × FirstUnpaid (operationsOf t) g i × FirstFull (operationsOf t) j
       × (i ≤ j → RefusedWith (outOfGasAt t g i) s r) × (j < i → RefusedWith stackFull s r)
 
 -- what is assumed: the contract is document 01's accepted, since assembly answers 0; both program buffers have 2k entries; the context
@@ -91,7 +91,7 @@ pub record Hypotheses (x : Compilation) (n k p v : ℕ) : Type 0 where
   pub used : x .run .state .used ≤ 65536
 
 -- what follows for what is found
-pub record Statement (x : Compilation) (k p v : ℕ) (y : Found) : Type 0 where
+pub record CompileStatement (x : Compilation) (k p v : ℕ) (y : Observed) : Type 0 where
   -- k, p and the value are those of the last return's tree, from contract and vector alone; the value is the vector's `expected`
   pub tree : Tree
   pub assembles : assembledTree (x .contract) (x .vector) ≡ is (v, tree)
@@ -105,14 +105,14 @@ pub record Statement (x : Compilation) (k p v : ℕ) (y : Found) : Type 0 where
   pub operandsFilled : y .operands ≡ operandsOf (operationsOf tree)
   pub operations : length (operationsOf tree) ≡ 2 * k
   -- the transition takes the two buffers as reading left them
-  pub transition : Compiled tree v (x .run .limit) (x .run .state .used) (x .run .stack) (x .run .storage) (y .ending)
+  pub transition : TreeRun tree v (x .run .limit) (x .run .state .used) (x .run .stack) (x .run .storage) (y .ending)
 
 -- what is found by the definitions of the three calls
-abbrev pub endingOf : Result → Ending
-endingOf r = record { numbered = answerNumbered (r .answer); used = r .state .used; stack = r .stack; work = r .work; storage = r .storage }
+abbrev pub endingOf : RunResult → Ending
+endingOf r = record { numbered = runAnswerNumbered (r .answer); used = r .state .used; stack = r .stack; work = r .work; storage = r .storage }
 
-abbrev pub foundBy : Compilation → Found
-foundBy x =
+abbrev pub observedBy : Compilation → Observed
+observedBy x =
     let kinds = overwrite 0 (kindsOf (opsOf (readingOf x))) (x .run .kinds) in
     let operands = overwrite 0 (operandsOf (opsOf (readingOf x))) (x .run .operands) in
     record {
@@ -126,8 +126,8 @@ foundBy x =
 abbrev pub usedAfter : Numbered → ℕ → ℕ
 usedAfter n used = cond (eqb (n .number) 0) (getD (n .words) 3 0) used
 
-abbrev pub foundIn : (reading transition : Numbered) (used : ℕ) → Left → Found
-foundIn reading transition used b = record {
+abbrev pub observedIn : (reading transition : Numbered) (used : ℕ) → Left → Observed
+observedIn reading transition used b = record {
   reading = reading;
   kinds = b .kinds;
   operands = b .operands;

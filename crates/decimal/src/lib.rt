@@ -39,7 +39,7 @@ const BLOCK: usize = 16;
 // 2^64 - 1 is ten times this and 5.
 const TENTH: u64 = 1844674407370955161;
 
-// The digits from a place on: how many, and the number they write or that it is too large.
+// The digits starting at an offset: how many, and the number they write or that it is too large.
 pub fn digits_at(s: &[u8], at: usize) -> Digits
     ensures { λ r. ⌜ r ≡ digitsAt (now (s .entry)) at ⌝ }
 {
@@ -108,7 +108,7 @@ pub fn decimal_len(n: u64) -> usize
     len + short_len(rest)
 }
 
-// A number in plain decimal at a place of a buffer. Where it doesn't fit, nothing is written.
+// A number in plain decimal at an offset of a buffer. Where it doesn't fit, nothing is written.
 pub fn write_decimal(n: u64, out: &mut [u8], at: usize) -> Written
     ensures { λ r. ⌜ r ≡ writtenAt n at (length (now (out .entry))) ⌝ }
     ensures { λ r. ⌜ now (out .exit) ≡ bufferAfter n at (now (out .entry)) ⌝ }
@@ -135,7 +135,7 @@ fn is_digit_at(s: &[u8], i: usize) -> bool
     false
 }
 
-// Where the digits from a place on end.
+// Where the digits starting at an offset end.
 fn digits_end(s: &[u8], at: usize) -> usize
     ensures { λ r. ⌜ r ≡ at + length (takeWhile digit (drop at (now (s .entry)))) ⌝ }
 {
@@ -167,7 +167,7 @@ fn is_zero_at(s: &[u8], at: usize) -> bool {
     false
 }
 
-// Whether a block of zeros stands at a place.
+// Whether a block of zeros stands at an offset.
 fn zeros_at(s: &[u8], at: usize) -> bool
     ensures { λ r. ⌜ ZerosAt (now (s .entry)) at 16 r ⌝ }
 {

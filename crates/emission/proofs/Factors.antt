@@ -10,7 +10,7 @@ use lib.ListN.{length, getD, take, drop}
 use lib.Seq.{length-take-le, getD-take}
 use Rattle.base.specs.Lists.{all, takeWhile}
 use Rattle.base.proofs.Tests.{by-bool}
-use Rattle.base.proofs.Parts.{next, inner}
+use Rattle.base.proofs.Parts.{drop-cons-at, take-drop-take}
 use Rattle.base.proofs.Lists.{all-takeWhile}
 use Rattle.decimal.specs.Decimal.{digit, value}
 use Rattle.decimal.specs.Code.Digits.{capped}
@@ -19,8 +19,8 @@ use Rattle.token.specs.Token.{tokens}
 use Rattle.token.specs.Code.Places.{tokenAt}
 use Rattle.token.specs.declared.Token.{Token}
 use Rattle.token.proofs.Tokens.{Next, tokenFrom, digit-token}
-use Rattle.expression.specs.declared.names.Found.{Found}
-use Rattle.expression.specs.Parse.{lone}
+use Rattle.expression.specs.declared.names.BoundName.{BoundName}
+use Rattle.expression.specs.Parse.{symbol}
 use Rattle.expression.specs.Code.Table.{found}
 use Rattle.expression.proofs.Signs.{next-of, none-of}
 use Rattle.emission.specs.declared.factor.Factor.{Factor}
@@ -69,31 +69,31 @@ module _ (s : List ℕ) (end at count : ℕ) (names lens tags : List ℕ) (t : T
     token-inside = omega (arith, token .inside, length-take-le end s i)
 
     bytes : take (t .end - t .start) (drop (t .start) s) ≡ w
-    bytes = sym (inner s (take end s) 0 end (t .start) (t .end - t .start) (t .start) refl (omega (arith, token .some, token .inside)) (omega arith)) ∙ token .bytes
+    bytes = sym (take-drop-take s (take end s) 0 end (t .start) (t .end - t .start) (t .start) refl (omega (arith, token .some, token .inside)) (omega arith)) ∙ token .bytes
 
     first-byte : getD (take end s) (t .start) 0 ≡ getD s (t .start) 0
     first-byte = getD-take end s (t .start) 0 (omega (arith, token .some, token-inside))
 
-    module _ {b : ℕ} (l : b ≡ lone (take (t .end - t .start) (drop (t .start) (take end s)))) where
-      sign : b ≡ lone w
-      sign = l ∙ ap lone (token .bytes)
+    module _ {b : ℕ} (l : b ≡ symbol (take (t .end - t .start) (drop (t .start) (take end s)))) where
+      sign : b ≡ symbol w
+      sign = l ∙ ap symbol (token .bytes)
 
       pub factor-open : b ≡ 40 → _≡_ {A = FactorAt} (record { factor = Open; end = t .end }) (factorAt s end at count names lens tags)
-      factor-open q = by-token (sym (simp (eq-eqb (lone w) 40 (sym sign ∙ q))))
+      factor-open q = by-token (sym (simp (eq-eqb (symbol w) 40 (sym sign ∙ q))))
 
       module _ (q : b ≡ 40 → ⊥) where
-        no-open : lone w ≡ 40 → ⊥
+        no-open : symbol w ≡ 40 → ⊥
         no-open z = q (sign ∙ z)
 
         pub factor-literal : digit (getD s (t .start) 0) ≡ true → _≡_ {A = FactorAt} (record { factor = literalOf (takeWhile digit (drop (t .start) (take end s))); end = t .end }) (factorAt s end at count names lens tags)
         factor-literal d =
-            let x = next (take end s) (t .start) (t .start + 1) (omega (arith, token .some, token .inside)) refl in
+            let x = drop-cons-at (take end s) (t .start) (t .start + 1) (omega (arith, token .some, token .inside)) refl in
             let y : w ≡ takeWhile digit (drop (t .start) (take end s)) = digit-token (getD (take end s) (t .start) 0) (ap digit first-byte ∙ d) (drop (t .start + 1) (take end s)) ∙ ap (takeWhile digit) (sym x) in
             let a : all digit w ≡ true = ap (all digit) y ∙ all-takeWhile digit (drop (t .start) (take end s)) in
-            by-token (ap literalOf (sym y) ∙ sym (simp (ne-eqb (lone w) 40 no-open, a)))
+            by-token (ap literalOf (sym y) ∙ sym (simp (ne-eqb (symbol w) 40 no-open, a)))
 
-        pub factor-name : digit (getD s (t .start) 0) ≡ false → (f : Found) → f ≡ found count s names lens tags (take (t .end - t .start) (drop (t .start) s)) → _≡_ {A = FactorAt} (record { factor = namedBy f; end = t .end }) (factorAt s end at count names lens tags)
+        pub factor-name : digit (getD s (t .start) 0) ≡ false → (f : BoundName) → f ≡ found count s names lens tags (take (t .end - t .start) (drop (t .start) s)) → _≡_ {A = FactorAt} (record { factor = namedBy f; end = t .end }) (factorAt s end at count names lens tags)
         factor-name d f g =
-            let x = next (take end s) (t .start) (t .start + 1) (omega (arith, token .some, token .inside)) refl in
+            let x = drop-cons-at (take end s) (t .start) (t .start + 1) (omega (arith, token .some, token .inside)) refl in
             let a : all digit w ≡ false = simp (ap digit first-byte ∙ d) in
-            by-token (ap namedBy (g ∙ ap (found count s names lens tags) bytes) ∙ sym (simp (ne-eqb (lone w) 40 no-open, a)))
+            by-token (ap namedBy (g ∙ ap (found count s names lens tags) bytes) ∙ sym (simp (ne-eqb (symbol w) 40 no-open, a)))

@@ -2,10 +2,10 @@ pub mod Again
 pub mod Stack
 pub mod Walk
 pub mod Postfix
-pub mod Popping
+pub mod WaitingLoop
 pub mod Factors
-pub mod Turning
+pub mod OperatorStep
 pub mod Names
-pub mod Stepping
-pub mod Keeping
-pub mod Emitting
+pub mod WalkStep
+pub mod WrittenBindings
+pub mod Loop

@@ -9,7 +9,7 @@ use Rattle.base.specs.Outcome.{is}
 use Rattle.word.specs.Apply.{Binary}
 use Rattle.token.specs.Token.{tokens}
 use Rattle.expression.specs.Tree.{Tree, bin}
-use Rattle.expression.specs.Parse.{Env, lone, operator, meaning}
+use Rattle.expression.specs.Parse.{Env, symbol, operator, meaning}
 use Rattle.expression.specs.Grammar.{levels, Derives, number, name, parentheses, alone, join}
 use Rattle.expression.specs.Code.Texts.{textOf}
 use Rattle.expression.proofs.Steps.{lone-is}
@@ -73,46 +73,46 @@ regroup : (a b c d : List ℕ) → (a ++ b) ++ (c ++ (d ++ [])) ≡ (a ++ (b ++ 
 regroup a b c d = simp (append-assoc, append-nil)
 
 -- one more operator of a level, and its right side
-module _ {env : Env} {l : ℕ} {st : List ℕ} {ts us : List (List ℕ)} {t u : Tree} (w : List ℕ) (low : l < levels) (small : length st < most) (s : Starts (suc l) st) (v : Ends env (suc l) st ts t) (level : levelOf (lone w) ≡ suc l) (n : Ends env l (lone w ∷ st) us u) where
-  join-popped : popped (levelOf (lone w)) (v .top ++ st) ≡ v .top
-  join-popped = v .popped (levelOf (lone w)) (omega arith) ∙ ap (λ (x : List ℕ). v .top ++ x) (s .popped (levelOf (lone w)) (omega arith)) ∙ append-nil (v .top)
+module _ {env : Env} {l : ℕ} {st : List ℕ} {ts us : List (List ℕ)} {t u : Tree} (w : List ℕ) (low : l < levels) (small : length st < most) (s : Starts (suc l) st) (v : Ends env (suc l) st ts t) (level : levelOf (symbol w) ≡ suc l) (n : Ends env l (symbol w ∷ st) us u) where
+  join-popped : popped (levelOf (symbol w)) (v .top ++ st) ≡ v .top
+  join-popped = v .popped (levelOf (symbol w)) (omega arith) ∙ ap (λ (x : List ℕ). v .top ++ x) (s .popped (levelOf (symbol w)) (omega arith)) ∙ append-nil (v .top)
 
-  join-left : left (levelOf (lone w)) (v .top ++ st) ≡ st
-  join-left = v .left (levelOf (lone w)) (omega arith) ∙ s .left (levelOf (lone w)) (omega arith)
+  join-left : left (levelOf (symbol w)) (v .top ++ st) ≡ st
+  join-left = v .left (levelOf (symbol w)) (omega arith) ∙ s .left (levelOf (symbol w)) (omega arith)
 
-  join-waits : (rest : List (List ℕ)) (o : List ℕ) → Walks env true (lone w ∷ st) rest o → Walks env false (v .top ++ st) (w ∷ rest) (operatorsText (v .top) ++ o)
+  join-waits : (rest : List (List ℕ)) (o : List ℕ) → Walks env true (symbol w ∷ st) rest o → Walks env false (v .top ++ st) (w ∷ rest) (operatorsText (v .top) ++ o)
   join-waits rest o h =
       waits (omega arith) (omega (arith, ap length join-left)) o (ap (λ (x : List ℕ). operatorsText x ++ o) (sym join-popped))
-      (subst (λ (x : List ℕ). Walks env true (lone w ∷ x) rest o) (sym join-left) h)
+      (subst (λ (x : List ℕ). Walks env true (symbol w ∷ x) rest o) (sym join-left) h)
 
-  join-walks : (rest : List (List ℕ)) (o : List ℕ) → Walks env false ((n .top ++ lone w ∷ []) ++ st) rest o → Walks env true st ((ts ++ w ∷ us) ++ rest) ((textOf t ++ n .o') ++ o)
+  join-walks : (rest : List (List ℕ)) (o : List ℕ) → Walks env false ((n .top ++ symbol w ∷ []) ++ st) rest o → Walks env true st ((ts ++ w ∷ us) ++ rest) ((textOf t ++ n .o') ++ o)
   join-walks rest o h =
-      let a = n .walks rest o (subst (λ (x : List ℕ). Walks env false x rest o) (append-assoc (n .top) (lone w ∷ []) st) h) in
+      let a = n .walks rest o (subst (λ (x : List ℕ). Walks env false x rest o) (append-assoc (n .top) (symbol w ∷ []) st) h) in
       let b = v .walks (w ∷ us ++ rest) (operatorsText (v .top) ++ (n .o' ++ o)) (join-waits (us ++ rest) (n .o' ++ o) a) in
       let c = subst (λ (x : List (List ℕ)). Walks env true st x (v .o' ++ (operatorsText (v .top) ++ (n .o' ++ o)))) (sym (append-assoc ts (w ∷ us) rest)) b in
       subst (Walks env true st ((ts ++ w ∷ us) ++ rest))
       (sym (append-assoc (v .o') (operatorsText (v .top)) (n .o' ++ o)) ∙ ap (λ (x : List ℕ). x ++ (n .o' ++ o)) (v .all) ∙ sym (append-assoc (textOf t) (n .o') o))
       c
 
-  join-text : (textOf t ++ n .o') ++ operatorsText (n .top ++ lone w ∷ []) ≡ textOf (bin (operator (lone w)) t u)
+  join-text : (textOf t ++ n .o') ++ operatorsText (n .top ++ symbol w ∷ []) ≡ textOf (bin (operator (symbol w)) t u)
   join-text =
-      ap (λ (x : List ℕ). (textOf t ++ n .o') ++ x) (operators-append (n .top) (lone w ∷ []))
-      ∙ regroup (textOf t) (n .o') (operatorsText (n .top)) (operatorText (lone w))
-      ∙ ap (λ (x : List ℕ). (textOf t ++ x) ++ operatorText (lone w)) (n .all)
-      ∙ sym (text-bin (operator (lone w)) t u)
+      ap (λ (x : List ℕ). (textOf t ++ n .o') ++ x) (operators-append (n .top) (symbol w ∷ []))
+      ∙ regroup (textOf t) (n .o') (operatorsText (n .top)) (operatorText (symbol w))
+      ∙ ap (λ (x : List ℕ). (textOf t ++ x) ++ operatorText (symbol w)) (n .all)
+      ∙ sym (text-bin (operator (symbol w)) t u)
 
-  join-pops : (p : ℕ) → suc l ≤ p → popped p ((n .top ++ lone w ∷ []) ++ st) ≡ (n .top ++ lone w ∷ []) ++ popped p st
+  join-pops : (p : ℕ) → suc l ≤ p → popped p ((n .top ++ symbol w ∷ []) ++ st) ≡ (n .top ++ symbol w ∷ []) ++ popped p st
   join-pops p h =
-      ap (popped p) (append-assoc (n .top) (lone w ∷ []) st)
+      ap (popped p) (append-assoc (n .top) (symbol w ∷ []) st)
       ∙ n .popped p (omega arith)
-      ∙ ap (λ (x : List ℕ). n .top ++ x) (popped-one p (lone w) st (omega arith))
-      ∙ sym (append-assoc (n .top) (lone w ∷ []) (popped p st))
+      ∙ ap (λ (x : List ℕ). n .top ++ x) (popped-one p (symbol w) st (omega arith))
+      ∙ sym (append-assoc (n .top) (symbol w ∷ []) (popped p st))
 
-  join-leaves : (p : ℕ) → suc l ≤ p → left p ((n .top ++ lone w ∷ []) ++ st) ≡ left p st
-  join-leaves p h = ap (left p) (append-assoc (n .top) (lone w ∷ []) st) ∙ n .left p (omega arith) ∙ left-one p (lone w) st (omega arith)
+  join-leaves : (p : ℕ) → suc l ≤ p → left p ((n .top ++ symbol w ∷ []) ++ st) ≡ left p st
+  join-leaves p h = ap (left p) (append-assoc (n .top) (symbol w ∷ []) st) ∙ n .left p (omega arith) ∙ left-one p (symbol w) st (omega arith)
 
-  join-ends : Ends env (suc l) st (ts ++ w ∷ us) (bin (operator (lone w)) t u)
-  join-ends = record { o' = textOf t ++ n .o'; top = n .top ++ lone w ∷ []; all = join-text; popped = join-pops; left = join-leaves; walks = join-walks }
+  join-ends : Ends env (suc l) st (ts ++ w ∷ us) (bin (operator (symbol w)) t u)
+  join-ends = record { o' = textOf t ++ n .o'; top = n .top ++ symbol w ∷ []; all = join-text; popped = join-pops; left = join-leaves; walks = join-walks }
 
 -- tokens of a level, walked from a stack that leaves room for what waits in the parentheses that may still open
 ends : {env : Env} {l d : ℕ} {ts : List (List ℕ)} {t : Tree} → Derives env l d ts t → l ≤ levels → (st : List ℕ) → length st + l + (levels + 1) * d ≤ most → Starts l st → Ends env l st ts t
@@ -122,9 +122,9 @@ ends {env} (parentheses {d} {ts} {t} h) low st small s = parentheses-end (omega 
 ends {env} (alone {l} {d} {ts} {t} h) low st small s = alone-ends (ends h (omega arith) st (omega arith) (starts-below s))
 ends {env} (join {l} {d} {ts} {us} {w} {op} {t} {u} h o g) low st small s =
     let j = operator-is o in
-    let level = joins-level l (lone w) (j .0) in
+    let level = joins-level l (symbol w) (j .0) in
     subst (λ (x : Binary). Ends env (suc l) st (ts ++ w ∷ us) (bin x t u)) (j .1)
-    (join-ends w (omega arith) (omega arith) s (ends h low st small s) level (ends g (omega arith) (lone w ∷ st) (omega arith) (starts-top l (lone w) st (omega arith))))
+    (join-ends w (omega arith) (omega arith) s (ends h low st small s) level (ends g (omega arith) (symbol w ∷ st) (omega arith) (starts-top l (symbol w) st (omega arith))))
 
 pub postfix : (env : Env) (s : List ℕ) (t : Tree) → meaning env s ≡ is t → Walks env true [] (tokens s) (textOf t)
 postfix env s t e =

@@ -7,9 +7,9 @@ use native.Mathlib.Omega.{arith}
 use borrow.Author.Tests.{le-leb, lt-leb}
 use lib.ListN.{length, getD}
 use Rattle.base.specs.Code.Stack.{stackOf}
-use Rattle.base.proofs.Tests.{never, by-leb}
+use Rattle.base.proofs.Tests.{false-true, by-leb}
 use Rattle.base.proofs.Stack.{stack-pop}
-use Rattle.expression.specs.Parse.{joins}
+use Rattle.expression.specs.Parse.{isOperatorAt}
 use Rattle.expression.specs.Tree.{num}
 use Rattle.expression.specs.Code.Texts.{textOf}
 use Rattle.expression.proofs.Steps.{looser}
@@ -18,10 +18,10 @@ use Rattle.emission.specs.Code.Waiting.{levelOf, popped, left}
 
 -- an operator's level is the one that it joins to
 
-pub joins-level : (l a : ℕ) → joins (suc l) a ≡ true → levelOf a ≡ suc l
+pub joins-level : (l a : ℕ) → isOperatorAt (suc l) a ≡ true → levelOf a ≡ suc l
 joins-level zero a e = simp e
 joins-level (suc zero) a e = let n = looser 1 a e in simp (n, e)
-joins-level (suc (suc l)) a e = never e
+joins-level (suc (suc l)) a e = false-true e
 
 -- one operator on top of a stack
 

@@ -9,7 +9,7 @@ use Rattle.base.specs.Lists.{all}
 use Rattle.decimal.specs.Decimal.{digit, value}
 use Rattle.expression.specs.Tree.{Tree, num}
 use Rattle.expression.specs.Grammar.{levels}
-use Rattle.expression.specs.Parse.{Env, lookup, lone}
+use Rattle.expression.specs.Parse.{Env, lookup, symbol}
 use Rattle.expression.specs.Code.Texts.{textOf}
 use Rattle.emission.specs.Code.Lines.{operatorsText}
 use Rattle.emission.specs.Code.Waiting.{levelOf, most, popped, left}
@@ -17,14 +17,14 @@ use Rattle.emission.specs.Code.Waiting.{levelOf, most, popped, left}
 -- The token w where a factor is due: `(` is marked on the stack, a number and a name are written.
 -- `next due st o`: the walk over the tokens behind w, with the stack st, writes o; due says whether it starts with a factor.
 pub data FactorStep (env : Env) (next : Bool → List ℕ → List ℕ → Type 0) (st w o : List ℕ) : Type 0 where
-  opens : lone w ≡ 40 → length st < most → next true (40 ∷ st) o → FactorStep env next st w o
-  number : (lone w ≡ 40 → ⊥) → all digit w ≡ true → value w < 2 ^ 64 → (o' : List ℕ) → o ≡ textOf (num (value w)) ++ o' → next false st o' → FactorStep env next st w o
-  name : (lone w ≡ 40 → ⊥) → all digit w ≡ false → (t : Tree) → lookup w env ≡ some t → (o' : List ℕ) → o ≡ textOf t ++ o' → next false st o' → FactorStep env next st w o
+  opens : symbol w ≡ 40 → length st < most → next true (40 ∷ st) o → FactorStep env next st w o
+  number : (symbol w ≡ 40 → ⊥) → all digit w ≡ true → value w < 2 ^ 64 → (o' : List ℕ) → o ≡ textOf (num (value w)) ++ o' → next false st o' → FactorStep env next st w o
+  name : (symbol w ≡ 40 → ⊥) → all digit w ≡ false → (t : Tree) → lookup w env ≡ some t → (o' : List ℕ) → o ≡ textOf t ++ o' → next false st o' → FactorStep env next st w o
 
 -- The token w where an operator is due: `)` writes the operators down to the mark; an operator writes those that bind at least as tightly, then waits.
 pub data OperatorStep (next : Bool → List ℕ → List ℕ → Type 0) (st w o : List ℕ) : Type 0 where
-  closes : lone w ≡ 41 → (st' : List ℕ) → left levels st ≡ 40 ∷ st' → (o' : List ℕ) → o ≡ operatorsText (popped levels st) ++ o' → next false st' o' → OperatorStep next st w o
-  waits : levelOf (lone w) ≤ levels → length (left (levelOf (lone w)) st) < most → (o' : List ℕ) → o ≡ operatorsText (popped (levelOf (lone w)) st) ++ o' → next true (lone w ∷ left (levelOf (lone w)) st) o' → OperatorStep next st w o
+  closes : symbol w ≡ 41 → (st' : List ℕ) → left levels st ≡ 40 ∷ st' → (o' : List ℕ) → o ≡ operatorsText (popped levels st) ++ o' → next false st' o' → OperatorStep next st w o
+  waits : levelOf (symbol w) ≤ levels → length (left (levelOf (symbol w)) st) < most → (o' : List ℕ) → o ≡ operatorsText (popped (levelOf (symbol w)) st) ++ o' → next true (symbol w ∷ left (levelOf (symbol w)) st) o' → OperatorStep next st w o
 
 -- The end writes the operators that wait.
 pub record EndStep (st o : List ℕ) : Type 0 where

@@ -7,9 +7,9 @@ ghost use Rattle.decimal.specs.Decimal.{digit};
 ghost use Rattle.emission.specs.Code.Factor.{literalOf, namedBy, factorAt};
 use decimal::Value;
 use decimal::digits_at;
-use expression::names::Found;
+use expression::names::BoundName;
 use expression::names::lookup;
-use expression::parts::lone_byte;
+use expression::parts::symbol_byte;
 use token::is_digit;
 use token::token_at;
 
@@ -26,7 +26,7 @@ pub struct FactorAt {
     pub end: usize,
 }
 
-// The factor from a place on, in an expression that ends at a place of the text. A name is the newest of the first count bindings.
+// The factor starting at an offset, in an expression that ends at an offset of the text. A name is the newest of the first count bindings.
 // The loop over an expression calls it with the end that the table or the last return has, and with at most 256 bindings.
 pub fn factor_at<'a>(
     text: &'a [u8],
@@ -50,7 +50,7 @@ pub fn factor_at<'a>(
             end: behind,
         };
     }
-    if lone_byte(expression, first, behind) == b'(' {
+    if symbol_byte(expression, first, behind) == b'(' {
         return FactorAt {
             factor: Factor::Open,
             end: behind,
@@ -69,7 +69,7 @@ pub fn factor_at<'a>(
     }
 }
 
-// The number that the digits from a place on write.
+// The number that the digits starting at an offset write.
 fn literal(expression: &[u8], first: usize) -> Factor
     ensures { λ r. ⌜ r ≡ literalOf (takeWhile digit (drop first (now (expression .entry)))) ⌝ }
 {
@@ -81,11 +81,11 @@ fn literal(expression: &[u8], first: usize) -> Factor
     }
 }
 
-fn named(found: Found) -> Factor
+fn named(found: BoundName) -> Factor
     ensures { λ r. ⌜ r ≡ namedBy found ⌝ }
 {
     match found {
-        Found::At(i) => Factor::Name(i),
-        Found::Nothing => Factor::Nothing,
+        BoundName::At(i) => Factor::Name(i),
+        BoundName::Nothing => Factor::Nothing,
     }
 }

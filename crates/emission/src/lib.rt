@@ -3,10 +3,10 @@
 ghost use Prim.Native.Nat.{_+_, _<_, _≤_};
 ghost use lib.ListN.{length};
 ghost use lib.Seq.{slice};
-ghost use Rattle.expression.specs.Code.Source.{sourcesOf, sources, treeOf, AllStand};
+ghost use Rattle.expression.specs.Code.Source.{sourcesOf, sources, treeOf, AllInText};
 ghost use Rattle.expression.specs.Code.Texts.{textOf};
 ghost use Rattle.writer.specs.Code.Overwrites.{Overwrites};
-ghost use Rattle.emission.specs.Code.Emitted.{treeBetween, Means, Kept};
+ghost use Rattle.emission.specs.Code.Emitted.{treeBetween, MeansTree, KeepsWritten};
 
 mod factor;
 mod operator;
@@ -23,8 +23,8 @@ use waiting::WAITING;
 use waiting::pop;
 use writer::put_push;
 
-// Writes the expression from start to end of the text at a place of the output, where there is room for it. Its names mean the first
-// count bindings. Returns the place behind it. Assembly calls it with the last return of a contract that it accepts, whose expressions were
+// Writes the expression from start to end of the text at an offset of the output, where there is room for it. Its names mean the first
+// count bindings. Returns the offset behind it. Assembly calls it with the last return of a contract that it accepts, whose expressions were
 // all parsed, and only where the output's length, added up in parsing, fits (26).
 pub fn emit(
     text: &[u8],
@@ -36,7 +36,7 @@ pub fn emit(
     out: &mut [u8],
     at: usize,
 ) -> usize
-    requires { ⌜ Means (now text) (sources table values) count start end ⌝ }
+    requires { ⌜ MeansTree (now text) (sources table values) count start end ⌝ }
     requires { ⌜ at + length (textOf (treeBetween (now text) (sources table values) count start end)) ≤ length (now out) ⌝ }
     ensures { λ r. ⌜ Overwrites (now (out .entry)) at (textOf (treeBetween (now (text .entry)) (sources table values) count start end))
         (now (out .exit)) r ⌝ }
@@ -78,19 +78,19 @@ fn expression<'a>(
     places: &mut [usize; 256],
     lengths: &mut [usize; 256],
 ) -> usize
-    requires { ⌜ Means (now text)
+    requires { ⌜ MeansTree (now text)
         (sourcesOf (now names) (now lens) (now tags) (now starts) (now sizes) (now values)) count start end ⌝ }
     requires { ⌜ at + length (textOf (treeBetween (now text)
         (sourcesOf (now names) (now lens) (now tags) (now starts) (now sizes) (now values)) count start end))
         ≤ length (now out) ⌝ }
-    requires { ⌜ Kept (now text)
+    requires { ⌜ KeepsWritten (now text)
         (sourcesOf (now names) (now lens) (now tags) (now starts) (now sizes) (now values))
         (now out) at (now places) (now lengths) ⌝ }
     ensures wrote { λ r. ⌜ Overwrites (now (out .entry)) at (textOf (treeBetween (now (text .entry))
         (sourcesOf (now (names .entry)) (now (lens .entry)) (now (tags .entry))
         (now (starts .entry)) (now (sizes .entry)) (now (values .entry)))
         count start end)) (now (out .exit)) r ⌝ }
-    ensures keeps { λ r. ⌜ Kept (now (text .entry))
+    ensures keeps { λ r. ⌜ KeepsWritten (now (text .entry))
         (sourcesOf (now (names .entry)) (now (lens .entry)) (now (tags .entry))
         (now (starts .entry)) (now (sizes .entry)) (now (values .entry)))
         (now (out .exit)) r (now (places .exit)) (now (lengths .exit)) ⌝ }
@@ -162,19 +162,19 @@ fn binding<'a>(
     places: &mut [usize; 256],
     lengths: &mut [usize; 256],
 ) -> usize
-    requires { ⌜ (b < 256) × AllStand (now text)
+    requires { ⌜ (b < 256) × AllInText (now text)
         (sourcesOf (now names) (now lens) (now tags) (now starts) (now sizes) (now values)) (b + 1) ⌝ }
     requires { ⌜ at + length (textOf (treeOf (now text)
         (sourcesOf (now names) (now lens) (now tags) (now starts) (now sizes) (now values)) b))
         ≤ length (now out) ⌝ }
-    requires { ⌜ Kept (now text)
+    requires { ⌜ KeepsWritten (now text)
         (sourcesOf (now names) (now lens) (now tags) (now starts) (now sizes) (now values))
         (now out) at (now places) (now lengths) ⌝ }
     ensures wrote { λ r. ⌜ Overwrites (now (out .entry)) at (textOf (treeOf (now (text .entry))
         (sourcesOf (now (names .entry)) (now (lens .entry)) (now (tags .entry))
         (now (starts .entry)) (now (sizes .entry)) (now (values .entry)))
         b)) (now (out .exit)) r ⌝ }
-    ensures keeps { λ r. ⌜ Kept (now (text .entry))
+    ensures keeps { λ r. ⌜ KeepsWritten (now (text .entry))
         (sourcesOf (now (names .entry)) (now (lens .entry)) (now (tags .entry))
         (now (starts .entry)) (now (sizes .entry)) (now (values .entry)))
         (now (out .exit)) r (now (places .exit)) (now (lengths .exit)) ⌝ }
@@ -209,7 +209,7 @@ fn binding<'a>(
     behind
 }
 
-// Bytes that stand before a place, once more at that place.
+// Bytes that stand before an offset, once more at that offset.
 fn put_again(out: &mut [u8], at: usize, from: usize, len: usize) -> usize
     requires { ⌜ (from + len ≤ at) × (at + len ≤ length (now out)) ⌝ }
     ensures { λ r. ⌜ Overwrites (now (out .entry)) at (slice from (from + len) (now (out .entry))) (now (out .exit)) r ⌝ }

@@ -3,14 +3,14 @@ ghost use mathlib.Core.Path.{_≡_};
 ghost use mathlib.Core.Bool.{cond};
 ghost use Prim.Native.Nat.{_-_, _<_};
 ghost use lib.Dec.{eqb};
-ghost use Rattle.emission.specs.Code.Turn.{Ready, Turns};
+ghost use Rattle.emission.specs.Code.Turn.{CanTurn, Turns};
 use crate::waiting::LEVELS;
 use crate::waiting::WAITING;
 use crate::waiting::level_of;
 use crate::waiting::pop;
 use expression::parts::sign_at;
 
-// Where the expression goes on, the place behind what was written, how many operators wait, and whether a factor is due.
+// Where the expression goes on, the offset behind what was written, how many operators wait, and whether a factor is due.
 pub struct Turn {
     pub at: usize,
     pub to: usize,
@@ -30,7 +30,7 @@ pub fn operate(
     waiting: &mut [u8; WAITING],
     n: usize,
 ) -> Turn
-    requires { ⌜ Ready (now text) end at (now out) to (now waiting) n ⌝ }
+    requires { ⌜ CanTurn (now text) end at (now out) to (now waiting) n ⌝ }
     ensures { λ r. ⌜ Turns (now (text .entry)) end at (now (out .entry)) to (now (waiting .entry)) n
         (now (out .exit)) (now (waiting .exit)) r ⌝ }
 {

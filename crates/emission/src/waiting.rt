@@ -22,7 +22,7 @@ const NO_LEVEL: u8 = LEVELS + 1;
 // The most that can wait: an operator of each level, and for each open parenthesis its mark and an operator of each level.
 pub const WAITING: usize = LEVELS as usize + (LEVELS as usize + 1) * DEPTH;
 
-// The place behind what was written, and how many wait still.
+// The offset behind what was written, and how many wait still.
 pub struct Popped {
     pub to: usize,
     pub left: usize,

@@ -3,9 +3,9 @@ use mathlib.Core.Path.{refl}
 use Rattle.decimal.specs.Decimal.{decimal}
 use Rattle.token.specs.Token.{scan}
 use Rattle.expression.specs.Parse.{parseF, meaning}
-use Rattle.machine.specs.Machine.{decode, runOf, whole}
+use Rattle.machine.specs.Machine.{decode, runOf, runToEnd}
 use Rattle.checks.specs.Verify.{operationsCheck}
-use Rattle.contract.specs.State.{each}
+use Rattle.contract.specs.Scope.{each}
 use Rattle.contract.specs.Assembled.{assembledTree}
 use Rattle.contract.specs.Output.{output, assembled}
 use Rattle.compile.specs.Compile.{compileOf}
@@ -13,7 +13,7 @@ use Rattle.examples.specs.Runs.{ran}
 use Rattle.examples.specs.Bench.{Bench}
 
 pub bench : Bench
-unfolding ran compileOf decode runOf whole operationsCheck assembled output decimal assembledTree each meaning parseF scan
+unfolding ran compileOf decode runOf runToEnd operationsCheck assembled output decimal assembledTree each meaning parseF scan
 bench = record {
   e1 = refl;
   e1-text = refl;

@@ -1,4 +1,4 @@
 pub mod Bench
 pub mod Reading
-pub mod Assembling
-pub mod Compiling
+pub mod Assembly
+pub mod InRow

@@ -8,9 +8,9 @@ use Rattle.kinds.specs.Kinds.{Operation}
 use Rattle.ops.specs.Ops.{readText, answerOf, opsOf, kindsOf, operandsOf}
 use Rattle.ops.specs.declared.ParsedOps.{ParsedOps}
 use Rattle.ops.specs.declared.ParsedOps.the-variants.{Read, Refused}
-use Rattle.perform.specs.declared.Answer.{Answer}
+use Rattle.perform.specs.declared.RunAnswer.{RunAnswer}
 use Rattle.perform.specs.Call.{Call}
-use Rattle.perform.specs.Run.{Result}
+use Rattle.perform.specs.Run.{RunResult}
 use Rattle.vm.specs.Transition.{meteredOf}
 
 -- a text that is refused has none
@@ -34,29 +34,29 @@ call kinds operands g s w m = record {
   storage = m;
 }
 
-unfoldable pub ran : List ℕ → ℕ → (s w m : List ℕ) → Result
+unfoldable pub ran : List ℕ → ℕ → (s w m : List ℕ) → RunResult
 ran text g s w m = meteredOf (call (kindsOf (operations text)) (operandsOf (operations text)) g s w m)
 
 abbrev pub zeros : List ℕ
 zeros = replicate 4096 0
 
 -- all buffers 4,096 long
-abbrev pub plainly : List ℕ → ℕ → Result
+abbrev pub plainly : List ℕ → ℕ → RunResult
 plainly text g = ran text g zeros zeros zeros
 
 -- four lent slots, whatever they hold
 abbrev pub four : List ℕ
 four = replicate 4 7
 
-abbrev pub onFour : List ℕ → Result
+abbrev pub onFour : List ℕ → RunResult
 onFour text = ran text 1000 zeros four four
 
 -- a call's answer and its stack, or its storage, are those of a result
-pub record Ends (t : Result) (a : Answer) (s : List ℕ) : Type 0 where
+pub record Ends (t : RunResult) (a : RunAnswer) (s : List ℕ) : Type 0 where
   pub answer : a ≡ t .answer
   pub stack : s ≡ t .stack
 
-pub record Stores (t : Result) (a : Answer) (m : List ℕ) : Type 0 where
+pub record Stores (t : RunResult) (a : RunAnswer) (m : List ℕ) : Type 0 where
   pub answer : a ≡ t .answer
   pub storage : m ≡ t .storage
 

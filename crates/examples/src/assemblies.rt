@@ -2,17 +2,17 @@
 ghost use mathlib.Core.Path.{_≡_};
 ghost use mathlib.Core.List.{[], _∷_};
 ghost use Rattle.base.specs.Overwrite.{overwrite};
-ghost use Rattle.assembler.specs.Answers.{answerNumbered};
+ghost use Rattle.assembler.specs.Answers.{assemblyAnswerNumbered};
 ghost use Rattle.numbered.specs.Numbered.{carrying};
 ghost use Rattle.examples.specs.Numbers.{Gives};
 ghost use Rattle.examples.specs.Runs.{zeros};
 ghost use Rattle.examples.specs.Bench.{tallyOps};
-use assembler::Answer;
+use assembler::AssemblyAnswer;
 use assembler::assemble;
 
-pub fn tally(out: &mut [u8; 4096]) -> Answer
+pub fn tally(out: &mut [u8; 4096]) -> AssemblyAnswer
     requires { ⌜ now out ≡ zeros ⌝ }
-    ensures { λ a. ⌜ Gives (answerNumbered a) (carrying 0 (67 ∷ 3 ∷ 2 ∷ 24 ∷ []))
+    ensures { λ a. ⌜ Gives (assemblyAnswerNumbered a) (carrying 0 (67 ∷ 3 ∷ 2 ∷ 24 ∷ []))
         (now (out .exit)) (overwrite 0 tallyOps zeros) ⌝ }
 {
     assemble(
@@ -23,8 +23,8 @@ pub fn tally(out: &mut [u8; 4096]) -> Answer
     )
 }
 
-pub fn precedence() -> Answer
-    ensures { λ a. ⌜ answerNumbered a ≡ carrying 0 (62 ∷ 3 ∷ 3 ∷ 1 ∷ []) ⌝ }
+pub fn precedence() -> AssemblyAnswer
+    ensures { λ a. ⌜ assemblyAnswerNumbered a ≡ carrying 0 (62 ∷ 3 ∷ 3 ∷ 1 ∷ []) ⌝ }
 {
     let mut out = [0u8; 4096];
     assemble(
@@ -35,8 +35,8 @@ pub fn precedence() -> Answer
     )
 }
 
-pub fn left_to_right() -> Answer
-    ensures { λ a. ⌜ answerNumbered a ≡ carrying 0 (62 ∷ 3 ∷ 2 ∷ 2 ∷ []) ⌝ }
+pub fn left_to_right() -> AssemblyAnswer
+    ensures { λ a. ⌜ assemblyAnswerNumbered a ≡ carrying 0 (62 ∷ 3 ∷ 2 ∷ 2 ∷ []) ⌝ }
 {
     let mut out = [0u8; 4096];
     assemble(

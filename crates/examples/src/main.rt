@@ -84,7 +84,7 @@ fn e7() {
     io::write_all(1, b"\n");
 }
 
-fn run_line(name: &[u8], a: perform::Answer) {
+fn run_line(name: &[u8], a: perform::RunAnswer) {
     io::write_all(1, name);
     show::run(a);
     io::write_all(1, b"\n");
@@ -96,7 +96,7 @@ fn reading_line(name: &[u8], r: ops::ParsedOps) {
     io::write_all(1, b"\n");
 }
 
-fn assembly_line(name: &[u8], a: assembler::Answer) {
+fn assembly_line(name: &[u8], a: assembler::AssemblyAnswer) {
     io::write_all(1, name);
     show::assembly(a);
     io::write_all(1, b"\n");

@@ -3,11 +3,11 @@ ghost use mathlib.Core.Path.{_≡_};
 ghost use Rattle.perform.specs.Run.{Meets};
 ghost use Rattle.examples.specs.Runs.{countOf, ran, zeros, plainly, four, onFour, Ends, Stores};
 use ops::ParsedOps;
-use perform::Answer;
+use perform::RunAnswer;
 use perform::State;
 
 // All buffers 4,096 long.
-pub fn plain(text: &[u8], limit: u64, stack: &mut [u64; 4096]) -> Answer
+pub fn plain(text: &[u8], limit: u64, stack: &mut [u64; 4096]) -> RunAnswer
     requires { ⌜ now stack ≡ zeros ⌝ }
     ensures { λ a. ⌜ Ends (plainly (now (text .entry)) limit) a (now (stack .exit)) ⌝ }
 {
@@ -17,7 +17,7 @@ pub fn plain(text: &[u8], limit: u64, stack: &mut [u64; 4096]) -> Answer
 }
 
 // Four lent slots, with a limit of 1,000.
-pub fn on_four(text: &[u8], storage: &mut [u64; 4]) -> Answer
+pub fn on_four(text: &[u8], storage: &mut [u64; 4]) -> RunAnswer
     requires { ⌜ now storage ≡ four ⌝ }
     ensures { λ a. ⌜ Stores (onFour (now (text .entry))) a (now (storage .exit)) ⌝ }
 {
@@ -26,7 +26,13 @@ pub fn on_four(text: &[u8], storage: &mut [u64; 4]) -> Answer
     run(text, 1000, &mut stack, &mut work, storage)
 }
 
-fn run(text: &[u8], limit: u64, stack: &mut [u64], work: &mut [u64], storage: &mut [u64]) -> Answer
+fn run(
+    text: &[u8],
+    limit: u64,
+    stack: &mut [u64],
+    work: &mut [u64],
+    storage: &mut [u64],
+) -> RunAnswer
     ensures { λ a. ⌜ Meets (ran (now (text .entry)) limit (now (stack .entry)) (now (work .entry)) (now (storage .entry)))
         (record { used = 0 }) a (now (stack .exit)) (now (work .exit)) (now (storage .exit)) ⌝ }
 {

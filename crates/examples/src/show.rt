@@ -1,15 +1,15 @@
 // Answers and entries of buffers, each number behind a space.
-use checks::Refusal;
+use checks::VmError;
 use compile::Compiled;
 use context::Gate;
 use ops::OpsError;
 use ops::ParsedOps;
-use perform::Answer;
+use perform::RunAnswer;
 
 // 0 and the four values of a success. A refusal is not told apart here.
-pub fn assembly(a: assembler::Answer) {
+pub fn assembly(a: assembler::AssemblyAnswer) {
     match a {
-        assembler::Answer::Success {
+        assembler::AssemblyAnswer::Success {
             written,
             k,
             p,
@@ -21,7 +21,7 @@ pub fn assembly(a: assembler::Answer) {
             number(p);
             number(value);
         }
-        assembler::Answer::Refused(_) => {
+        assembler::AssemblyAnswer::Refused(_) => {
             io::write_all(1, b" refused");
         }
     }
@@ -59,9 +59,9 @@ fn part(line: usize, place: usize, len: usize) {
     number(len as u64);
 }
 
-pub fn run(a: Answer) {
+pub fn run(a: RunAnswer) {
     match a {
-        Answer::Success {
+        RunAnswer::Success {
             gas_spent,
             operations,
             items,
@@ -73,7 +73,7 @@ pub fn run(a: Answer) {
             number(items as u64);
             number(state.used as u64);
         }
-        Answer::Refused(f) => {
+        RunAnswer::Refused(f) => {
             let refusal = f.numbered();
             number(refusal.number);
             run_values(f);
@@ -81,15 +81,15 @@ pub fn run(a: Answer) {
     }
 }
 
-fn run_values(f: Refusal) {
+fn run_values(f: VmError) {
     match f {
-        Refusal::ProgramTooLarge(size) => number(size as u64),
-        Refusal::StorageTooLarge(used) => number(used as u64),
-        Refusal::OutOfGas { price, left } => {
+        VmError::ProgramTooLarge(size) => number(size as u64),
+        VmError::StorageTooLarge(used) => number(used as u64),
+        VmError::OutOfGas { price, left } => {
             number(price);
             number(left);
         }
-        Refusal::StorageLimitExceeded(slots) => number(slots),
+        VmError::StorageLimitExceeded(slots) => number(slots),
         _ => {}
     }
 }

@@ -9,14 +9,14 @@ use Rattle.numbered.specs.Numbered.{carrying}
 use Rattle.decimal.specs.Decimal.{decimal}
 use Rattle.token.specs.Token.{scan}
 use Rattle.context.specs.Gate.{gateOf}
-use Rattle.machine.specs.Machine.{decode, runOf, whole}
+use Rattle.machine.specs.Machine.{decode, runOf, runToEnd}
 use Rattle.checks.specs.Verify.{operationsCheck}
 use Rattle.expression.specs.Parse.{parseF, meaning}
-use Rattle.contract.specs.State.{each}
+use Rattle.contract.specs.Scope.{each}
 use Rattle.contract.specs.Assembled.{assembledTree}
 use Rattle.contract.specs.Output.{output, assembled}
 use Rattle.correctness.specs.Call.{Compilation}
-use Rattle.correctness.specs.Statement.{Statement, foundIn}
+use Rattle.correctness.specs.Statement.{CompileStatement, observedIn}
 use Rattle.exported.specs.Exports.{Given, InRow, Lends}
 use Rattle.exported.proofs.ExportedStatement.{exported-statement}
 
@@ -61,7 +61,7 @@ given = record {
 }
 
 in-row : InRow tally 67 given
-unfolding assembled output decimal assembledTree each meaning parseF scan decode runOf whole operationsCheck contract vector
+unfolding assembled output decimal assembledTree each meaning parseF scan decode runOf runToEnd operationsCheck contract vector
 in-row = record {
   assembles = record { tells = record { number = refl; words = refl }; buffer = refl };
   reads = record { tells = record { number = refl; words = refl }; kindsWritten = refl; operandsWritten = refl };
@@ -71,5 +71,5 @@ in-row = record {
 lends : Lends tally 67 3 2 24 given
 lends = record { accepts = refl; kinds = refl; operands = refl; passes = refl; stack = omega arith; work = refl; within = omega arith; used = omega arith }
 
-stated : Statement tally 3 2 24 (foundIn (given .reading) (given .transition) 0 (given .left))
+stated : CompileStatement tally 3 2 24 (observedIn (given .reading) (given .transition) 0 (given .left))
 stated = exported-statement tally 67 3 2 24 given in-row lends

@@ -16,10 +16,10 @@ use Rattle.context.specs.declared.Gate.the-variants.{Passed, Refused}
 use Rattle.context.specs.Gate.{gateNumbered}
 use Rattle.ops.specs.Ops.{opsOf, kindsOf, operandsOf}
 use Rattle.checks.specs.Verify.{buffersFit}
-use Rattle.perform.specs.Numbers.{answerNumbered}
+use Rattle.perform.specs.Numbers.{runAnswerNumbered}
 use Rattle.contract.proofs.Answers.{tells}
 use Rattle.correctness.specs.Call.{Compilation, assemblyOf, readingOf, withProgram, transitionOn}
-use Rattle.correctness.specs.Statement.{Found, Hypotheses, Statement, foundBy, foundIn, usedAfter}
+use Rattle.correctness.specs.Statement.{Observed, Hypotheses, CompileStatement, observedBy, observedIn, usedAfter}
 use Rattle.correctness.proofs.CompileStatement.{compile-statement}
 use Rattle.correctness.proofs.Told.{used-told}
 use Rattle.atc_vm.specs.Words.{Tells}
@@ -83,10 +83,10 @@ module _ (x : Compilation) (n k p v : ℕ) (y : Given) (row : InRow x n y) (lend
   runs : RanOn readKinds readOperands
   runs = subst (λ (l : List ℕ). RanOn l readOperands) (reads .kindsWritten) (subst (λ (l : List ℕ). RanOn ks l) (reads .operandsWritten) (row .runs))
 
-  told : answerNumbered (transitionOn x readKinds readOperands .answer) ≡ y .transition
+  told : runAnswerNumbered (transitionOn x readKinds readOperands .answer) ≡ y .transition
   told = tells-is (runs .tells)
 
-  found : foundBy x ≡ foundIn (y .reading) (y .transition) (x .run .state .used) (y .left)
+  found : observedBy x ≡ observedIn (y .reading) (y .transition) (x .run .state .used) (y .left)
   found = λ i. record {
     reading = tells-is (reads .tells) i;
     kinds = sym (reads .kindsWritten) i;
@@ -100,5 +100,5 @@ module _ (x : Compilation) (n k p v : ℕ) (y : Given) (row : InRow x n y) (lend
     };
   }
 
-  pub exported-statement : Statement x k p v (foundIn (y .reading) (y .transition) (x .run .state .used) (y .left))
-  exported-statement = subst (λ (z : Found). Statement x k p v z) found (compile-statement x n k p v hypotheses)
+  pub exported-statement : CompileStatement x k p v (observedIn (y .reading) (y .transition) (x .run .state .used) (y .left))
+  exported-statement = subst (λ (z : Observed). CompileStatement x k p v z) found (compile-statement x n k p v hypotheses)

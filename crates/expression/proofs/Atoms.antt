@@ -15,11 +15,11 @@ use Rattle.decimal.specs.declared.Value.the-variants as Digits
 use Rattle.token.specs.Token.{tokens}
 use Rattle.token.specs.Code.Places.{tokenAt}
 use Rattle.token.specs.declared.Token.{Token}
-use Rattle.expression.specs.declared.figures.Read.{Read}
-use Rattle.expression.specs.declared.figures.Value.the-variants.{Is}
+use Rattle.expression.specs.declared.figures.Figures.{Figures}
+use Rattle.expression.specs.declared.figures.TreeValue.the-variants.{Is}
 use Rattle.expression.specs.declared.ExprError.the-variants.{UnexpectedEnd, UnbalancedParenthesis, InvalidLiteral}
-use Rattle.expression.specs.declared.Parsed.the-variants.{Done, Refused}
-use Rattle.expression.specs.Parse.{lone}
+use Rattle.expression.specs.declared.ParseResult.the-variants.{Done, Refused}
+use Rattle.expression.specs.Parse.{symbol}
 use Rattle.expression.specs.Code.Parts.{literalRead, closedRead}
 use Rattle.expression.proofs.Signs.{none-of, next-of}
 
@@ -43,25 +43,25 @@ literal-is w at n next len e p q =
     (λ h. not-large n (sym (simp h at e)))
 
 -- a parenthesis that is due
-module _ (v : Read) (end : ℕ) {ts us : List (List ℕ)} {w : List ℕ} (e : ts ≡ w ∷ us) where
-  pub closed-is : lone w ≡ 41 → Done (record { next = end; k = v .k; p = v .p; len = v .len; value = v .value }) ≡ closedRead ts end v
-  closed-is q = rw e (simp (eq-eqb (lone w) 41 q))
+module _ (v : Figures) (end : ℕ) {ts us : List (List ℕ)} {w : List ℕ} (e : ts ≡ w ∷ us) where
+  pub closed-is : symbol w ≡ 41 → Done (record { next = end; k = v .k; p = v .p; len = v .len; value = v .value }) ≡ closedRead ts end v
+  closed-is q = rw e (simp (eq-eqb (symbol w) 41 q))
 
-  pub closed-other : (lone w ≡ 41 → ⊥) → Refused UnbalancedParenthesis ≡ closedRead ts end v
-  closed-other q = rw e (simp (ne-eqb (lone w) 41 q))
+  pub closed-other : (symbol w ≡ 41 → ⊥) → Refused UnbalancedParenthesis ≡ closedRead ts end v
+  closed-other q = rw e (simp (ne-eqb (symbol w) 41 q))
 
-module _ (s : List ℕ) (v : Read) (t : Token) (e : t ≡ tokenAt s (v .next)) where
+module _ (s : List ℕ) (v : Figures) (t : Token) (e : t ≡ tokenAt s (v .next)) where
   pub close-end : t .start ≡ t .end → Refused UnexpectedEnd ≡ closedRead (tokens (drop (v .next) s)) (tokenAt s (v .next) .end) v
   close-end h = rw (none-of s (v .next) t e h)
 
-  module _ (h : t .start ≡ t .end → ⊥) {b : ℕ} (l : b ≡ lone (take (t .end - t .start) (drop (t .start) s))) where
+  module _ (h : t .start ≡ t .end → ⊥) {b : ℕ} (l : b ≡ symbol (take (t .end - t .start) (drop (t .start) s))) where
     pub close-is : b ≡ 41 → Done (record { next = t .end; k = v .k; p = v .p; len = v .len; value = v .value }) ≡ closedRead (tokens (drop (v .next) s)) (tokenAt s (v .next) .end) v
     close-is q =
         let n = next-of s (v .next) t e h in
         ap (λ (x : Token). Done (record { next = x .end; k = v .k; p = v .p; len = v .len; value = v .value })) e
-        ∙ closed-is v (tokenAt s (v .next) .end) (n .list) (sym (ap lone (n .bytes)) ∙ sym l ∙ q)
+        ∙ closed-is v (tokenAt s (v .next) .end) (n .list) (sym (ap symbol (n .bytes)) ∙ sym l ∙ q)
 
     pub close-other : (b ≡ 41 → ⊥) → Refused UnbalancedParenthesis ≡ closedRead (tokens (drop (v .next) s)) (tokenAt s (v .next) .end) v
     close-other q =
         let n = next-of s (v .next) t e h in
-        closed-other v (tokenAt s (v .next) .end) (n .list) (λ x. q (l ∙ ap lone (n .bytes) ∙ x))
+        closed-other v (tokenAt s (v .next) .end) (n .list) (λ x. q (l ∙ ap symbol (n .bytes) ∙ x))

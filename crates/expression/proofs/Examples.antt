@@ -12,12 +12,12 @@ use Rattle.base.specs.Ascii.{ascii}
 use Rattle.token.specs.Token.{scan}
 use Rattle.expression.specs.Tree.{Tree, num, bin}
 use Rattle.expression.specs.Parse.{Binding, Env, parseF, meaning}
-use Rattle.expression.specs.Code.Answers.{Answer, figures, due}
+use Rattle.expression.specs.Code.Answers.{ParseAnswer, figures, meaningAnswer}
 use Rattle.expression.specs.Code.Texts.{textOf}
 
 -- k, p, value and the text's length
-abbrev answer : Env → String → Answer
-answer env s = due (meaning env (ascii s))
+abbrev answer : Env → String → ParseAnswer
+answer env s = meaningAnswer (meaning env (ascii s))
 
 abbrev bind : String → Tree → Binding
 bind s t = record { name = ascii s; tree = t }

@@ -10,52 +10,52 @@ use lib.ListN.{length, getD, take, drop, length-drop}
 use lib.Seq.{length-take-le}
 use Rattle.base.specs.Lists.{all, takeWhile}
 use Rattle.base.proofs.Tests.{by-bool, by-leb, by-eqb}
-use Rattle.base.proofs.Parts.{next}
+use Rattle.base.proofs.Parts.{drop-cons-at}
 use Rattle.base.proofs.Lists.{all-takeWhile}
 use Rattle.decimal.specs.Decimal.{digit, value, decimal}
 use Rattle.decimal.proofs.Laws.{length-word}
 use Rattle.token.specs.Token.{tokens}
 use Rattle.token.specs.Code.Places.{tokenAt}
 use Rattle.token.proofs.Tokens.{Next, tokenFrom, token-none, token-next, digit-token}
-use Rattle.expression.specs.declared.figures.Read.{Read}
-use Rattle.expression.specs.declared.figures.Value.the-variants.{Is}
-use Rattle.expression.specs.declared.names.Found.{Found}
-use Rattle.expression.specs.declared.names.Found.the-variants.{At, Nothing}
+use Rattle.expression.specs.declared.figures.Figures.{Figures}
+use Rattle.expression.specs.declared.figures.TreeValue.the-variants.{Is}
+use Rattle.expression.specs.declared.names.BoundName.{BoundName}
+use Rattle.expression.specs.declared.names.BoundName.the-variants.{At, Nothing}
 use Rattle.expression.specs.declared.ExprError.{ExprError}
 use Rattle.expression.specs.declared.ExprError.the-variants.{UnexpectedEnd, UnbalancedParenthesis, InvalidLiteral, TooDeep}
-use Rattle.expression.specs.declared.Parsed.{Parsed}
-use Rattle.expression.specs.declared.Parsed.the-variants.{Done, Refused}
+use Rattle.expression.specs.declared.ParseResult.{ParseResult}
+use Rattle.expression.specs.declared.ParseResult.the-variants.{Done, Refused}
 use Rattle.expression.specs.Tree.{num}
-use Rattle.expression.specs.Parse.{Binding, lookup, lone, factor, expression}
-use Rattle.expression.specs.Code.Figures.{Figures, optionOf}
-use Rattle.expression.specs.Code.Table.{Columns, Entry, entryAt, Tells, unless, found}
+use Rattle.expression.specs.Parse.{Binding, lookup, symbol, factor, expression}
+use Rattle.expression.specs.Code.Figures.{FiguresOf, optionOf}
+use Rattle.expression.specs.Code.Table.{Columns, Entry, entryAt, RowFor, valueUnlessNone, found}
 use Rattle.expression.specs.Code.Parts.{literalRead, boundValue, boundRead, nameRead, AllFit, closedRead}
-use Rattle.expression.specs.Code.Cycle.{Reads, Meets}
+use Rattle.expression.specs.Code.Cycle.{Reads, ParsesAs}
 use Rattle.expression.proofs.Steps.{ended, too-deep, opened-refused, unclosed, closes, not-closed, number-read, number-refused, name-read, name-refused}
 use Rattle.expression.proofs.Lookup.{Looked, looked}
 use Rattle.expression.proofs.Atoms.{closed-is, closed-other}
 
-pub none-meets : (s : List ℕ) (at : ℕ) (c : Columns) (d : ℕ) → tokens (drop at s) ≡ [] → Meets s at c factor d (Refused UnexpectedEnd)
+pub none-meets : (s : List ℕ) (at : ℕ) (c : Columns) (d : ℕ) → tokens (drop at s) ≡ [] → ParsesAs s at c factor d (Refused UnexpectedEnd)
 none-meets s at c d e = record { fine = tt; means = λ env h. rw e (ended env d) }
 
-bound-option : (b : Bool) (n : ℕ) → optionOf (boundValue b n) ≡ unless b n
+bound-option : (b : Bool) (n : ℕ) → optionOf (boundValue b n) ≡ valueUnlessNone b n
 bound-option true n = refl
 bound-option false n = refl
 
 -- a name's figures are its binding's
-bound-figures : (s : List ℕ) (e : Entry) (end : ℕ) (b : Binding) → Tells s e b → Figures (b .tree) (boundRead e end)
+bound-figures : (s : List ℕ) (e : Entry) (end : ℕ) (b : Binding) → RowFor s e b → FiguresOf (b .tree) (boundRead e end)
 bound-figures s e end b t = record { k = t .k; p = t .p; value = bound-option (e .none) (e .value) ∙ t .value; len = t .len; short = t .short }
 
 module _ {s : List ℕ} {at : ℕ} (c : Columns) {start end : ℕ} (n : Next s at start end) where
-  pub deep-meets : {room : ℕ} → room ≡ 0 → lone (tokenFrom s start) ≡ 40 → Meets s at c factor room (Refused TooDeep)
-  deep-meets q o = subst (λ (r : ℕ). Meets s at c factor r (Refused TooDeep)) (sym q) (record { fine = tt; means = λ env h. rw (n .list) (too-deep env (tokenFrom s start) (tokens (drop end s)) o) })
+  pub deep-meets : {room : ℕ} → room ≡ 0 → symbol (tokenFrom s start) ≡ 40 → ParsesAs s at c factor room (Refused TooDeep)
+  deep-meets q o = subst (λ (r : ℕ). ParsesAs s at c factor r (Refused TooDeep)) (sym q) (record { fine = tt; means = λ env h. rw (n .list) (too-deep env (tokenFrom s start) (tokens (drop end s)) o) })
 
-  module _ {d : ℕ} (o : lone (tokenFrom s start) ≡ 40) where
-    opened : {e : ExprError} → Meets s end c expression d (Refused e) → Meets s at c factor (suc d) (Refused e)
+  module _ {d : ℕ} (o : symbol (tokenFrom s start) ≡ 40) where
+    opened : {e : ExprError} → ParsesAs s end c expression d (Refused e) → ParsesAs s at c factor (suc d) (Refused e)
     opened m = record { fine = tt; means = λ env h. rw (n .list) (opened-refused env (tokenFrom s start) (tokens (drop end s)) o d (m .means env h)) }
 
     -- what was read in parentheses, and the tokens that follow it
-    inner-ended : {v : Read} → Meets s end c expression d (Done v) → tokens (drop (v .next) s) ≡ [] → Meets s at c factor (suc d) (Refused UnexpectedEnd)
+    inner-ended : {v : Figures} → ParsesAs s end c expression d (Done v) → tokens (drop (v .next) s) ≡ [] → ParsesAs s at c factor (suc d) (Refused UnexpectedEnd)
     inner-ended m e = record {
       fine = tt;
       means = λ env h.
@@ -63,8 +63,8 @@ module _ {s : List ℕ} {at : ℕ} (c : Columns) {start end : ℕ} (n : Next s a
           rw (n .list) (unclosed env (tokenFrom s start) (tokens (drop end s)) o d (subst (λ (ts : List (List ℕ)). Reads env expression d (tokens (drop end s)) (x .0) ts) e (x .1 .0)));
     }
 
-    module _ {v : Read} (m : Meets s end c expression d (Done v)) {i j : ℕ} (a : Next s (v .next) i j) where
-      inner-other : (lone (tokenFrom s i) ≡ 41 → ⊥) → Meets s at c factor (suc d) (Refused UnbalancedParenthesis)
+    module _ {v : Figures} (m : ParsesAs s end c expression d (Done v)) {i j : ℕ} (a : Next s (v .next) i j) where
+      inner-other : (symbol (tokenFrom s i) ≡ 41 → ⊥) → ParsesAs s at c factor (suc d) (Refused UnbalancedParenthesis)
       inner-other q = record {
         fine = tt;
         means = λ env h.
@@ -72,7 +72,7 @@ module _ {s : List ℕ} {at : ℕ} (c : Columns) {start end : ℕ} (n : Next s a
             rw (n .list) (not-closed env (tokenFrom s start) (tokens (drop end s)) o d (tokenFrom s i) (subst (λ (ts : List (List ℕ)). Reads env expression d (tokens (drop end s)) (x .0) ts) (a .list) (x .1 .0)) q);
       }
 
-      inner-done : lone (tokenFrom s i) ≡ 41 → Meets s at c factor (suc d) (Done (record { next = j; k = v .k; p = v .p; len = v .len; value = v .value }))
+      inner-done : symbol (tokenFrom s i) ≡ 41 → ParsesAs s at c factor (suc d) (Done (record { next = j; k = v .k; p = v .p; len = v .len; value = v .value }))
       inner-done q =
           let f = m .fine in
           record {
@@ -95,34 +95,34 @@ module _ {s : List ℕ} {at : ℕ} (c : Columns) {start end : ℕ} (n : Next s a
                 );
           }
 
-    closed : {v : Read} → Meets s end c expression d (Done v) → Meets s at c factor (suc d) (closedRead (tokens (drop (v .next) s)) (tokenAt s (v .next) .end) v)
+    closed : {v : Figures} → ParsesAs s end c expression d (Done v) → ParsesAs s at c factor (suc d) (closedRead (tokens (drop (v .next) s)) (tokenAt s (v .next) .end) v)
     closed {v} m =
         let t = tokenAt s (v .next) in
         by-leb (t .end) (t .start)
         (λ h.
         let e = token-none s (v .next) (omega arith) in
-        subst (λ (ts : List (List ℕ)). Meets s at c factor (suc d) (closedRead ts (t .end) v)) (sym e) (inner-ended m e))
+        subst (λ (ts : List (List ℕ)). ParsesAs s at c factor (suc d) (closedRead ts (t .end) v)) (sym e) (inner-ended m e))
         (λ h.
         let a = token-next s (v .next) h in
-        by-eqb (lone (tokenFrom s (t .start))) 41
-        (λ q. subst (λ (r : Parsed). Meets s at c factor (suc d) r) (closed-is v (t .end) (a .list) q) (inner-done m a q))
-        (λ q. subst (λ (r : Parsed). Meets s at c factor (suc d) r) (closed-other v (t .end) (a .list) q) (inner-other m a q)))
+        by-eqb (symbol (tokenFrom s (t .start))) 41
+        (λ q. subst (λ (r : ParseResult). ParsesAs s at c factor (suc d) r) (closed-is v (t .end) (a .list) q) (inner-done m a q))
+        (λ q. subst (λ (r : ParseResult). ParsesAs s at c factor (suc d) r) (closed-other v (t .end) (a .list) q) (inner-other m a q)))
 
-  module _ {room d : ℕ} (q : room ≡ suc d) (o : lone (tokenFrom s start) ≡ 40) where
-    pub inner-refused : {e : ExprError} → Meets s end c expression d (Refused e) → Meets s at c factor room (Refused e)
-    inner-refused {e} m = subst (λ (r : ℕ). Meets s at c factor r (Refused e)) (sym q) (opened o m)
+  module _ {room d : ℕ} (q : room ≡ suc d) (o : symbol (tokenFrom s start) ≡ 40) where
+    pub inner-refused : {e : ExprError} → ParsesAs s end c expression d (Refused e) → ParsesAs s at c factor room (Refused e)
+    inner-refused {e} m = subst (λ (r : ℕ). ParsesAs s at c factor r (Refused e)) (sym q) (opened o m)
 
-    pub inner-closed : {v : Read} → Meets s end c expression d (Done v) → Meets s at c factor room (closedRead (tokens (drop (v .next) s)) (tokenAt s (v .next) .end) v)
-    inner-closed {v} m = subst (λ (r : ℕ). Meets s at c factor r (closedRead (tokens (drop (v .next) s)) (tokenAt s (v .next) .end) v)) (sym q) (closed o m)
+    pub inner-closed : {v : Figures} → ParsesAs s end c expression d (Done v) → ParsesAs s at c factor room (closedRead (tokens (drop (v .next) s)) (tokenAt s (v .next) .end) v)
+    inner-closed {v} m = subst (λ (r : ℕ). ParsesAs s at c factor r (closedRead (tokens (drop (v .next) s)) (tokenAt s (v .next) .end) v)) (sym q) (closed o m)
 
-  module _ (d : ℕ) (o : lone (tokenFrom s start) ≡ 40 → ⊥) where
+  module _ (d : ℕ) (o : symbol (tokenFrom s start) ≡ 40 → ⊥) where
     len-token : start + length (tokenFrom s start) ≡ end
     len-token =
         let p = ap length (n .bytes) in
         let q = length-take-le (end - start) (drop start s) (let r = length-drop start s in omega (arith, n .inside)) in
         omega (arith, n .some)
 
-    literal-token : all digit (tokenFrom s start) ≡ true → Meets s at c factor d (literalRead (tokenFrom s start) start)
+    literal-token : all digit (tokenFrom s start) ≡ true → ParsesAs s at c factor d (literalRead (tokenFrom s start) start)
     literal-token e =
         let w = tokenFrom s start in
         by-bool (ltb (value w) (2 ^ 64))
@@ -130,7 +130,7 @@ module _ {s : List ℕ} {at : ℕ} (c : Columns) {start end : ℕ} (n : Next s a
         let v = ltb-true (value w) (2 ^ 64) h in
         let l = length-word (value w) v in
         let q : literalRead w start ≡ Done (record { next = start + length w; k = 1; p = 1; len = 6 + length (decimal (value w)); value = Is (value w) }) = simp h in
-        subst (λ (r : Parsed). Meets s at c factor d r) (sym q) (record {
+        subst (λ (r : ParseResult). ParsesAs s at c factor d r) (sym q) (record {
           fine = record {
             past = omega (arith, len-token, n .after, n .some);
             within = omega (arith, len-token, n .inside);
@@ -149,18 +149,18 @@ module _ {s : List ℕ} {at : ℕ} (c : Columns) {start end : ℕ} (n : Next s a
         }))
         (λ h.
         let q : literalRead w start ≡ Refused InvalidLiteral = simp h in
-        subst (λ (r : Parsed). Meets s at c factor d r) (sym q) (record {
+        subst (λ (r : ParseResult). ParsesAs s at c factor d r) (sym q) (record {
           fine = tt;
           means = λ env g. rw (n .list) (number-refused env d w (tokens (drop end s)) o e (ltb-false (value w) (2 ^ 64) h));
         }))
 
-    pub literal-meets : digit (getD s start 0) ≡ true → Meets s at c factor d (literalRead (takeWhile digit (drop start s)) start)
+    pub literal-meets : digit (getD s start 0) ≡ true → ParsesAs s at c factor d (literalRead (takeWhile digit (drop start s)) start)
     literal-meets e =
-        let x = next s start (start + 1) (omega (arith, n .some, n .inside)) refl in
+        let x = drop-cons-at s start (start + 1) (omega (arith, n .some, n .inside)) refl in
         let q : tokenFrom s start ≡ takeWhile digit (drop start s) = digit-token (getD s start 0) e (drop (start + 1) s) ∙ ap (takeWhile digit) (sym x) in
-        subst (λ (w : List ℕ). Meets s at c factor d (literalRead w start)) q (literal-token (ap (all digit) q ∙ all-takeWhile digit (drop start s)))
+        subst (λ (w : List ℕ). ParsesAs s at c factor d (literalRead w start)) q (literal-token (ap (all digit) q ∙ all-takeWhile digit (drop start s)))
 
-    pub name-meets : digit (getD s start 0) ≡ false → (f : Found) → found (c .count) s (c .names) (c .lens) (c .tags) (take (end - start) (drop start s)) ≡ f → AllFit (nameRead c end f) → Meets s at c factor d (nameRead c end f)
+    pub name-meets : digit (getD s start 0) ≡ false → (f : BoundName) → found (c .count) s (c .names) (c .lens) (c .tags) (take (end - start) (drop start s)) ≡ f → AllFit (nameRead c end f) → ParsesAs s at c factor d (nameRead c end f)
     name-meets e Nothing q a = record {
       fine = tt;
       means = λ env h.

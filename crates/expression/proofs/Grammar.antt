@@ -13,7 +13,7 @@ use Rattle.numbered.specs.declared.Numbered.{Numbered}
 use Rattle.numbered.specs.Numbered.{plain}
 use Rattle.base.specs.Outcome.{Outcome, is, refused, andThen}
 use Rattle.base.specs.Lists.{all}
-use Rattle.base.proofs.Tests.{never, by-bool, by-or, between, and-left}
+use Rattle.base.proofs.Tests.{false-true, by-bool, by-or, between, and-left}
 use Rattle.base.proofs.Outcome.{not-is, is-same, then-is}
 use Rattle.word.specs.Apply.{Binary, add, sub, mul, div}
 use Rattle.decimal.specs.Decimal.{digit, value}
@@ -25,7 +25,7 @@ use Rattle.token.proofs.LongestMatch.{longest-match}
 use Rattle.expression.specs.Tree.{Tree, num, bin}
 use Rattle.expression.specs.Environment.{Env, lookup}
 use Rattle.expression.specs.Grammar.{factor, expression, Operator, times, over, plus, minus, Derives, number, name, parentheses, alone, join, depth}
-use Rattle.expression.specs.Parse.{Parse, lone, joins, operator, joined, closed, nested, named, atom, parseF, moreF, enough, parsed, whole, meaning}
+use Rattle.expression.specs.Parse.{Parse, symbol, isOperatorAt, operator, joined, closed, nested, named, atom, parseF, moreF, enough, parsed, allRead, meaning}
 use Rattle.expression.specs.Code.Cycle.{Reads}
 use Rattle.expression.proofs.Steps.{lone-is, looser, Left, starts, turns, stops, closes, number-read, name-read, more-ends, more-joins, level-up, factor-opens, factor-atom}
 
@@ -39,22 +39,22 @@ pub record Read (env : Env) (l d : ℕ) (ts : List (List ℕ)) (t : Tree) (rest 
   pub derives : Derives env l d used t
 
 -- the parser's tables are those of the grammar
-pub operator-is : {l : ℕ} {w : List ℕ} {op : Binary} → Operator l w op → (joins l (lone w) ≡ true) × (operator (lone w) ≡ op)
+pub operator-is : {l : ℕ} {w : List ℕ} {op : Binary} → Operator l w op → (isOperatorAt l (symbol w) ≡ true) × (operator (symbol w) ≡ op)
 operator-is times = (refl, refl)
 operator-is over = (refl, refl)
 operator-is plus = (refl, refl)
 operator-is minus = (refl, refl)
 
-sign-is : (l : ℕ) (w : List ℕ) (a : ℕ) (op : Binary) → 0 < a → Operator l (a ∷ []) op → operator a ≡ op → eqb (lone w) a ≡ true → Operator l w (operator (lone w))
+sign-is : (l : ℕ) (w : List ℕ) (a : ℕ) (op : Binary) → 0 < a → Operator l (a ∷ []) op → operator a ≡ op → eqb (symbol w) a ≡ true → Operator l w (operator (symbol w))
 sign-is l w a op h o e q =
-    let p = eqb-true (lone w) a q in
+    let p = eqb-true (symbol w) a q in
     subst (λ (x : Binary). Operator l w x) (sym (ap operator p ∙ e)) (subst (λ (x : List ℕ). Operator l x op) (sym (lone-is w a h p)) o)
 
-operator-of : (l : ℕ) (w : List ℕ) → joins l (lone w) ≡ true → Operator l w (operator (lone w))
-operator-of zero w j = never j
-operator-of (suc zero) w j = by-or (eqb (lone w) 42) (eqb (lone w) 47) j (sign-is 1 w 42 mul (omega arith) times refl) (sign-is 1 w 47 div (omega arith) over refl)
-operator-of (suc (suc zero)) w j = by-or (eqb (lone w) 43) (eqb (lone w) 45) j (sign-is 2 w 43 add (omega arith) plus refl) (sign-is 2 w 45 sub (omega arith) minus refl)
-operator-of (suc (suc (suc l))) w j = never j
+operator-of : (l : ℕ) (w : List ℕ) → isOperatorAt l (symbol w) ≡ true → Operator l w (operator (symbol w))
+operator-of zero w j = false-true j
+operator-of (suc zero) w j = by-or (eqb (symbol w) 42) (eqb (symbol w) 47) j (sign-is 1 w 42 mul (omega arith) times refl) (sign-is 1 w 47 div (omega arith) over refl)
+operator-of (suc (suc zero)) w j = by-or (eqb (symbol w) 43) (eqb (symbol w) 45) j (sign-is 2 w 43 add (omega arith) plus refl) (sign-is 2 w 45 sub (omega arith) minus refl)
+operator-of (suc (suc (suc l))) w j = false-true j
 
 -- no token is empty
 abbrev Some : List (List ℕ) → Type 0
@@ -76,7 +76,7 @@ tokens-some (Tokens.parted e h) = tokens-some h
 tokens-some (Tokens.token t l h) = (token-some t, tokens-some h)
 
 -- a literal is no parenthesis
-pub digits-no-parenthesis : (w : List ℕ) → all digit w ≡ true → lone w ≡ 40 → ⊥
+pub digits-no-parenthesis : (w : List ℕ) → all digit w ≡ true → symbol w ≡ 40 → ⊥
 digits-no-parenthesis [] e o = omega arith
 digits-no-parenthesis (a ∷ []) e o = let b = between 48 57 a (and-left (digit a) (all digit []) e) in omega arith
 digits-no-parenthesis (a ∷ b ∷ w) e o = omega arith
@@ -89,7 +89,7 @@ module _ (env : Env) where
   SoundMore f = (l d : ℕ) (us ts : List (List ℕ)) (t u : Tree) (rest : List (List ℕ)) → Some ts → Derives env (suc l) d us t → moreF f l env d (t, ts) ≡ is (u, rest) → Read env (suc l) d (us ++ ts) u rest
 
   -- a factor of one token
-  atom-derives : (d : ℕ) (w : List ℕ) (t : Tree) → 0 < length w → (lone w ≡ 40 → ⊥) → atom env w ≡ is t → Derives env factor d (w ∷ []) t
+  atom-derives : (d : ℕ) (w : List ℕ) (t : Tree) → 0 < length w → (symbol w ≡ 40 → ⊥) → atom env w ≡ is t → Derives env factor d (w ∷ []) t
   atom-derives d w t b o e =
       by-bool (all digit w)
       (λ a. by-bool (ltb (value w) (2 ^ 64))
@@ -102,9 +102,9 @@ module _ (env : Env) where
 
       found : all digit w ≡ false → (o : Option Tree) → lookup w env ≡ o → named (lookup w env) ≡ is t → Derives env factor d (w ∷ []) t
       found a none q p = not-tree 17 t (rw q at p)
-      found a (some u) q p = same u (rw q at p) (name (λ x. o (ap lone x)) a q)
+      found a (some u) q p = same u (rw q at p) (name (λ x. o (ap symbol x)) a q)
 
-  atom-sound : (d : ℕ) (w : List ℕ) (ts : List (List ℕ)) (t : Tree) (rest : List (List ℕ)) → 0 < length w → (lone w ≡ 40 → ⊥) → _≡_ {A = Parse} (andThen (atom env w) (λ u. is (u, ts))) (is (t, rest)) → Read env factor d (w ∷ ts) t rest
+  atom-sound : (d : ℕ) (w : List ℕ) (ts : List (List ℕ)) (t : Tree) (rest : List (List ℕ)) → 0 < length w → (symbol w ≡ 40 → ⊥) → _≡_ {A = Parse} (andThen (atom env w) (λ u. is (u, ts))) (is (t, rest)) → Read env factor d (w ∷ ts) t rest
   atom-sound d w ts t rest b o e =
       let c = then-is {B = Tree × List (List ℕ)} (atom env w) (λ u. is (u, ts)) e in
       let p = is-same (c .2) in
@@ -114,15 +114,15 @@ module _ (env : Env) where
         derives = subst (λ (r : Tree × List (List ℕ)). Derives env factor d (w ∷ []) (r .0)) p (atom-derives d w (c .0) b o (c .1));
       }
 
-  closed-is : (r : Parse) (t : Tree) (rest : List (List ℕ)) → andThen r closed ≡ is (t, rest) → (w : List ℕ) × ((lone w ≡ 41) × (r ≡ is (t, w ∷ rest)))
+  closed-is : (r : Parse) (t : Tree) (rest : List (List ℕ)) → andThen r closed ≡ is (t, rest) → (w : List ℕ) × ((symbol w ≡ 41) × (r ≡ is (t, w ∷ rest)))
   closed-is (refused n) t rest e = not-is e
   closed-is (is (u, [])) t rest e = not-is e
   closed-is (is (u, w ∷ ts)) t rest e =
-      by-bool (eqb (lone w) 41)
-      (λ h. let p : _≡_ {A = Parse} (is (u, ts)) (is (t, rest)) = simp h at e in (w, (eqb-true (lone w) 41 h, ap (λ (r : Tree × List (List ℕ)). is (r .0, w ∷ r .1)) (is-same p))))
+      by-bool (eqb (symbol w) 41)
+      (λ h. let p : _≡_ {A = Parse} (is (u, ts)) (is (t, rest)) = simp h at e in (w, (eqb-true (symbol w) 41 h, ap (λ (r : Tree × List (List ℕ)). is (r .0, w ∷ r .1)) (is-same p))))
       (λ h. let p : refused (plain 15) ≡ is (t, rest) = simp h at e in not-is p)
 
-  parentheses-sound : (f d : ℕ) (w : List ℕ) (ts : List (List ℕ)) (t : Tree) (rest : List (List ℕ)) → Sound f → Some ts → lone w ≡ 40 → nested d (λ e. parseF f expression env e ts) ≡ is (t, rest) → Read env factor d (w ∷ ts) t rest
+  parentheses-sound : (f d : ℕ) (w : List ℕ) (ts : List (List ℕ)) (t : Tree) (rest : List (List ℕ)) → Sound f → Some ts → symbol w ≡ 40 → nested d (λ e. parseF f expression env e ts) ≡ is (t, rest) → Read env factor d (w ∷ ts) t rest
   parentheses-sound f zero w ts t rest ih b o e = not-is e
   parentheses-sound f (suc d) w ts t rest ih b o e =
       let c = closed-is (parseF f expression env d ts) t rest e in
@@ -137,9 +137,9 @@ module _ (env : Env) where
   unfolding parseF
   factor-sound f d [] t rest ih b e = not-is e
   factor-sound f d (w ∷ ts) t rest ih b e =
-      by-bool (eqb (lone w) 40)
-      (λ h. let o = eqb-true (lone w) 40 h in parentheses-sound f d w ts t rest ih (b .1) o (sym (factor-opens f env w ts d o) ∙ e))
-      (λ h. let o = eqb-false (lone w) 40 h in atom-sound d w ts t rest (b .0) o (sym (factor-atom f env w ts d o) ∙ e))
+      by-bool (eqb (symbol w) 40)
+      (λ h. let o = eqb-true (symbol w) 40 h in parentheses-sound f d w ts t rest ih (b .1) o (sym (factor-opens f env w ts d o) ∙ e))
+      (λ h. let o = eqb-false (symbol w) 40 h in atom-sound d w ts t rest (b .0) o (sym (factor-atom f env w ts d o) ∙ e))
 
   level-sound : (f l d : ℕ) (ts : List (List ℕ)) (t : Tree) (rest : List (List ℕ)) → Sound f → SoundMore f → Some ts → parseF (suc f) (suc l) env d ts ≡ is (t, rest) → Read env (suc l) d ts t rest
   level-sound f l d ts t rest ih more b e =
@@ -161,14 +161,14 @@ module _ (env : Env) where
   unfolding parseF
   more-sound f l d us [] t u rest ih more b h e = ends-sound l d us [] t u rest h e
   more-sound f l d us (w ∷ ts) t u rest ih more b h e =
-      by-bool (joins (suc l) (lone w))
-      (λ j. let c = then-is (parseF f l env d ts) (λ r. moreF f l env d (joined (operator (lone w)) t r)) (sym (more-joins f l env d t w ts j) ∙ e) in go j (c .0) (c .1) (c .2))
+      by-bool (isOperatorAt (suc l) (symbol w))
+      (λ j. let c = then-is (parseF f l env d ts) (λ r. moreF f l env d (joined (operator (symbol w)) t r)) (sym (more-joins f l env d t w ts j) ∙ e) in go j (c .0) (c .1) (c .2))
       (λ j. ends-sound l d us (w ∷ ts) t u rest h (sym (more-ends (suc f) l env d t (w ∷ ts) j) ∙ e))
     where
-      go : joins (suc l) (lone w) ≡ true → (r : Tree × List (List ℕ)) → parseF f l env d ts ≡ is r → moreF f l env d (joined (operator (lone w)) t r) ≡ is (u, rest) → Read env (suc l) d (us ++ w ∷ ts) u rest
+      go : isOperatorAt (suc l) (symbol w) ≡ true → (r : Tree × List (List ℕ)) → parseF f l env d ts ≡ is r → moreF f l env d (joined (operator (symbol w)) t r) ≡ is (u, rest) → Read env (suc l) d (us ++ w ∷ ts) u rest
       go j (v, vs) q m =
           let r = ih l d ts v vs (b .1) q in
-          let s = more l d (us ++ w ∷ r .used) vs (bin (operator (lone w)) t v) u rest (some-behind (r .used) vs (subst Some (r .parts) (b .1))) (join h (operator-of (suc l) w j) (r .derives)) m in
+          let s = more l d (us ++ w ∷ r .used) vs (bin (operator (symbol w)) t v) u rest (some-behind (r .used) vs (subst Some (r .parts) (b .1))) (join h (operator-of (suc l) w j) (r .derives)) m in
           record {
             used = s .used;
             parts = ap (λ (x : List (List ℕ)). us ++ w ∷ x) (r .parts) ∙ sym (append-assoc us (w ∷ r .used) vs) ∙ s .parts;
@@ -187,7 +187,7 @@ module _ (env : Env) where
   -- no operator of level l or a tighter one stands first
   abbrev Stops : ℕ → List (List ℕ) → Type 0
   Stops zero rest = Unit {0}
-  Stops (suc l) rest = (joins (suc l) (lone (first rest)) ≡ false) × Stops l rest
+  Stops (suc l) rest = (isOperatorAt (suc l) (symbol (first rest)) ≡ false) × Stops l rest
 
   -- behind what is derivable the parser has its tree: a factor is read, a chain of operands may go on
   abbrev Complete : ℕ → ℕ → List (List ℕ) → Tree → Type 0
@@ -198,10 +198,10 @@ module _ (env : Env) where
   full zero d ts t h rest s = h rest
   full (suc l) d ts t h rest s = stops (s .0) (h rest (s .1))
 
-  operator-stops : (l : ℕ) (w : List ℕ) (ts : List (List ℕ)) → joins (suc l) (lone w) ≡ true → Stops l (w ∷ ts)
+  operator-stops : (l : ℕ) (w : List ℕ) (ts : List (List ℕ)) → isOperatorAt (suc l) (symbol w) ≡ true → Stops l (w ∷ ts)
   operator-stops zero w ts j = tt
-  operator-stops (suc zero) w ts j = (looser 1 (lone w) j, tt)
-  operator-stops (suc (suc l)) w ts j = never j
+  operator-stops (suc zero) w ts j = (looser 1 (symbol w) j, tt)
+  operator-stops (suc (suc l)) w ts j = false-true j
 
   complete : {l d : ℕ} {ts : List (List ℕ)} {t : Tree} → Derives env l d ts t → Complete l d ts t
   complete (number {d} {w} b a h) = λ rest. number-read env d w rest (digits-no-parenthesis w a) a h
@@ -227,12 +227,12 @@ derives-accepted env ts t h =
     let e = append-nil ts in
     subst (λ (x : List (List ℕ)). parsed env x ≡ is (t, [])) e (r .same (enough expression (ts ++ [])) (omega arith))
 
-whole-is : (r : Parse) (t : Tree) → andThen r whole ≡ is t → r ≡ is (t, [])
+whole-is : (r : Parse) (t : Tree) → andThen r allRead ≡ is t → r ≡ is (t, [])
 whole-is (is (u, [])) t e = ap (λ (x : Tree). is (x, [])) (is-same e)
 whole-is (is (u, w ∷ ts)) t e = not-is e
 whole-is (refused n) t e = not-is e
 
-pub meaning-whole : (env : Env) (s : List ℕ) → allowed s ≡ true → meaning env s ≡ andThen (parsed env (tokens s)) whole
+pub meaning-whole : (env : Env) (s : List ℕ) → allowed s ≡ true → meaning env s ≡ andThen (parsed env (tokens s)) allRead
 unfolding meaning
 meaning-whole env s a = rw (a, meaning)
 
@@ -254,7 +254,7 @@ grammar env s t = (λ e. (tokens s, meaning-derives env s t e), λ h. back (h .0
     back : (ts : List (List ℕ)) → Tokens s ts → Derives env expression depth ts t → meaning env s ≡ is t
     back ts k h =
         let l = longest-match s ts .0 k in
-        meaning-whole env s (l .0) ∙ ap (λ (x : List (List ℕ)). andThen (parsed env x) whole) (l .1) ∙ ap (λ (r : Parse). andThen r whole) (derives-accepted env ts t h)
+        meaning-whole env s (l .0) ∙ ap (λ (x : List (List ℕ)). andThen (parsed env x) allRead) (l .1) ∙ ap (λ (r : Parse). andThen r allRead) (derives-accepted env ts t h)
 
 -- tokens are an expression with one tree alone
 pub unique : (env : Env) (ts : List (List ℕ)) (t u : Tree) → Derives env expression depth ts t → Derives env expression depth ts u → t ≡ u

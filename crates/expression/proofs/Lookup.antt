@@ -11,17 +11,17 @@ use lib.ListN.{length, getD, take, drop, length-drop}
 use lib.Seq.{length-take-le}
 use Rattle.base.specs.Equal.{equal}
 use Rattle.base.proofs.Tests.{by-bool}
-use Rattle.base.proofs.Parts.{next}
-use Rattle.expression.specs.declared.names.Found.{Found}
-use Rattle.expression.specs.declared.names.Found.the-variants.{At, Nothing}
+use Rattle.base.proofs.Parts.{drop-cons-at}
+use Rattle.expression.specs.declared.names.BoundName.{BoundName}
+use Rattle.expression.specs.declared.names.BoundName.the-variants.{At, Nothing}
 use Rattle.expression.specs.Parse.{Binding, Env, lookup}
-use Rattle.expression.specs.Code.Table.{Columns, entryAt, Tells, Told, tagOf, called, found}
+use Rattle.expression.specs.Code.Table.{Columns, entryAt, RowFor, RowsFor, tagOf, hasName, found}
 use Rattle.expression.proofs.Tags.{tag-same}
 
 part : (s : List ℕ) (a n i : ℕ) → i < n → a + n ≤ length s → take (n - i) (drop (a + i) s) ≡ getD s (a + i) 0 ∷ take (n - (i + 1)) (drop (a + (i + 1)) s)
 part s a n i h g =
     let e : n - i ≡ suc (n - (i + 1)) = omega arith in
-    rw (e, next s (a + i) (a + (i + 1)) (omega arith) (omega arith))
+    rw (e, drop-cons-at s (a + i) (a + (i + 1)) (omega arith) (omega arith))
 
 -- what is left of two parts of n bytes, from the byte i of each on
 module _ (s : List ℕ) (a b n i : ℕ) where
@@ -73,10 +73,10 @@ module _ (s : List ℕ) (start len a n : ℕ) where
 
 -- binding i by its tag, and by its name where it has the tag
 module _ (s names lens tags : List ℕ) (start len i : ℕ) {t : ℕ} (g : t ≡ tagOf (take len (drop start s))) where
-  pub called-other : (getD tags i 0 ≡ t → ⊥) → false ≡ called s names lens tags i (take len (drop start s))
+  pub called-other : (getD tags i 0 ≡ t → ⊥) → false ≡ hasName s names lens tags i (take len (drop start s))
   called-other h = sym (simp (ne-eqb (getD tags i 0) (tagOf (take len (drop start s))) (λ x. h (x ∙ sym g))))
 
-  pub called-by : {a n : ℕ} {r : Bool} → getD tags i 0 ≡ t → a ≡ getD names i 0 → n ≡ getD lens i 0 → r ≡ isName s start len a n → r ≡ called s names lens tags i (take len (drop start s))
+  pub called-by : {a n : ℕ} {r : Bool} → getD tags i 0 ≡ t → a ≡ getD names i 0 → n ≡ getD lens i 0 → r ≡ isName s start len a n → r ≡ hasName s names lens tags i (take len (drop start s))
   called-by {a} {n} {r} h p q e =
       let x : r ≡ isName s start len (getD names i 0) (getD lens i 0) = cc in
       x ∙ sym (simp (eq-eqb (getD tags i 0) (tagOf (take len (drop start s))) (h ∙ g)))
@@ -86,11 +86,11 @@ module _ (s names lens tags w : List ℕ) (n : ℕ) (h : 0 < n) where
   one-less : n ≡ suc (n - 1)
   one-less = omega arith
 
-  pub found-here : called s names lens tags (n - 1) w ≡ true → found n s names lens tags w ≡ At (n - 1)
+  pub found-here : hasName s names lens tags (n - 1) w ≡ true → found n s names lens tags w ≡ At (n - 1)
   unfolding found
   found-here e = ap (λ (x : ℕ). found x s names lens tags w) one-less ∙ rw (e, found)
 
-  pub found-older : called s names lens tags (n - 1) w ≡ false → found n s names lens tags w ≡ found (n - 1) s names lens tags w
+  pub found-older : hasName s names lens tags (n - 1) w ≡ false → found n s names lens tags w ≡ found (n - 1) s names lens tags w
   unfolding found
   found-older e = ap (λ (x : ℕ). found x s names lens tags w) one-less ∙ rw (e, found)
 
@@ -103,25 +103,25 @@ unfolding found
 found-below s names lens tags w zero i e = absurd (let z : _≡_ {A = ℕ} 0 1 = cc in omega arith)
 found-below s names lens tags w (suc n) i e =
     let more = found-below s names lens tags w n i in
-    by-bool (called s names lens tags n w)
+    by-bool (hasName s names lens tags n w)
     (λ t. let p : At n ≡ At i = sym (rw (t, found)) ∙ e in let q : n ≡ i = cc in omega arith)
     (λ t. let m = more (sym (rw (t, found)) ∙ e) in omega arith)
 
 -- what is found in a table that holds an environment is what the environment has
-abbrev pub Looked : List ℕ → Columns → Env → List ℕ → Found → Type 0
-Looked s c env w (At i) = (b : Binding) × (Tells s (entryAt c i) b × (lookup w env ≡ some (b .tree)))
+abbrev pub Looked : List ℕ → Columns → Env → List ℕ → BoundName → Type 0
+Looked s c env w (At i) = (b : Binding) × (RowFor s (entryAt c i) b × (lookup w env ≡ some (b .tree)))
 Looked s c env w Nothing = lookup w env ≡ none
 
-called-as : (s : List ℕ) (c : Columns) (i : ℕ) (b : Binding) (w : List ℕ) → Tells s (entryAt c i) b → called s (c .names) (c .lens) (c .tags) i w ≡ equal w (b .name)
+called-as : (s : List ℕ) (c : Columns) (i : ℕ) (b : Binding) (w : List ℕ) → RowFor s (entryAt c i) b → hasName s (c .names) (c .lens) (c .tags) i w ≡ equal w (b .name)
 called-as s c i b w t =
-    let l : called s (c .names) (c .lens) (c .tags) i w ≡ (eqb (getD (c .tags) i 0) (tagOf w) && equal w (take (getD (c .lens) i 0) (drop (getD (c .names) i 0) s))) = ap (λ (x : Bool). eqb (getD (c .tags) i 0) (tagOf w) && (x && equal w (take (getD (c .lens) i 0) (drop (getD (c .names) i 0) s)))) (le-leb _ _ (t .inside)) in
+    let l : hasName s (c .names) (c .lens) (c .tags) i w ≡ (eqb (getD (c .tags) i 0) (tagOf w) && equal w (take (getD (c .lens) i 0) (drop (getD (c .names) i 0) s))) = ap (λ (x : Bool). eqb (getD (c .tags) i 0) (tagOf w) && (x && equal w (take (getD (c .lens) i 0) (drop (getD (c .names) i 0) s)))) (le-leb _ _ (t .inside)) in
     l ∙ ap (λ (n : List ℕ). eqb (getD (c .tags) i 0) (tagOf w) && equal w n) (sym (t .name)) ∙ tag-same (getD (c .tags) i 0) w (b .name) (t .tag)
 
-older : (s : List ℕ) (c : Columns) (env env′ : Env) (w : List ℕ) (r : Found) → lookup w env′ ≡ lookup w env → Looked s c env w r → Looked s c env′ w r
+older : (s : List ℕ) (c : Columns) (env env′ : Env) (w : List ℕ) (r : BoundName) → lookup w env′ ≡ lookup w env → Looked s c env w r → Looked s c env′ w r
 older s c env env′ w (At i) e (b, (t, q)) = (b, (t, e ∙ q))
 older s c env env′ w Nothing e q = e ∙ q
 
-pub looked : (s : List ℕ) (c : Columns) (n : ℕ) (env : Env) (w : List ℕ) → Told s c n env → Looked s c env w (found n s (c .names) (c .lens) (c .tags) w)
+pub looked : (s : List ℕ) (c : Columns) (n : ℕ) (env : Env) (w : List ℕ) → RowsFor s c n env → Looked s c env w (found n s (c .names) (c .lens) (c .tags) w)
 unfolding found
 looked s c zero [] w t = refl
 looked s c zero (b ∷ env) w t = absurd t

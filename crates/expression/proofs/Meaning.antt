@@ -12,52 +12,52 @@ use Rattle.token.specs.Token.{allowed, scan, tokens}
 use Rattle.token.specs.Code.Places.{tokenAt, lastEnd}
 use Rattle.token.specs.declared.Token.{Token}
 use Rattle.token.proofs.LastEnd.{last-end}
-use Rattle.expression.specs.declared.figures.Read.{Read}
+use Rattle.expression.specs.declared.figures.Figures.{Figures}
 use Rattle.expression.specs.declared.ExprError.{ExprError}
 use Rattle.expression.specs.declared.ExprError.the-variants.{InvalidCharacter, UnconsumedTokens}
-use Rattle.expression.specs.declared.Parsed.{Parsed}
-use Rattle.expression.specs.declared.Parsed.the-variants.{Done, Refused}
+use Rattle.expression.specs.declared.ParseResult.{ParseResult}
+use Rattle.expression.specs.declared.ParseResult.the-variants.{Done, Refused}
 use Rattle.expression.specs.Tree.{Tree}
-use Rattle.expression.specs.Parse.{Env, Parse, enough, parseF, moreF, whole, meaning, expression, depth}
-use Rattle.expression.specs.Code.Figures.{Figures}
-use Rattle.expression.specs.Code.Table.{Columns, columnsOf, Told, few, Holds}
+use Rattle.expression.specs.Parse.{Env, Parse, enough, parseF, moreF, allRead, meaning, expression, depth}
+use Rattle.expression.specs.Code.Figures.{FiguresOf}
+use Rattle.expression.specs.Code.Table.{Columns, columnsOf, RowsFor, atMost256, TableFor}
 use Rattle.expression.specs.Answer.{exprErrorNumbered}
-use Rattle.expression.specs.Code.Answers.{said, due, Short, EndsLast, Answers}
+use Rattle.expression.specs.Code.Answers.{parseAnswer, meaningAnswer, ShortText, EndsLast, Answers}
 use Rattle.expression.specs.Code.Parts.{wholeRead}
-use Rattle.expression.specs.Code.Cycle.{Placed, Meets}
+use Rattle.expression.specs.Code.Cycle.{ReadWithin, ParsesAs}
 use Rattle.expression.proofs.Signs.{none-of, next-of}
 use Rattle.expression.proofs.Grammar.{meaning-whole, meaning-not-allowed}
 
 -- from what a text means to what is promised of it
-means : (s : List ℕ) (at : ℕ) (c : Columns) (r : Parsed) → EndsLast s r → ((env : Env) → Told s c (few (c .count)) env → (m : Outcome Numbered Tree) × ((meaning env (drop at s) ≡ m) × ((said r ≡ due m) × Short m))) → Answers s at c r
+means : (s : List ℕ) (at : ℕ) (c : Columns) (r : ParseResult) → EndsLast s r → ((env : Env) → RowsFor s c (atMost256 (c .count)) env → (m : Outcome Numbered Tree) × ((meaning env (drop at s) ≡ m) × ((parseAnswer r ≡ meaningAnswer m) × ShortText m))) → Answers s at c r
 means s at c r o f = record {
-  is = λ env h. let x = f env h in x .1 .1 .0 ∙ sym (ap due (x .1 .0));
-  short = λ env h. let x = f env h in subst Short (sym (x .1 .0)) (x .1 .1 .1);
+  is = λ env h. let x = f env h in x .1 .1 .0 ∙ sym (ap meaningAnswer (x .1 .0));
+  short = λ env h. let x = f env h in subst ShortText (sym (x .1 .0)) (x .1 .1 .1);
   ends = o;
 }
 
 pub not-allowed : (s : List ℕ) (at : ℕ) (c : Columns) → allowed (drop at s) ≡ false → Answers s at c (Refused InvalidCharacter)
 not-allowed s at c e = means s at c _ tt (λ env h. (refused (plain 13), (meaning-not-allowed env (drop at s) e, (refl, tt))))
 
-figures-said : {t : Tree} {v : Read} → Figures t v → said (Done v) ≡ due (is t)
+figures-said : {t : Tree} {v : Figures} → FiguresOf t v → parseAnswer (Done v) ≡ meaningAnswer (is t)
 figures-said f = cc (f .k, f .p, f .value, f .len)
 
 -- the same columns with another count
 abbrev recount : ℕ → Columns → Columns
 recount n c = columnsOf n (c .names) (c .lens) (c .tags) (c .ks) (c .ps) (c .values) (c .nones) (c .sizes)
 
-told-recount : (s : List ℕ) (c : Columns) (n m : ℕ) (env : Env) → Told s c m env → Told s (recount n c) m env
+told-recount : (s : List ℕ) (c : Columns) (n m : ℕ) (env : Env) → RowsFor s c m env → RowsFor s (recount n c) m env
 told-recount s c n zero [] h = tt
 told-recount s c n zero (b ∷ env) h = absurd h
 told-recount s c n (suc m) [] h = absurd h
 told-recount s c n (suc m) (b ∷ env) (t, h) = (t, told-recount s c n m env h)
 
 -- what is held is told
-pub held-told : {s : List ℕ} {c : Columns} {env : Env} → Holds s c env → Told s c (few (c .count)) env
-held-told {s} {c} {env} h = let r = h .room in let e : c .count ≡ few (c .count) = omega arith in subst (λ (n : ℕ). Told s c n env) e (h .told)
+pub held-told : {s : List ℕ} {c : Columns} {env : Env} → TableFor s c env → RowsFor s c (atMost256 (c .count)) env
+held-told {s} {c} {env} h = let r = h .room in let e : c .count ≡ atMost256 (c .count) = omega arith in subst (λ (n : ℕ). RowsFor s c n env) e (h .told)
 
 -- behind what is read no token is left
-read-ends : {s : List ℕ} {at : ℕ} {v : Read} → Placed s at v → tokens (drop (v .next) s) ≡ [] → v .next ≡ lastEnd s
+read-ends : {s : List ℕ} {at : ℕ} {v : Figures} → ReadWithin s at v → tokens (drop (v .next) s) ≡ [] → v .next ≡ lastEnd s
 read-ends {s} {at} {v} p q =
     let a = p .past in
     let w = p .within in
@@ -65,31 +65,31 @@ read-ends {s} {at} {v} p q =
     e ∙ sym (last-end s (v .next - 1) (omega arith) (p .last) (ap (λ (i : ℕ). tokens (drop i s)) (sym e) ∙ q))
 
 -- the count as the code bounds it
-module _ (s : List ℕ) (at : ℕ) (c : Columns) (n : ℕ) (few-is : n ≡ few (c .count)) (a : allowed (drop at s) ≡ true) where
-  holds : (env : Env) → Told s c (few (c .count)) env → Holds s (recount n c) env
+module _ (s : List ℕ) (at : ℕ) (c : Columns) (n : ℕ) (few-is : n ≡ atMost256 (c .count)) (a : allowed (drop at s) ≡ true) where
+  holds : (env : Env) → RowsFor s c (atMost256 (c .count)) env → TableFor s (recount n c) env
   holds env h = record { room = omega arith; told = told-recount s c n n env (rw few-is h) }
 
-  pub refused-answers : {e : ExprError} → Meets s at (recount n c) expression depth (Refused e) → Answers s at c (Refused e)
+  pub refused-answers : {e : ExprError} → ParsesAs s at (recount n c) expression depth (Refused e) → Answers s at c (Refused e)
   refused-answers {e} m = means s at c _ tt (λ env h.
       let x = m .means env (holds env h) in
-      (refused (exprErrorNumbered e), (meaning-whole env (drop at s) a ∙ ap (λ (p : Parse). andThen p whole) (x .same (enough expression (tokens (drop at s))) (omega arith)), (refl, tt))))
+      (refused (exprErrorNumbered e), (meaning-whole env (drop at s) a ∙ ap (λ (p : Parse). andThen p allRead) (x .same (enough expression (tokens (drop at s))) (omega arith)), (refl, tt))))
 
-  pub done-answers : {v : Read} (ts : List (List ℕ)) → tokens (drop (v .next) s) ≡ ts → Meets s at (recount n c) expression depth (Done v) → Answers s at c (wholeRead ts v)
+  pub done-answers : {v : Figures} (ts : List (List ℕ)) → tokens (drop (v .next) s) ≡ ts → ParsesAs s at (recount n c) expression depth (Done v) → Answers s at c (wholeRead ts v)
   done-answers {v} [] q m = means s at c _ (read-ends (m .fine) q) (λ env h.
       let x = m .means env (holds env h) in
       let f = x .1 .1 in (
         is (x .0),
         (
-          meaning-whole env (drop at s) a ∙ ap (λ (p : Parse). andThen p whole) (x .1 .0 .same (enough expression (tokens (drop at s))) (omega arith) ∙ ap (λ (ts : List (List ℕ)). is (x .0, ts)) q),
+          meaning-whole env (drop at s) a ∙ ap (λ (p : Parse). andThen p allRead) (x .1 .0 .same (enough expression (tokens (drop at s))) (omega arith) ∙ ap (λ (ts : List (List ℕ)). is (x .0, ts)) q),
           (figures-said f, f .short),
         ),
       ))
   done-answers {v} (w ∷ ts) q m = means s at c _ tt (λ env h.
       let x = m .means env (holds env h) in
-      (refused (plain 19), (meaning-whole env (drop at s) a ∙ ap (λ (p : Parse). andThen p whole) (x .1 .0 .same (enough expression (tokens (drop at s))) (omega arith) ∙ ap (λ (ts : List (List ℕ)). is (x .0, ts)) q), (refl, tt))))
+      (refused (plain 19), (meaning-whole env (drop at s) a ∙ ap (λ (p : Parse). andThen p allRead) (x .1 .0 .same (enough expression (tokens (drop at s))) (omega arith) ∙ ap (λ (ts : List (List ℕ)). is (x .0, ts)) q), (refl, tt))))
 
 -- the token that follows what was read
-module _ (s : List ℕ) (v : Read) (t : Token) (e : t ≡ tokenAt s (v .next)) where
+module _ (s : List ℕ) (v : Figures) (t : Token) (e : t ≡ tokenAt s (v .next)) where
   pub whole-done : t .start ≡ t .end → Done v ≡ wholeRead (tokens (drop (v .next) s)) v
   whole-done h = rw (none-of s (v .next) t e h)
 

@@ -5,35 +5,35 @@ use mathlib.Core.List.{List, _∷_}
 use mathlib.Core.Bool.{true, false}
 use native.Mathlib.Omega.{arith}
 use lib.ListN.{length, drop}
-use Rattle.base.proofs.Tests.{never, by-leb}
-use Rattle.base.proofs.Parts.{next}
+use Rattle.base.proofs.Tests.{false-true, by-leb}
+use Rattle.base.proofs.Parts.{drop-cons-at}
 use Rattle.word.specs.Apply.{Binary, add, sub, mul, div, eq, lt}
 use Rattle.token.specs.Token.{tokens}
 use Rattle.token.specs.Code.Places.{first, tokenAt}
 use Rattle.token.proofs.Tokens.{tokenFrom, token-none, token-next}
-use Rattle.expression.specs.declared.figures.Read.{Read}
+use Rattle.expression.specs.declared.figures.Figures.{Figures}
 use Rattle.expression.specs.declared.ExprError.{ExprError}
 use Rattle.expression.specs.declared.parts.Sign.{Sign}
-use Rattle.expression.specs.declared.Parsed.{Parsed}
-use Rattle.expression.specs.declared.Parsed.the-variants.{Done, Refused}
+use Rattle.expression.specs.declared.ParseResult.{ParseResult}
+use Rattle.expression.specs.declared.ParseResult.the-variants.{Done, Refused}
 use Rattle.expression.specs.Tree.{Tree, bin}
-use Rattle.expression.specs.Code.Lengths.{lineOf}
-use Rattle.expression.specs.Parse.{Env, lone, joins, operator}
-use Rattle.expression.specs.Code.Figures.{Figures, Small, Joined}
-use Rattle.expression.specs.Code.Table.{Columns, Holds}
+use Rattle.expression.specs.Code.Lengths.{operatorLength}
+use Rattle.expression.specs.Parse.{Env, symbol, isOperatorAt, operator}
+use Rattle.expression.specs.Code.Figures.{FiguresOf, SumsFit, Joined}
+use Rattle.expression.specs.Code.Table.{Columns, TableFor}
 use Rattle.expression.specs.Code.Parts.{signAt}
-use Rattle.expression.specs.Code.Cycle.{Reads, Placed, Meets}
+use Rattle.expression.specs.Code.Cycle.{Reads, ReadWithin, ParsesAs}
 use Rattle.expression.proofs.Steps.{Left, starts, starts-refused, turns, turns-refused, stops}
 
-pub carry : {s : List ℕ} {at : ℕ} {c : Columns} {l d : ℕ} {r q : Parsed} → r ≡ q → Meets s at c l d r → Meets s at c l d q
-carry {s} {at} {c} {l} {d} e m = subst (λ (x : Parsed). Meets s at c l d x) e m
+pub carry : {s : List ℕ} {at : ℕ} {c : Columns} {l d : ℕ} {r q : ParseResult} → r ≡ q → ParsesAs s at c l d r → ParsesAs s at c l d q
+carry {s} {at} {c} {l} {d} e m = subst (λ (x : ParseResult). ParsesAs s at c l d x) e m
 
 -- sums of figures fit, since a text has at most 65,536 bytes
-pub small : {s : List ℕ} {at : ℕ} {v : Read} → length s ≤ 65536 → Placed s at v → Small v
+pub small : {s : List ℕ} {at : ℕ} {v : Figures} → length s ≤ 65536 → ReadWithin s at v → SumsFit v
 small {s} {at} {v} h p = record { k = omega (arith, p .k, p .within); p = omega (arith, p .p, p .within); len = omega (arith, p .len, p .within) }
 
 -- an operator's line has at most 4 bytes
-pub line-most : (op : Binary) → lineOf op ≤ 4
+pub line-most : (op : Binary) → operatorLength op ≤ 4
 line-most add = omega arith
 line-most sub = omega arith
 line-most mul = omega arith
@@ -41,7 +41,7 @@ line-most div = omega arith
 line-most eq = omega arith
 line-most lt = omega arith
 
-figures-join : (a : ℕ) {t u : Tree} {v w r : Read} → Figures t v → Figures u w → Joined a v w r → Figures (bin (operator a) t u) r
+figures-join : (a : ℕ) {t u : Tree} {v w r : Figures} → FiguresOf t v → FiguresOf u w → Joined a v w r → FiguresOf (bin (operator a) t u) r
 figures-join a {t} {u} {v} {w} {r} f g j =
     let l = line-most (operator a) in
     record {
@@ -53,7 +53,7 @@ figures-join a {t} {u} {v} {w} {r} f g j =
     }
 
 -- the sign of an operator is the next token
-joins-none : (l : ℕ) → joins l 0 ≡ false
+joins-none : (l : ℕ) → isOperatorAt l 0 ≡ false
 joins-none zero = refl
 joins-none (suc zero) = refl
 joins-none (suc (suc zero)) = refl
@@ -62,46 +62,46 @@ joins-none (suc (suc (suc l))) = refl
 pub record Operator (s : List ℕ) (at : ℕ) (sign : Sign) (w : List ℕ) : Type 0 where
   pub past : at < sign .end
   pub inside : sign .end ≤ length s
-  pub is : lone w ≡ sign .byte
+  pub is : symbol w ≡ sign .byte
   pub list : tokens (drop at s) ≡ w ∷ tokens (drop (sign .end) s)
 
-pub operator-next : (s : List ℕ) (at l : ℕ) (sign : Sign) → sign ≡ signAt s at → joins l (sign .byte) ≡ true → Operator s at sign (tokenFrom s (tokenAt s at .start))
+pub operator-next : (s : List ℕ) (at l : ℕ) (sign : Sign) → sign ≡ signAt s at → isOperatorAt l (sign .byte) ≡ true → Operator s at sign (tokenFrom s (tokenAt s at .start))
 operator-next s at l sign e j =
     let q : sign .end ≡ tokenAt s at .end = ap (λ (x : Sign). x .end) e in
-    let b : sign .byte ≡ lone (first (tokens (drop at s))) = ap (λ (x : Sign). x .byte) e in
+    let b : sign .byte ≡ symbol (first (tokens (drop at s))) = ap (λ (x : Sign). x .byte) e in
     by-leb (tokenAt s at .end) (tokenAt s at .start)
-    (λ h. never (sym (ap (joins l) (b ∙ ap (λ (x : List (List ℕ)). lone (first x)) (token-none s at (omega arith))) ∙ joins-none l) ∙ j))
+    (λ h. false-true (sym (ap (isOperatorAt l) (b ∙ ap (λ (x : List (List ℕ)). symbol (first x)) (token-none s at (omega arith))) ∙ joins-none l) ∙ j))
     (λ h.
     let n = token-next s at h in
     record {
       past = omega (arith, n .after, n .some);
       inside = omega (arith, n .inside);
-      is = sym (b ∙ ap (λ (x : List (List ℕ)). lone (first x)) (n .list));
+      is = sym (b ∙ ap (λ (x : List (List ℕ)). symbol (first x)) (n .list));
       list = n .list ∙ ap (λ (i : ℕ). tokenFrom s (tokenAt s at .start) ∷ tokens (drop i s)) (sym q);
     })
 
 -- operands joined so far
-pub record Going (s : List ℕ) (at : ℕ) (c : Columns) (l d : ℕ) (v : Read) : Type 0 where
-  pub placed : Placed s at v
-  pub means : (env : Env) → Holds s c env → (t : Tree) × (Left env l d (tokens (drop at s)) t (tokens (drop (v .next) s)) × Figures t v)
+pub record Going (s : List ℕ) (at : ℕ) (c : Columns) (l d : ℕ) (v : Figures) : Type 0 where
+  pub placed : ReadWithin s at v
+  pub means : (env : Env) → TableFor s c env → (t : Tree) × (Left env l d (tokens (drop at s)) t (tokens (drop (v .next) s)) × FiguresOf t v)
 
 module _ {s : List ℕ} {at : ℕ} {c : Columns} {l d : ℕ} where
-  pub begins : {v : Read} → Meets s at c l d (Done v) → Going s at c l d v
+  pub begins : {v : Figures} → ParsesAs s at c l d (Done v) → Going s at c l d v
   begins m = record { placed = m .fine; means = λ env h. let x = m .means env h in (x .0, (starts (x .1 .0), x .1 .1)) }
 
-  pub begins-refused : {e : ExprError} → Meets s at c l d (Refused e) → Meets s at c (suc l) d (Refused e)
+  pub begins-refused : {e : ExprError} → ParsesAs s at c l d (Refused e) → ParsesAs s at c (suc l) d (Refused e)
   begins-refused m = record { fine = tt; means = λ env h. starts-refused (m .means env h) }
 
-  pub finishes : {v : Read} (sign : Sign) → sign ≡ signAt s (v .next) → joins (suc l) (sign .byte) ≡ false → Going s at c l d v → Meets s at c (suc l) d (Done v)
+  pub finishes : {v : Figures} (sign : Sign) → sign ≡ signAt s (v .next) → isOperatorAt (suc l) (sign .byte) ≡ false → Going s at c l d v → ParsesAs s at c (suc l) d (Done v)
   finishes {v} sign e j g = record {
     fine = g .placed;
     means = λ env h.
         let x = g .means env h in
-        (x .0, (stops (sym (ap (λ (y : Sign). joins (suc l) (y .byte)) e) ∙ j) (x .1 .0), x .1 .1));
+        (x .0, (stops (sym (ap (λ (y : Sign). isOperatorAt (suc l) (y .byte)) e) ∙ j) (x .1 .0), x .1 .1));
   }
 
-  module _ {v : Read} (sign : Sign) (e : sign ≡ signAt s (v .next)) (j : joins (suc l) (sign .byte) ≡ true) (g : Going s at c l d v) where
-    pub goes-on : {w r : Read} → Meets s (sign .end) c l d (Done w) → Joined (sign .byte) v w r → Going s at c l d r
+  module _ {v : Figures} (sign : Sign) (e : sign ≡ signAt s (v .next)) (j : isOperatorAt (suc l) (sign .byte) ≡ true) (g : Going s at c l d v) where
+    pub goes-on : {w r : Figures} → ParsesAs s (sign .end) c l d (Done w) → Joined (sign .byte) v w r → Going s at c l d r
     goes-on {w} {r} m q =
         let o = operator-next s (v .next) (suc l) sign e j in
         let p = g .placed in
@@ -118,21 +118,21 @@ module _ {s : List ℕ} {at : ℕ} {c : Columns} {l d : ℕ} where
           means = λ env h. joining env (g .means env h) (m .means env h) o;
         }
       where
-        joining : (env : Env) → (t : Tree) × (Left env l d (tokens (drop at s)) t (tokens (drop (v .next) s)) × Figures t v)
-            → (u : Tree) × (Reads env l d (tokens (drop (sign .end) s)) u (tokens (drop (w .next) s)) × Figures u w)
+        joining : (env : Env) → (t : Tree) × (Left env l d (tokens (drop at s)) t (tokens (drop (v .next) s)) × FiguresOf t v)
+            → (u : Tree) × (Reads env l d (tokens (drop (sign .end) s)) u (tokens (drop (w .next) s)) × FiguresOf u w)
             → Operator s (v .next) sign (tokenFrom s (tokenAt s (v .next) .start))
-            → (t : Tree) × (Left env l d (tokens (drop at s)) t (tokens (drop (r .next) s)) × Figures t r)
+            → (t : Tree) × (Left env l d (tokens (drop at s)) t (tokens (drop (r .next) s)) × FiguresOf t r)
         joining env (t, (x, f)) (u, (y, k)) o =
             let z = tokenFrom s (tokenAt s (v .next) .start) in
-            let b = turns z (ap (joins (suc l)) (o .is) ∙ j) (subst (λ (ts : List (List ℕ)). Left env l d (tokens (drop at s)) t ts) (o .list) x) y in (
-              bin (operator (lone z)) t u,
+            let b = turns z (ap (isOperatorAt (suc l)) (o .is) ∙ j) (subst (λ (ts : List (List ℕ)). Left env l d (tokens (drop at s)) t ts) (o .list) x) y in (
+              bin (operator (symbol z)) t u,
               (
-                subst (λ (i : ℕ). Left env l d (tokens (drop at s)) (bin (operator (lone z)) t u) (tokens (drop i s))) (sym (q .next)) b,
-                subst (λ (a : ℕ). Figures (bin (operator a) t u) r) (sym (o .is)) (figures-join (sign .byte) f k q),
+                subst (λ (i : ℕ). Left env l d (tokens (drop at s)) (bin (operator (symbol z)) t u) (tokens (drop i s))) (sym (q .next)) b,
+                subst (λ (a : ℕ). FiguresOf (bin (operator a) t u) r) (sym (o .is)) (figures-join (sign .byte) f k q),
               ),
             )
 
-    pub goes-refused : {x : ExprError} → Meets s (sign .end) c l d (Refused x) → Meets s at c (suc l) d (Refused x)
+    pub goes-refused : {x : ExprError} → ParsesAs s (sign .end) c l d (Refused x) → ParsesAs s at c (suc l) d (Refused x)
     goes-refused m =
         let o = operator-next s (v .next) (suc l) sign e j in
         let z = tokenFrom s (tokenAt s (v .next) .start) in
@@ -140,5 +140,5 @@ module _ {s : List ℕ} {at : ℕ} {c : Columns} {l d : ℕ} where
           fine = tt;
           means = λ env h.
               let y = g .means env h in
-              turns-refused z (ap (joins (suc l)) (o .is) ∙ j) (subst (λ (ts : List (List ℕ)). Left env l d (tokens (drop at s)) (y .0) ts) (o .list) (y .1 .0)) (m .means env h);
+              turns-refused z (ap (isOperatorAt (suc l)) (o .is) ∙ j) (subst (λ (ts : List (List ℕ)). Left env l d (tokens (drop at s)) (y .0) ts) (o .list) (y .1 .0)) (m .means env h);
         }

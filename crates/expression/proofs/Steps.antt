@@ -10,34 +10,34 @@ use lib.Dec.{eqb}
 use lib.ListN.{length}
 use Rattle.base.specs.Outcome.{is, refused, andThen}
 use Rattle.base.specs.Lists.{all}
-use Rattle.base.proofs.Tests.{never, by-or}
+use Rattle.base.proofs.Tests.{false-true, by-or}
 use Rattle.numbered.specs.declared.Numbered.{Numbered}
 use Rattle.numbered.specs.Numbered.{plain}
 use Rattle.decimal.specs.Decimal.{value, digit}
 use Rattle.token.specs.Code.Places.{first}
 use Rattle.expression.specs.Tree.{Tree, num, bin}
-use Rattle.expression.specs.Parse.{Env, lookup, Parse, lone, joins, operator, joined, closed, nested, atom, parseF, moreF, enough, factor, expression}
+use Rattle.expression.specs.Parse.{Env, lookup, Parse, symbol, isOperatorAt, operator, joined, closed, nested, atom, parseF, moreF, enough, factor, expression}
 use Rattle.expression.specs.Code.Cycle.{Reads, Refuses}
 
-pub lone-is : (w : List ℕ) (a : ℕ) → 0 < a → lone w ≡ a → w ≡ a ∷ []
+pub lone-is : (w : List ℕ) (a : ℕ) → 0 < a → symbol w ≡ a → w ≡ a ∷ []
 lone-is [] a h e = absurd (omega arith)
 lone-is (b ∷ []) a h e = ap (λ (x : ℕ). x ∷ []) e
 lone-is (b ∷ c ∷ w) a h e = absurd (omega arith)
 
 -- only factors and terms are joined
-pub level-low : (l a : ℕ) → joins (suc l) a ≡ true → l ≤ 1
+pub level-low : (l a : ℕ) → isOperatorAt (suc l) a ≡ true → l ≤ 1
 level-low zero a e = omega arith
 level-low (suc zero) a e = omega arith
-level-low (suc (suc l)) a e = never e
+level-low (suc (suc l)) a e = false-true e
 
 -- an operator is no operator of a tighter level
-pub looser : (l a : ℕ) → joins (suc l) a ≡ true → joins l a ≡ false
+pub looser : (l a : ℕ) → isOperatorAt (suc l) a ≡ true → isOperatorAt l a ≡ false
 looser zero a e = refl
 looser (suc zero) a e =
     by-or (eqb a 43) (eqb a 45) e
     (λ p. let q = eqb-true a 43 p in simp (ne-eqb a 42 (λ (x : a ≡ 42). omega arith), ne-eqb a 47 (λ (x : a ≡ 47). omega arith)))
     (λ p. let q = eqb-true a 45 p in simp (ne-eqb a 42 (λ (x : a ≡ 42). omega arith), ne-eqb a 47 (λ (x : a ≡ 47). omega arith)))
-looser (suc (suc l)) a e = never e
+looser (suc (suc l)) a e = false-true e
 
 module _ (env : Env) (l d : ℕ) (ts : List (List ℕ)) where
   -- level l + 1 has read the tree t so far, and rest is left
@@ -45,13 +45,13 @@ module _ (env : Env) (l d : ℕ) (ts : List (List ℕ)) where
     pub fewer : length rest < length ts
     pub same : (f : ℕ) → enough (suc l) ts ≤ f → (e : ℕ) × ((8 * length rest + 1 ≤ e) × (parseF f (suc l) env d ts ≡ moreF e l env d (t, rest)))
 
-pub more-ends : (f l : ℕ) (env : Env) (d : ℕ) (t : Tree) (rest : List (List ℕ)) → joins (suc l) (lone (first rest)) ≡ false → moreF f l env d (t, rest) ≡ is (t, rest)
+pub more-ends : (f l : ℕ) (env : Env) (d : ℕ) (t : Tree) (rest : List (List ℕ)) → isOperatorAt (suc l) (symbol (first rest)) ≡ false → moreF f l env d (t, rest) ≡ is (t, rest)
 unfolding parseF
 more-ends zero l env d t rest e = refl
 more-ends (suc f) l env d t [] e = refl
 more-ends (suc f) l env d t (w ∷ ts) e = rw (e, moreF)
 
-pub more-joins : (f l : ℕ) (env : Env) (d : ℕ) (t : Tree) (w : List ℕ) (ts : List (List ℕ)) → joins (suc l) (lone w) ≡ true → moreF (suc f) l env d (t, w ∷ ts) ≡ andThen (parseF f l env d ts) (λ r. moreF f l env d (joined (operator (lone w)) t r))
+pub more-joins : (f l : ℕ) (env : Env) (d : ℕ) (t : Tree) (w : List ℕ) (ts : List (List ℕ)) → isOperatorAt (suc l) (symbol w) ≡ true → moreF (suc f) l env d (t, w ∷ ts) ≡ andThen (parseF f l env d ts) (λ r. moreF f l env d (joined (operator (symbol w)) t r))
 unfolding parseF
 more-joins f l env d t w ts e = rw (e, moreF)
 
@@ -75,34 +75,34 @@ module _ {env : Env} {l d : ℕ} {ts : List (List ℕ)} where
       go zero h = absurd (omega arith)
       go (suc f) h = level-up f l env d ts ∙ ap (λ (x : Parse). andThen x (moreF f l env d)) (r .same f (omega arith))
 
-  pub stops : {t : Tree} {rest : List (List ℕ)} → joins (suc l) (lone (first rest)) ≡ false → Left env l d ts t rest → Reads env (suc l) d ts t rest
+  pub stops : {t : Tree} {rest : List (List ℕ)} → isOperatorAt (suc l) (symbol (first rest)) ≡ false → Left env l d ts t rest → Reads env (suc l) d ts t rest
   stops {t} {rest} e r = record { fewer = r .fewer; same = λ f h. let s = r .same f h in s .1 .1 ∙ more-ends (s .0) l env d t rest e }
 
-  module _ {t : Tree} {us : List (List ℕ)} (w : List ℕ) (e : joins (suc l) (lone w) ≡ true) (r : Left env l d ts t (w ∷ us)) where
-    pub turns : {u : Tree} {rest : List (List ℕ)} → Reads env l d us u rest → Left env l d ts (bin (operator (lone w)) t u) rest
+  module _ {t : Tree} {us : List (List ℕ)} (w : List ℕ) (e : isOperatorAt (suc l) (symbol w) ≡ true) (r : Left env l d ts t (w ∷ us)) where
+    pub turns : {u : Tree} {rest : List (List ℕ)} → Reads env l d us u rest → Left env l d ts (bin (operator (symbol w)) t u) rest
     turns {u} {rest} q = record { fewer = omega (arith, r .fewer, q .fewer); same = λ f h. go f (r .same f h) }
       where
         go : (f : ℕ) → (e : ℕ) × ((8 * length (w ∷ us) + 1 ≤ e) × (parseF f (suc l) env d ts ≡ moreF e l env d (t, w ∷ us)))
-            → (e : ℕ) × ((8 * length rest + 1 ≤ e) × (parseF f (suc l) env d ts ≡ moreF e l env d (bin (operator (lone w)) t u, rest)))
+            → (e : ℕ) × ((8 * length rest + 1 ≤ e) × (parseF f (suc l) env d ts ≡ moreF e l env d (bin (operator (symbol w)) t u, rest)))
         go f (zero, (h, p)) = absurd (omega arith)
-        go f (suc g, (h, p)) = (g, (omega (arith, q .fewer), p ∙ more-joins g l env d t w us e ∙ ap (λ (x : Parse). andThen x (λ r. moreF g l env d (joined (operator (lone w)) t r))) (q .same g (omega (arith, level-low l (lone w) e)))))
+        go f (suc g, (h, p)) = (g, (omega (arith, q .fewer), p ∙ more-joins g l env d t w us e ∙ ap (λ (x : Parse). andThen x (λ r. moreF g l env d (joined (operator (symbol w)) t r))) (q .same g (omega (arith, level-low l (symbol w) e)))))
 
     pub turns-refused : {n : Numbered} → Refuses env l d us n → Refuses env (suc l) d ts n
     turns-refused {n} q = record { same = λ f h. go f (r .same f h) }
       where
         go : (f : ℕ) → (e : ℕ) × ((8 * length (w ∷ us) + 1 ≤ e) × (parseF f (suc l) env d ts ≡ moreF e l env d (t, w ∷ us))) → parseF f (suc l) env d ts ≡ refused n
         go f (zero, (h, p)) = absurd (omega arith)
-        go f (suc g, (h, p)) = p ∙ more-joins g l env d t w us e ∙ ap (λ (x : Parse). andThen x (λ r. moreF g l env d (joined (operator (lone w)) t r))) (q .same g (omega (arith, level-low l (lone w) e)))
+        go f (suc g, (h, p)) = p ∙ more-joins g l env d t w us e ∙ ap (λ (x : Parse). andThen x (λ r. moreF g l env d (joined (operator (symbol w)) t r))) (q .same g (omega (arith, level-low l (symbol w) e)))
 
 -- a factor: one step of the definition
 module _ (f : ℕ) (env : Env) (w : List ℕ) (ts : List (List ℕ)) where
-  pub factor-opens : (d : ℕ) → lone w ≡ 40 → parseF (suc f) factor env d (w ∷ ts) ≡ nested d (λ e. parseF f expression env e ts)
+  pub factor-opens : (d : ℕ) → symbol w ≡ 40 → parseF (suc f) factor env d (w ∷ ts) ≡ nested d (λ e. parseF f expression env e ts)
   unfolding parseF
-  factor-opens d e = rw (eq-eqb (lone w) 40 e, parseF)
+  factor-opens d e = rw (eq-eqb (symbol w) 40 e, parseF)
 
-  pub factor-atom : (d : ℕ) → (lone w ≡ 40 → ⊥) → parseF (suc f) factor env d (w ∷ ts) ≡ andThen (atom env w) (λ t. is (t, ts))
+  pub factor-atom : (d : ℕ) → (symbol w ≡ 40 → ⊥) → parseF (suc f) factor env d (w ∷ ts) ≡ andThen (atom env w) (λ t. is (t, ts))
   unfolding parseF
-  factor-atom d e = rw (ne-eqb (lone w) 40 e, parseF)
+  factor-atom d e = rw (ne-eqb (symbol w) 40 e, parseF)
 
 pub ended : (env : Env) (d : ℕ) → Refuses env factor d [] (plain 14)
 unfolding parseF
@@ -113,7 +113,7 @@ ended env d = record { same = go }
     go (suc f) h = refl
 
 -- a parenthesis
-module _ (env : Env) (w : List ℕ) (us : List (List ℕ)) (o : lone w ≡ 40) where
+module _ (env : Env) (w : List ℕ) (us : List (List ℕ)) (o : symbol w ≡ 40) where
   pub too-deep : Refuses env factor zero (w ∷ us) (plain 18)
   too-deep = record { same = go }
     where
@@ -133,14 +133,14 @@ module _ (env : Env) (w : List ℕ) (us : List (List ℕ)) (o : lone w ≡ 40) w
     unclosed r = record { same = λ f h. inner f _ (r .same) h }
 
     module _ {t : Tree} (v : List ℕ) {rest : List (List ℕ)} (r : Reads env expression d us t (v ∷ rest)) where
-      pub closes : lone v ≡ 41 → Reads env factor (suc d) (w ∷ us) t rest
-      closes e = record { fewer = omega (arith, r .fewer); same = λ f h. inner f _ (r .same) h ∙ simp (eq-eqb (lone v) 41 e) }
+      pub closes : symbol v ≡ 41 → Reads env factor (suc d) (w ∷ us) t rest
+      closes e = record { fewer = omega (arith, r .fewer); same = λ f h. inner f _ (r .same) h ∙ simp (eq-eqb (symbol v) 41 e) }
 
-      pub not-closed : (lone v ≡ 41 → ⊥) → Refuses env factor (suc d) (w ∷ us) (plain 15)
-      not-closed e = record { same = λ f h. inner f _ (r .same) h ∙ simp (ne-eqb (lone v) 41 e) }
+      pub not-closed : (symbol v ≡ 41 → ⊥) → Refuses env factor (suc d) (w ∷ us) (plain 15)
+      not-closed e = record { same = λ f h. inner f _ (r .same) h ∙ simp (ne-eqb (symbol v) 41 e) }
 
 -- a factor of one token
-module _ (env : Env) (d : ℕ) (w : List ℕ) (us : List (List ℕ)) (o : lone w ≡ 40 → ⊥) where
+module _ (env : Env) (d : ℕ) (w : List ℕ) (us : List (List ℕ)) (o : symbol w ≡ 40 → ⊥) where
   one : (f : ℕ) → enough factor (w ∷ us) ≤ f → parseF f factor env d (w ∷ us) ≡ andThen (atom env w) (λ t. is (t, us))
   one zero h = absurd (omega arith)
   one (suc f) h = factor-atom f env w us d o

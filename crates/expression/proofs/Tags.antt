@@ -10,13 +10,13 @@ use lib.Dec.{eqb, ltb}
 use lib.ListN.{length, getD, take, drop, length-drop}
 use lib.Seq.{length-take-le, getD-take, getD-drop}
 use Rattle.base.specs.Equal.{equal}
-use Rattle.base.proofs.Tests.{never, and-left, and-right, by-bool, by-cond, or-left, or-right}
-use Rattle.expression.specs.Code.Table.{mix, tagOf, called, found, hasTag, isFree}
+use Rattle.base.proofs.Tests.{false-true, and-left, and-right, by-bool, by-cond, or-left, or-right}
+use Rattle.expression.specs.Code.Table.{mix, tagOf, hasName, found, hasTag, isFree}
 
 same-is : (v w : List ℕ) → equal v w ≡ true → v ≡ w
 same-is [] [] e = refl
-same-is [] (b ∷ w) e = never e
-same-is (a ∷ v) [] e = never e
+same-is [] (b ∷ w) e = false-true e
+same-is (a ∷ v) [] e = false-true e
 same-is (a ∷ v) (b ∷ w) e =
     let p = eqb-true a b (and-left (eqb a b) (equal v w) e) in
     let q = same-is v w (and-right (eqb a b) (equal v w) e) in
@@ -71,7 +71,7 @@ module _ (s names lens tags w : List ℕ) where
   passed from (suc n) e =
       let p : from + suc n ≡ suc (from + n) = omega arith in
       let t = or-right (hasTag tags from n (tagOf w)) (eqb (getD tags (from + n) 0) (tagOf w)) e in
-      let q : called s names lens tags (from + n) w ≡ false = simp t in
+      let q : hasName s names lens tags (from + n) w ≡ false = simp t in
       let f : found (suc (from + n)) s names lens tags w ≡ found (from + n) s names lens tags w = rw (q, found) in
       ap (λ (x : ℕ). found x s names lens tags w) p ∙ f ∙ passed from n (or-left (hasTag tags from n (tagOf w)) (eqb (getD tags (from + n) 0) (tagOf w)) e)
 
@@ -79,13 +79,13 @@ module _ (s names lens tags w : List ℕ) where
     pub free-room : 16 ≤ left
     free-room =
         by-cond (ltb left 16) false (not (hasTag tags (left - 16) 16 tag)) e
-        (λ p q. never q)
+        (λ p q. false-true q)
         (λ p q. ltb-false left 16 p)
 
     pub free-passed : found left s names lens tags w ≡ found (left - 16) s names lens tags w
     free-passed =
         by-cond (ltb left 16) false (not (hasTag tags (left - 16) 16 tag)) e
-        (λ p q. never q)
+        (λ p q. false-true q)
         (λ p q.
         let h = ltb-false left 16 p in
         let n : left ≡ (left - 16) + 16 = omega arith in

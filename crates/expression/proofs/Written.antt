@@ -10,7 +10,8 @@ use Rattle.kinds.specs.Kinds.{Operation}
 use Rattle.ops.specs.Written.{written, writtenAll}
 use Rattle.expression.specs.Tree.{Tree, num, bin, kOf}
 use Rattle.expression.specs.Code.Lengths.{lenOf}
-use Rattle.expression.specs.Written.{operatorOf, opsOf}
+use Rattle.expression.specs.Written.{treeOps}
+use Rattle.expression.specs.Code.Operator.{operatorOf}
 use Rattle.expression.specs.Code.Texts.{textOf}
 
 pub written-append : (a b : List Operation) → writtenAll (a ++ b) ≡ writtenAll a ++ writtenAll b
@@ -19,8 +20,8 @@ written-append (o ∷ a) b = ap (λ (t : List ℕ). written o ++ t) (written-app
 
 pub text-bin : (op : Binary) (l r : Tree) → textOf (bin op l r) ≡ textOf l ++ textOf r ++ written (operatorOf op)
 text-bin op l r =
-    written-append (opsOf l ++ opsOf r) (operatorOf op ∷ [])
-    ∙ ap (λ (t : List ℕ). t ++ writtenAll (operatorOf op ∷ [])) (written-append (opsOf l) (opsOf r))
+    written-append (treeOps l ++ treeOps r) (operatorOf op ∷ [])
+    ∙ ap (λ (t : List ℕ). t ++ writtenAll (operatorOf op ∷ [])) (written-append (treeOps l) (treeOps r))
     ∙ ap (λ (t : List ℕ). textOf l ++ textOf r ++ t) (append-nil (written (operatorOf op)))
 
 pub text-length : (t : Tree) → length (textOf t) ≡ lenOf t
@@ -34,11 +35,11 @@ text-length (bin op l r) =
     omega arith
 
 -- one operation less than twice k: k numbers, and an operator between each two
-pub ops-length : (t : Tree) → length (opsOf t) + 1 ≡ 2 * kOf t
+pub ops-length : (t : Tree) → length (treeOps t) + 1 ≡ 2 * kOf t
 ops-length (num n) = refl
 ops-length (bin op l r) =
     let a = ops-length l in
     let b = ops-length r in
-    let f = length-append (opsOf l ++ opsOf r) (operatorOf op ∷ []) in
-    let g = length-append (opsOf l) (opsOf r) in
+    let f = length-append (treeOps l ++ treeOps r) (operatorOf op ∷ []) in
+    let g = length-append (treeOps l) (treeOps r) in
     omega arith

@@ -1,3 +1,4 @@
+pub mod Operator
 pub mod Table
 pub mod Source
 pub mod Figures

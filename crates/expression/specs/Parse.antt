@@ -21,18 +21,18 @@ abbrev pub Parse : Type 0
 Parse = Outcome Numbered (Tree × List (List ℕ))
 
 -- the byte of a token of one byte, else 0
-abbrev pub lone : List ℕ → ℕ
-lone [] = 0
-lone (a ∷ []) = a
-lone (a ∷ b ∷ w) = 0
+abbrev pub symbol : List ℕ → ℕ
+symbol [] = 0
+symbol (a ∷ []) = a
+symbol (a ∷ b ∷ w) = 0
 
 -- whether a sign is an operator of a level, which joins what is one level below:
 -- `*` and `/` join factors to a term, `+` and `-` terms to an expression
-abbrev pub joins : ℕ → ℕ → Bool
-joins zero a = false
-joins (suc zero) a = eqb a 42 || eqb a 47
-joins (suc (suc zero)) a = eqb a 43 || eqb a 45
-joins (suc (suc (suc l))) a = false
+abbrev pub isOperatorAt : ℕ → ℕ → Bool
+isOperatorAt zero a = false
+isOperatorAt (suc zero) a = eqb a 42 || eqb a 47
+isOperatorAt (suc (suc zero)) a = eqb a 43 || eqb a 45
+isOperatorAt (suc (suc (suc l))) a = false
 
 abbrev pub operator : ℕ → Binary
 operator a = cond (eqb a 43) add (cond (eqb a 45) sub (cond (eqb a 42) mul div))
@@ -43,7 +43,7 @@ joined op l (r, ts) = (bin op l r, ts)
 -- what is read behind `(`, with the `)` that is due
 abbrev pub closed : Tree × List (List ℕ) → Parse
 closed (t, []) = refused (plain 14)
-closed (t, w ∷ ts) = cond (eqb (lone w) 41) (is (t, ts)) (refused (plain 15))
+closed (t, w ∷ ts) = cond (eqb (symbol w) 41) (is (t, ts)) (refused (plain 15))
 
 -- `(` where d more parentheses may be open
 abbrev pub nested : ℕ → (ℕ → Parse) → Parse
@@ -61,19 +61,19 @@ literal w = cond (ltb (value w) (2 ^ 64)) (is (num (value w))) (refused (plain 1
 abbrev pub atom : Env → List ℕ → Outcome Numbered Tree
 atom env w = cond (all digit w) (literal w) (named (lookup w env))
 
--- Fuel, level, environment, how many parentheses more may be open, tokens. A fuel of 8 for each token and one more than the level is enough.
+-- Fuel, level, environment, how many more parentheses may be open, tokens. A fuel of 8 for each token and one more than the level is enough.
 unfoldable mutual
   pub parseF : ℕ → ℕ → Env → ℕ → List (List ℕ) → Parse
   parseF zero l env d ts = refused (plain 14)
   parseF (suc f) zero env d [] = refused (plain 14)
-  parseF (suc f) zero env d (w ∷ ts) = elim (eqb (lone w) 40) [ true ↦ nested d (λ e. parseF f expression env e ts) | false ↦ andThen (atom env w) (λ t. is (t, ts)) ]
+  parseF (suc f) zero env d (w ∷ ts) = elim (eqb (symbol w) 40) [ true ↦ nested d (λ e. parseF f expression env e ts) | false ↦ andThen (atom env w) (λ t. is (t, ts)) ]
   parseF (suc f) (suc l) env d ts = andThen (parseF f l env d ts) (λ r. moreF f l env d r)
 
   -- what level l + 1 joins to a tree of it that is read
   pub moreF : ℕ → ℕ → Env → ℕ → Tree × List (List ℕ) → Parse
   moreF zero l env d r = is r
   moreF (suc f) l env d (t, []) = is (t, [])
-  moreF (suc f) l env d (t, w ∷ ts) = elim (joins (suc l) (lone w)) [ true ↦ andThen (parseF f l env d ts) (λ r. moreF f l env d (joined (operator (lone w)) t r)) | false ↦ is (t, w ∷ ts) ]
+  moreF (suc f) l env d (t, w ∷ ts) = elim (isOperatorAt (suc l) (symbol w)) [ true ↦ andThen (parseF f l env d ts) (λ r. moreF f l env d (joined (operator (symbol w)) t r)) | false ↦ is (t, w ∷ ts) ]
 
 abbrev pub enough : ℕ → List (List ℕ) → ℕ
 enough l ts = 8 * length ts + suc l
@@ -82,10 +82,10 @@ enough l ts = 8 * length ts + suc l
 abbrev pub parsed : Env → List (List ℕ) → Parse
 parsed env ts = parseF (enough expression ts) expression env depth ts
 
-abbrev pub whole : Tree × List (List ℕ) → Outcome Numbered Tree
-whole (t, []) = is t
-whole (t, w ∷ ts) = refused (plain 19)
+abbrev pub allRead : Tree × List (List ℕ) → Outcome Numbered Tree
+allRead (t, []) = is t
+allRead (t, w ∷ ts) = refused (plain 19)
 
 -- what a text means as a whole expression: its tree, or the refusal
 unfoldable pub meaning : Env → List ℕ → Outcome Numbered Tree
-meaning env s = elim (allowed s) [ true ↦ andThen (parsed env (tokens s)) whole | false ↦ refused (plain 13) ]
+meaning env s = elim (allowed s) [ true ↦ andThen (parsed env (tokens s)) allRead | false ↦ refused (plain 13) ]

@@ -2,7 +2,7 @@
 use Prim.Native.Nat.{ℕ}
 use mathlib.Core.List.{List, [], _∷_, _++_}
 use Rattle.word.specs.Apply.{Binary, add, sub, mul, div, eq, lt}
-use Rattle.kinds.specs.Kinds.{Operation}
+use Rattle.kinds.specs.Kinds.{Operation, operation}
 use Rattle.expression.specs.Tree.{Tree, num, bin}
 
 -- the number of an operator's kind; Push is 0
@@ -14,9 +14,6 @@ kindNumber div = 4
 kindNumber eq = 9
 kindNumber lt = 10
 
-abbrev pub operatorOf : Binary → Operation
-operatorOf op = record { kind = kindNumber op; operand = 0 }
-
-abbrev pub opsOf : Tree → List Operation
-opsOf (num n) = record { kind = 0; operand = n } ∷ []
-opsOf (bin op l r) = opsOf l ++ opsOf r ++ operatorOf op ∷ []
+abbrev pub treeOps : Tree → List Operation
+treeOps (num n) = operation 0 n ∷ []
+treeOps (bin op l r) = treeOps l ++ treeOps r ++ operation (kindNumber op) 0 ∷ []

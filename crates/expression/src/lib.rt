@@ -6,7 +6,7 @@ ghost use Rattle.expression.specs.Parse.{factor, term, expression};
 ghost use Rattle.expression.specs.Answer.{exprErrorNumbered};
 ghost use Rattle.expression.specs.Code.Answers.{Answers};
 ghost use Rattle.expression.specs.Code.Table.{columnsOf, columns};
-ghost use Rattle.expression.specs.Code.Cycle.{Ready, Meets};
+ghost use Rattle.expression.specs.Code.Cycle.{CanParse, ParsesAs};
 
 pub mod figures;
 mod joining;
@@ -15,7 +15,7 @@ mod operands;
 pub mod parts;
 
 use base::min;
-use figures::Read;
+use figures::Figures;
 use joining::join;
 use numbered::Numbered;
 use numbered::plain;
@@ -25,8 +25,8 @@ use operands::name;
 use operands::whole;
 use parts::is_product;
 use parts::is_sum;
-use parts::lone_byte;
 use parts::sign_at;
+use parts::symbol_byte;
 use token::is_all_tokens;
 use token::is_digit;
 use token::token_at;
@@ -75,24 +75,24 @@ impl ExprError {
     }
 }
 
-pub enum Parsed {
-    Done(Read),
+pub enum ParseResult {
+    Done(Figures),
     Refused(ExprError),
 }
 
 // So many parentheses may be open at once.
 pub const DEPTH: usize = 64;
 
-// What the expression from a place of the text on means, and that it is read up to the end of the text's last token. Its names are those
+// What the expression starting at an offset of the text means, and that it is read up to the end of the text's last token. Its names are those
 // of the first bindings, of a count above 256 the first 256. What is free: the answer where they tell no environment (a name that isn't inside
 // the text, figures of no tree). The assembler calls it with a part of a contract that has at most 65,536 bytes (1), and its table tells the
 // environment that it has read.
-pub fn parse(text: &[u8], at: usize, table: Bindings, values: Values) -> Parsed
+pub fn parse(text: &[u8], at: usize, table: Bindings, values: Values) -> ParseResult
     requires { ⌜ length (now text) ≤ 65536 ⌝ }
     ensures { λ r. ⌜ Answers (now (text .entry)) at (columns table values) r ⌝ }
 {
     if !is_all_tokens(text, at) {
-        return Parsed::Refused(ExprError::InvalidCharacter);
+        return ParseResult::Refused(ExprError::InvalidCharacter);
     }
     let count = min(table.count, 256);
     match expression(
@@ -109,12 +109,12 @@ pub fn parse(text: &[u8], at: usize, table: Bindings, values: Values) -> Parsed
         &values.none,
         &values.len,
     ) {
-        Parsed::Refused(e) => Parsed::Refused(e),
-        Parsed::Done(read) => whole(text, read),
+        ParseResult::Refused(e) => ParseResult::Refused(e),
+        ParseResult::Done(read) => whole(text, read),
     }
 }
 
-// Terms joined by + and -. Room is how many parentheses more may be open.
+// Terms joined by + and -. Room is how many more parentheses may be open.
 fn expression<'a>(
     text: &'a [u8],
     at: usize,
@@ -128,9 +128,9 @@ fn expression<'a>(
     values: &'a [u64; 256],
     nones: &'a [bool; 256],
     sizes: &'a [u32; 256],
-) -> Parsed
-    requires { ⌜ Ready (now text) count ⌝ }
-    ensures { λ r. ⌜ Meets (now (text .entry)) at (columnsOf count (now (names .entry)) (now (lens .entry)) (now (tags .entry)) (now (ks .entry)) (now (ps .entry)) (now (values .entry)) (now (nones .entry)) (now (sizes .entry))) expression room r ⌝ }
+) -> ParseResult
+    requires { ⌜ CanParse (now text) count ⌝ }
+    ensures { λ r. ⌜ ParsesAs (now (text .entry)) at (columnsOf count (now (names .entry)) (now (lens .entry)) (now (tags .entry)) (now (ks .entry)) (now (ps .entry)) (now (values .entry)) (now (nones .entry)) (now (sizes .entry))) expression room r ⌝ }
 {
     match term(
         text,
@@ -146,8 +146,8 @@ fn expression<'a>(
         nones,
         sizes,
     ) {
-        Parsed::Refused(e) => Parsed::Refused(e),
-        Parsed::Done(first) => {
+        ParseResult::Refused(e) => ParseResult::Refused(e),
+        ParseResult::Done(first) => {
             let mut left = first;
             let mut sign = sign_at(text, left.next);
             while is_sum(sign.byte) {
@@ -165,16 +165,16 @@ fn expression<'a>(
                     nones,
                     sizes,
                 ) {
-                    Parsed::Refused(e) => {
-                        return Parsed::Refused(e);
+                    ParseResult::Refused(e) => {
+                        return ParseResult::Refused(e);
                     }
-                    Parsed::Done(right) => {
+                    ParseResult::Done(right) => {
                         left = join(sign.byte, left, right);
                         sign = sign_at(text, left.next);
                     }
                 }
             }
-            Parsed::Done(left)
+            ParseResult::Done(left)
         }
     }
 }
@@ -193,9 +193,9 @@ fn term<'a>(
     values: &'a [u64; 256],
     nones: &'a [bool; 256],
     sizes: &'a [u32; 256],
-) -> Parsed
-    requires { ⌜ Ready (now text) count ⌝ }
-    ensures { λ r. ⌜ Meets (now (text .entry)) at (columnsOf count (now (names .entry)) (now (lens .entry)) (now (tags .entry)) (now (ks .entry)) (now (ps .entry)) (now (values .entry)) (now (nones .entry)) (now (sizes .entry))) term room r ⌝ }
+) -> ParseResult
+    requires { ⌜ CanParse (now text) count ⌝ }
+    ensures { λ r. ⌜ ParsesAs (now (text .entry)) at (columnsOf count (now (names .entry)) (now (lens .entry)) (now (tags .entry)) (now (ks .entry)) (now (ps .entry)) (now (values .entry)) (now (nones .entry)) (now (sizes .entry))) term room r ⌝ }
 {
     match factor(
         text,
@@ -211,8 +211,8 @@ fn term<'a>(
         nones,
         sizes,
     ) {
-        Parsed::Refused(e) => Parsed::Refused(e),
-        Parsed::Done(first) => {
+        ParseResult::Refused(e) => ParseResult::Refused(e),
+        ParseResult::Done(first) => {
             let mut left = first;
             let mut sign = sign_at(text, left.next);
             while is_product(sign.byte) {
@@ -230,16 +230,16 @@ fn term<'a>(
                     nones,
                     sizes,
                 ) {
-                    Parsed::Refused(e) => {
-                        return Parsed::Refused(e);
+                    ParseResult::Refused(e) => {
+                        return ParseResult::Refused(e);
                     }
-                    Parsed::Done(right) => {
+                    ParseResult::Done(right) => {
                         left = join(sign.byte, left, right);
                         sign = sign_at(text, left.next);
                     }
                 }
             }
-            Parsed::Done(left)
+            ParseResult::Done(left)
         }
     }
 }
@@ -258,19 +258,19 @@ fn factor<'a>(
     values: &'a [u64; 256],
     nones: &'a [bool; 256],
     sizes: &'a [u32; 256],
-) -> Parsed
-    requires { ⌜ Ready (now text) count ⌝ }
-    ensures { λ r. ⌜ Meets (now (text .entry)) at (columnsOf count (now (names .entry)) (now (lens .entry)) (now (tags .entry)) (now (ks .entry)) (now (ps .entry)) (now (values .entry)) (now (nones .entry)) (now (sizes .entry))) factor room r ⌝ }
+) -> ParseResult
+    requires { ⌜ CanParse (now text) count ⌝ }
+    ensures { λ r. ⌜ ParsesAs (now (text .entry)) at (columnsOf count (now (names .entry)) (now (lens .entry)) (now (tags .entry)) (now (ks .entry)) (now (ps .entry)) (now (values .entry)) (now (nones .entry)) (now (sizes .entry))) factor room r ⌝ }
 {
     let token = token_at(text, at);
     let start = token.start;
     let end = token.end;
     if start == end {
-        return Parsed::Refused(ExprError::UnexpectedEnd);
+        return ParseResult::Refused(ExprError::UnexpectedEnd);
     }
-    if lone_byte(text, start, end) == b'(' {
+    if symbol_byte(text, start, end) == b'(' {
         if room == 0 {
-            return Parsed::Refused(ExprError::TooDeep);
+            return ParseResult::Refused(ExprError::TooDeep);
         }
         return match expression(
             text,
@@ -286,8 +286,8 @@ fn factor<'a>(
             nones,
             sizes,
         ) {
-            Parsed::Refused(e) => Parsed::Refused(e),
-            Parsed::Done(inner) => close(text, inner),
+            ParseResult::Refused(e) => ParseResult::Refused(e),
+            ParseResult::Done(inner) => close(text, inner),
         };
     }
     if is_digit(text[start]) {

@@ -5,11 +5,11 @@ ghost use Prim.Native.Nat.{_+_, _≤_, _<_};
 ghost use lib.Dec.{leb};
 ghost use lib.ListN.{length, take, drop};
 ghost use Rattle.base.specs.Equal.{equal};
-ghost use Rattle.expression.specs.Code.Table.{tagOf, mix, called, found, hasTag, isFree};
+ghost use Rattle.expression.specs.Code.Table.{tagOf, mix, hasName, found, hasTag, isFree};
 use base::either;
 use base::wide;
 
-pub enum Found {
+pub enum BoundName {
     At(usize),
     Nothing,
 }
@@ -24,7 +24,7 @@ pub fn lookup<'a>(
     names: &'a [u16; 256],
     lens: &'a [u16; 256],
     tags: &'a [u8; 256],
-) -> Found
+) -> BoundName
     requires { ⌜ (count ≤ 256) × (start + len ≤ length (now text)) ⌝ }
     ensures { λ r. ⌜ r ≡ found count (now (text .entry)) (now (names .entry)) (now (lens .entry)) (now (tags .entry)) (take len (drop start (now (text .entry)))) ⌝ }
 {
@@ -36,11 +36,11 @@ pub fn lookup<'a>(
         } else {
             left -= 1;
             if is_called(text, start, len, tag, left, names, lens, tags) {
-                return Found::At(left);
+                return BoundName::At(left);
             }
         }
     }
-    Found::Nothing
+    BoundName::Nothing
 }
 
 // A byte that most names differ in: a mix of the first byte and the last two. Its callers have the name from a token of the text.
@@ -101,7 +101,7 @@ fn is_called<'a>(
     tags: &'a [u8; 256],
 ) -> bool
     requires { ⌜ (i < 256) × ((start + len ≤ length (now text)) × (tag ≡ tagOf (take len (drop start (now text))))) ⌝ }
-    ensures { λ r. ⌜ r ≡ called (now (text .entry)) (now (names .entry)) (now (lens .entry)) (now (tags .entry)) i (take len (drop start (now (text .entry)))) ⌝ }
+    ensures { λ r. ⌜ r ≡ hasName (now (text .entry)) (now (names .entry)) (now (lens .entry)) (now (tags .entry)) i (take len (drop start (now (text .entry)))) ⌝ }
 {
     if tags[i] != tag {
         return false;

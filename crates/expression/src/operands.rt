@@ -10,31 +10,31 @@ ghost use Rattle.token.specs.Code.Places.{tokenAt};
 ghost use Rattle.expression.specs.Code.Table.{columnsOf, entryAt, found};
 ghost use Rattle.expression.specs.Code.Parts.{literalRead, boundValue, boundRead, nameRead, closedRead, wholeRead, Fits, AllFit};
 use crate::ExprError;
-use crate::Parsed;
-use crate::figures::Read;
-use crate::figures::Value;
-use crate::names::Found;
+use crate::ParseResult;
+use crate::figures::Figures;
+use crate::figures::TreeValue;
+use crate::names::BoundName;
 use crate::names::lookup;
-use crate::parts::lone_byte;
+use crate::parts::symbol_byte;
 use decimal::decimal_len;
 use decimal::digits_at;
 use token::token_at;
 
-// The literal whose first digit stands at a place that its caller has read.
-pub fn literal(text: &[u8], start: usize) -> Parsed
+// The literal whose first digit stands at an offset that its caller has read.
+pub fn literal(text: &[u8], start: usize) -> ParseResult
     requires { ⌜ start < length (now text) ⌝ }
     ensures { λ r. ⌜ r ≡ literalRead (takeWhile digit (drop start (now (text .entry)))) start ⌝ }
 {
     let run = digits_at(text, start);
     let value = run.value;
     match value {
-        decimal::Value::TooLarge => Parsed::Refused(ExprError::InvalidLiteral),
-        decimal::Value::Is(n) => Parsed::Done(Read {
+        decimal::Value::TooLarge => ParseResult::Refused(ExprError::InvalidLiteral),
+        decimal::Value::Is(n) => ParseResult::Done(Figures {
             next: start + run.len,
             k: 1,
             p: 1,
             len: 6 + decimal_len(n) as u64,
-            value: Value::Is(n),
+            value: TreeValue::Is(n),
         }),
     }
 }
@@ -53,18 +53,18 @@ pub fn name<'a>(
     values: &'a [u64; 256],
     nones: &'a [bool; 256],
     sizes: &'a [u32; 256],
-) -> Parsed
+) -> ParseResult
     requires { ⌜ (count ≤ 256) × ((start < end) × (end ≤ length (now text))) ⌝ }
     ensures fits { λ r. ⌜ AllFit r ⌝ }
     ensures same { λ r. ⌜ r ≡ nameRead (columnsOf count (now (names .entry)) (now (lens .entry)) (now (tags .entry)) (now (ks .entry)) (now (ps .entry)) (now (values .entry)) (now (nones .entry)) (now (sizes .entry))) end (found count (now (text .entry)) (now (names .entry)) (now (lens .entry)) (now (tags .entry)) (take (end - start) (drop start (now (text .entry))))) ⌝ }
 {
     match lookup(text, start, end - start, count, names, lens, tags) {
-        Found::Nothing => Parsed::Refused(ExprError::UnknownIdentifier),
-        Found::At(i) => Parsed::Done(bound(i, end, ks, ps, values, nones, sizes)),
+        BoundName::Nothing => ParseResult::Refused(ExprError::UnknownIdentifier),
+        BoundName::At(i) => ParseResult::Done(bound(i, end, ks, ps, values, nones, sizes)),
     }
 }
 
-// A name of binding i that ends at a place.
+// A name of binding i that ends at an offset.
 fn bound<'a>(
     i: usize,
     end: usize,
@@ -73,12 +73,12 @@ fn bound<'a>(
     values: &'a [u64; 256],
     nones: &'a [bool; 256],
     sizes: &'a [u32; 256],
-) -> Read
+) -> Figures
     requires { ⌜ i < 256 ⌝ }
     ensures fits { λ r. ⌜ Fits r ⌝ }
     ensures same { λ r. ⌜ r ≡ boundRead (entryAt (columnsOf 256 [] [] [] (now (ks .entry)) (now (ps .entry)) (now (values .entry)) (now (nones .entry)) (now (sizes .entry))) i) end ⌝ }
 {
-    Read {
+    Figures {
         next: end,
         k: wide(ks[i]),
         p: wide(ps[i]),
@@ -87,10 +87,14 @@ fn bound<'a>(
     }
 }
 
-fn bound_value(none: bool, value: u64) -> Value
+fn bound_value(none: bool, value: u64) -> TreeValue
     ensures { λ r. ⌜ r ≡ boundValue none value ⌝ }
 {
-    if none { Value::None } else { Value::Is(value) }
+    if none {
+        TreeValue::None
+    } else {
+        TreeValue::Is(value)
+    }
 }
 
 fn wide(x: u16) -> u64
@@ -106,18 +110,18 @@ fn wide_len(x: u32) -> u64
 }
 
 // The ) that is due behind an expression in parentheses.
-pub fn close(text: &[u8], inner: Read) -> Parsed
+pub fn close(text: &[u8], inner: Figures) -> ParseResult
     ensures { λ r. ⌜ r ≡ closedRead (tokens (drop (inner .next) (now (text .entry)))) (tokenAt (now (text .entry)) (inner .next) .end) inner ⌝ }
 {
     let token = token_at(text, inner.next);
     let start = token.start;
     let end = token.end;
     if start == end {
-        return Parsed::Refused(ExprError::UnexpectedEnd);
+        return ParseResult::Refused(ExprError::UnexpectedEnd);
     }
-    if lone_byte(text, start, end) == b')' {
+    if symbol_byte(text, start, end) == b')' {
         let value = inner.value;
-        return Parsed::Done(Read {
+        return ParseResult::Done(Figures {
             next: end,
             k: inner.k,
             p: inner.p,
@@ -125,18 +129,18 @@ pub fn close(text: &[u8], inner: Read) -> Parsed
             value,
         });
     }
-    Parsed::Refused(ExprError::UnbalancedParenthesis)
+    ParseResult::Refused(ExprError::UnbalancedParenthesis)
 }
 
 // No token may be left over.
-pub fn whole(text: &[u8], read: Read) -> Parsed
+pub fn whole(text: &[u8], read: Figures) -> ParseResult
     ensures { λ r. ⌜ r ≡ wholeRead (tokens (drop (read .next) (now (text .entry)))) read ⌝ }
 {
     let token = token_at(text, read.next);
     let start = token.start;
     let end = token.end;
     if start == end {
-        return Parsed::Done(read);
+        return ParseResult::Done(read);
     }
-    Parsed::Refused(ExprError::UnconsumedTokens)
+    ParseResult::Refused(ExprError::UnconsumedTokens)
 }

@@ -2,7 +2,7 @@
 ghost use mathlib.Core.Path.{_≡_};
 ghost use Prim.Native.Nat.{_-_, _≤_, _<_};
 ghost use lib.ListN.{length, take, drop};
-ghost use Rattle.expression.specs.Parse.{lone, term, expression, joins};
+ghost use Rattle.expression.specs.Parse.{symbol, term, expression, isOperatorAt};
 ghost use Rattle.expression.specs.Code.Parts.{signAt};
 use base::either;
 use token::token_at;
@@ -23,27 +23,27 @@ pub fn sign_at(text: &[u8], at: usize) -> Sign
         return Sign { byte: 0, end };
     }
     Sign {
-        byte: lone_byte(text, start, end),
+        byte: symbol_byte(text, start, end),
         end,
     }
 }
 
-// The byte of a token of one byte, else 0. Its callers have the places from a token that is there.
-pub fn lone_byte(text: &[u8], start: usize, end: usize) -> u8
+// The byte of a token of one byte, else 0. Its callers have the offsets from a token that is there.
+pub fn symbol_byte(text: &[u8], start: usize, end: usize) -> u8
     requires { ⌜ (start < end) × (end ≤ length (now text)) ⌝ }
-    ensures { λ r. ⌜ r ≡ lone (take (end - start) (drop start (now (text .entry)))) ⌝ }
+    ensures { λ r. ⌜ r ≡ symbol (take (end - start) (drop start (now (text .entry)))) ⌝ }
 {
     if end - start == 1 { text[start] } else { 0 }
 }
 
 pub fn is_sum(sign: u8) -> bool
-    ensures { λ r. ⌜ r ≡ joins expression sign ⌝ }
+    ensures { λ r. ⌜ r ≡ isOperatorAt expression sign ⌝ }
 {
     either(sign == b'+', sign == b'-')
 }
 
 pub fn is_product(sign: u8) -> bool
-    ensures { λ r. ⌜ r ≡ joins term sign ⌝ }
+    ensures { λ r. ⌜ r ≡ isOperatorAt term sign ⌝ }
 {
     either(sign == b'*', sign == b'/')
 }

@@ -47,15 +47,15 @@ kinds =
 abbrev pub kindOf : ℕ → Kind
 kindOf k = getD kinds k (kind "" none 0)
 
-abbrev pub code : Operand → ℕ
-code none = 0
-code value = 1
-code slot = 2
-code target = 3
+abbrev pub sortNumber : Operand → ℕ
+sortNumber none = 0
+sortNumber value = 1
+sortNumber slot = 2
+sortNumber target = 3
 
 -- whether the operand of a kind is of a sort
 abbrev pub takes : Operand → ℕ → Bool
-takes o k = eqb (code (kindOf k .operand)) (code o)
+takes o k = eqb (sortNumber (kindOf k .operand)) (sortNumber o)
 
 -- an operation: the number of its kind, and its operand
 pub record Operation : Type 0 where

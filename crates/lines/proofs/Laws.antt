@@ -5,7 +5,7 @@ use mathlib.Core.List.{List, [], _∷_}
 use mathlib.Core.Bool.{Bool, true, false, cond, _&&_, and-false}
 use borrow.Author.Tests.{ne-eqb, eqb-true}
 use lib.Dec.{eqb}
-use Rattle.base.proofs.Tests.{by-eqb, by-bool, never}
+use Rattle.base.proofs.Tests.{by-eqb, by-bool, false-true}
 use Rattle.lines.specs.Lines.{front, feedNext, lines}
 
 -- a text by its first element
@@ -23,7 +23,7 @@ pub lines-other : (a : ℕ) (s : List ℕ) → (a ≡ 10 → ⊥) → (eqb a 13 
 lines-other a s h e = rw (lines-cons a s, ne-eqb a 10 h, e)
 
 feed-is : (s : List ℕ) → feedNext s ≡ true → (t : List ℕ) × (s ≡ 10 ∷ t)
-feed-is [] e = never e
+feed-is [] e = false-true e
 feed-is (a ∷ s) e = (s, ap (λ (b : ℕ). b ∷ s) (eqb-true a 10 e))
 
 pub no-return : (a : ℕ) (s : List ℕ) → (a ≡ 13 → ⊥) → (eqb a 13 && feedNext s) ≡ false

@@ -5,7 +5,7 @@ use mathlib.Core.List.{List, [], _∷_, _++_}
 use mathlib.Core.Bool.{true}
 use borrow.Author.Tests.{ne-eqb}
 use Rattle.base.specs.Lists.{isNot}
-use Rattle.base.proofs.Tests.{by-eqb, never}
+use Rattle.base.proofs.Tests.{by-eqb, false-true}
 use Rattle.base.proofs.Lists.{all-behind}
 use Rattle.lines.specs.Lines.{front, lines, feedFree}
 use Rattle.lines.specs.Code.Returns.{lessReturn}
@@ -16,7 +16,7 @@ free-cons a x h = simp (ne-eqb a 10 h)
 
 -- what a text without a line feed starts with
 free-first : (a : ℕ) (x : List ℕ) → feedFree (a ∷ x) ≡ true → (a ≡ 10 → ⊥) × (feedFree x ≡ true)
-free-first a x e = by-eqb a 10 (λ h. never (sym (rw h refl) ∙ e)) (λ h. (h, sym (free-cons a x h) ∙ e))
+free-first a x e = by-eqb a 10 (λ h. false-true (sym (rw h refl) ∙ e)) (λ h. (h, sym (free-cons a x h) ∙ e))
 
 pub free-append : (x y : List ℕ) → feedFree x ≡ true → feedFree (x ++ y) ≡ feedFree y
 free-append x y e = all-behind (isNot 10) x y e

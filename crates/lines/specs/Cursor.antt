@@ -1,4 +1,4 @@
--- Where the line that starts at a place ends, and where the next one starts.
+-- Where the line that starts at an offset ends, and where the next one starts.
 use Prim.Native.Nat.{ℕ, suc, _+_}
 use mathlib.Core.List.{List, [], _∷_}
 use mathlib.Core.Bool.{true, false}
@@ -21,6 +21,6 @@ firstLine s = getD (lines s) 0 []
 abbrev pub lineFrom : List ℕ → ℕ → Line
 lineFrom s at = record { start = at; end = at + length (firstLine (drop at s)); next = at + span (drop at s) }
 
--- the line that starts at a place; at the end of the text and past it there is none
+-- the line that starts at an offset; at the end of the text and past it there is none
 abbrev pub lineAt : List ℕ → ℕ → Step
 lineAt s at = elim (ltb at (length s)) [ true ↦ Next (lineFrom s at) | false ↦ Done ]

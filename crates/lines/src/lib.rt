@@ -1,4 +1,4 @@
-// The lines of a text, one after the other, by their places.
+// The lines of a text, one after the other, by their offsets.
 use search::Found;
 ghost use mathlib.Core.Path.{_≡_};
 ghost use Prim.Native.Nat.{_+_, _<_, _≤_};
@@ -18,7 +18,7 @@ pub enum Step {
     Done,
 }
 
-// The line that starts at a place. The first one starts at 0, each other where the one before says.
+// The line that starts at an offset. The first one starts at 0, each other where the one before says.
 pub fn line_at(s: &[u8], at: usize) -> Step
     ensures { λ r. ⌜ r ≡ lineAt (now (s .entry)) at ⌝ }
 {
@@ -41,7 +41,7 @@ pub fn line_at(s: &[u8], at: usize) -> Step
     })
 }
 
-// The place of the first line feed at or after a place, or the text's end where there is none.
+// The offset of the first line feed at or after an offset, or the text's end where there is none.
 pub fn line_feed(s: &[u8], at: usize) -> usize
     ensures { λ r. ⌜ r ≡ feedFrom (now (s .entry)) at ⌝ }
 {

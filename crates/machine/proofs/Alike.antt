@@ -11,7 +11,7 @@ use lib.Dec.{ltb, eqb}
 use Rattle.word.specs.Apply.{Binary, add, sub, mul, div, eq, lt, apply}
 use Rattle.kinds.specs.Kinds.{Operation, operation}
 use Rattle.kinds.proofs.ByKind.{Span, end, _&_, span}
-use Rattle.machine.specs.Machine.{stackLimitExceeded, outsideStorage, Frame, Effect, moves, jumps, ends, fails, Act, over, costs, next, done, stop, storeAt, pushOf, valueOf, twoOf, dupOf, swapOf, jumpIfOf, storeOf, effectOf, priceOf, halt, settle, pay, actOf, machine, follow, runOf, start, whole, Progress}
+use Rattle.machine.specs.Machine.{stackLimitExceeded, outsideStorage, Frame, Effect, moves, jumps, ends, fails, Act, over, costs, next, done, stop, storeAt, pushOf, resultOf, binopOf, dupOf, swapOf, jumpIfOf, storeOf, effectOf, priceOf, halt, settle, pay, actOf, machine, follow, runOf, start, runToEnd, Progress}
 use Rattle.machine.specs.Code.Alike.{holding, AlikeBut}
 use Rattle.machine.proofs.Program.{effect-high}
 use Rattle.machine.proofs.Runs.{unpaid, afforded}
@@ -37,11 +37,11 @@ module _ (R : List ℕ → List ℕ → Type 0) where
     same-push : (v : ℕ) (s : List ℕ) → SameEffect (pushOf v s m) (pushOf v s m′)
     same-push v s = same-cond (ltb (length s) 4096) (moves (v ∷ s) m) (fails stackLimitExceeded) (moves (v ∷ s) m′) (fails stackLimitExceeded) (m′, refl, r) refl
 
-    same-value : (o : Option ℕ) (s : List ℕ) → SameEffect (valueOf o s m) (valueOf o s m′)
+    same-value : (o : Option ℕ) (s : List ℕ) → SameEffect (resultOf o s m) (resultOf o s m′)
     same-value none s = refl
     same-value (some v) s = (m′, refl, r)
 
-    same-two : (o : Binary) (s : List ℕ) → SameEffect (twoOf o s m) (twoOf o s m′)
+    same-two : (o : Binary) (s : List ℕ) → SameEffect (binopOf o s m) (binopOf o s m′)
     same-two o [] = refl
     same-two o (b ∷ []) = refl
     same-two o (b ∷ a ∷ s) = same-value (apply o a b) s
@@ -143,6 +143,6 @@ module _ (R : List ℕ → List ℕ → Type 0) where
         go (done h f) o′ w ih = rw (w .1) (w .0, refl, w .2)
         go (stop e) o′ w ih = rw w
 
-    pub same-whole : (g : ℕ) (m m′ : List ℕ) → R m m′ → AlikeBut R (whole program c room g m) (whole program c room g m′)
-    unfolding whole
+    pub same-whole : (g : ℕ) (m m′ : List ℕ) → R m m′ → AlikeBut R (runToEnd program c room g m) (runToEnd program c room g m′)
+    unfolding runToEnd
     same-whole g m m′ r = same-run (g + 1) g (start m) m′ r

@@ -3,6 +3,6 @@ pub mod Storage
 pub mod Program
 pub mod Effects
 pub mod Runs
-pub mod Stops
+pub mod Faults
 pub mod Alike
 pub mod Slots

@@ -7,8 +7,11 @@ use mathlib.Core.List.{List, [], _∷_}
 use lib.ListN.{length, getD, List·getD-eq-default}
 use Rattle.word.specs.Apply.{lt}
 use Rattle.kinds.specs.Kinds.{operation}
-use Rattle.machine.specs.Machine.{effects, effectOf, haltOf, halt, decode}
-use Rattle.machine.specs.Code.Registers.{binaryOf}
+use Rattle.machine.specs.Machine.{effects, Effect, ends, effectOf, halt, decode}
+use Rattle.machine.specs.Code.Registers.{binopOfKind}
+
+abbrev pub haltOf : List ℕ → List ℕ → Effect
+haltOf s m = ends
 
 -- a kind above 14 has the effect of Halt
 pub effect-high : (c room k v : ℕ) → 15 ≤ k → effectOf c room (operation k v) ≡ haltOf
@@ -19,7 +22,7 @@ effect-high c room k v h = go (ℕ-discrete 15 k)
     go (no ne) = List·getD-eq-default (effects c room v) haltOf {n = k} (omega arith)
 
 -- a kind that is none of the five is taken for Lt
-pub other-lt : (k : ℕ) → (k ≡ 1 → ⊥) → (k ≡ 2 → ⊥) → (k ≡ 3 → ⊥) → (k ≡ 4 → ⊥) → (k ≡ 9 → ⊥) → binaryOf k ≡ lt
+pub other-lt : (k : ℕ) → (k ≡ 1 → ⊥) → (k ≡ 2 → ⊥) → (k ≡ 3 → ⊥) → (k ≡ 4 → ⊥) → (k ≡ 9 → ⊥) → binopOfKind k ≡ lt
 other-lt zero a b c d e = refl
 other-lt (suc zero) a b c d e = absurd (a refl)
 other-lt (suc (suc zero)) a b c d e = absurd (b refl)

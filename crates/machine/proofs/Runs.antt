@@ -11,7 +11,7 @@ use lib.Dec.{ltb}
 use borrow.Author.Tests.{lt-ltb, le-ltb}
 use Rattle.kinds.specs.Kinds.{Operation, kindOf}
 use Rattle.kinds.proofs.ByKind.{priced as kind-priced}
-use Rattle.machine.specs.Machine.{outOfGas, Frame, Effect, moves, jumps, ends, fails, Act, over, costs, Progress, next, done, stop, effectOf, halt, settle, pay, actOf, machine, follow, runOf, start, whole}
+use Rattle.machine.specs.Machine.{outOfGas, Frame, Effect, moves, jumps, ends, fails, Act, over, costs, Progress, next, done, stop, effectOf, halt, settle, pay, actOf, machine, follow, runOf, start, runToEnd}
 use Rattle.machine.proofs.Program.{effect-high}
 
 -- an operation that goes on costs at least 1
@@ -121,10 +121,10 @@ ended act pr (suc n) g fr h = go (act fr) (pr fr) (λ g₁ f. ended act pr n g�
     go (costs p e) one ih = paid p e one ih (decLt g p)
 
 -- a whole run ends, and its operations are at most one more than the gas it spends
-pub whole-ends : (program : List Operation) (c room g : ℕ) (m : List ℕ) → Ended (whole program c room g m)
-unfolding whole
+pub whole-ends : (program : List Operation) (c room g : ℕ) (m : List ℕ) → Ended (runToEnd program c room g m)
+unfolding runToEnd
 whole-ends program c room g m = ended (machine program c room) (priced program c room) (g + 1) g (start m) (omega arith)
 
-pub whole-counted : (program : List Operation) (c room g : ℕ) (m : List ℕ) → Counted g (whole program c room g m)
-unfolding whole
+pub whole-counted : (program : List Operation) (c room g : ℕ) (m : List ℕ) → Counted g (runToEnd program c room g m)
+unfolding runToEnd
 whole-counted program c room g m = rw zero-add at (counted (machine program c room) (priced program c room) (g + 1) g (start m))

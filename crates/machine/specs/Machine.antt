@@ -1,6 +1,6 @@
 -- The machine: what an operation does, what it costs, and a run of at most n operations.
 -- Gas stands beside the frame, so that nothing an operation does can look at it.
-use Prim.Native.Nat.{ℕ, zero, suc, _+_, _-_}
+use Prim.Native.Nat.{ℕ, zero, suc, _+_, _-_, _^_, min}
 use mathlib.Core.List.{List, [], _∷_, _++_}
 use mathlib.Core.Bool.{Bool, cond, not}
 use mathlib.Core.Option.{Option, some, none}
@@ -57,14 +57,14 @@ storeAt m i v = cond (ltb i (length m)) (set m i v) (m ++ (replicate (i - length
 abbrev pub pushOf : ℕ → List ℕ → List ℕ → Effect
 pushOf v s m = cond (ltb (length s) 4096) (moves (v ∷ s) m) (fails stackLimitExceeded)
 
-abbrev pub valueOf : Option ℕ → List ℕ → List ℕ → Effect
-valueOf none s m = fails divisionByZero
-valueOf (some v) s m = moves (v ∷ s) m
+abbrev pub resultOf : Option ℕ → List ℕ → List ℕ → Effect
+resultOf none s m = fails divisionByZero
+resultOf (some v) s m = moves (v ∷ s) m
 
-abbrev pub twoOf : Binary → List ℕ → List ℕ → Effect
-twoOf o [] m = fails stackUnderflow
-twoOf o (b ∷ []) m = fails stackUnderflow
-twoOf o (b ∷ a ∷ s) m = valueOf (apply o a b) s m
+abbrev pub binopOf : Binary → List ℕ → List ℕ → Effect
+binopOf o [] m = fails stackUnderflow
+binopOf o (b ∷ []) m = fails stackUnderflow
+binopOf o (b ∷ a ∷ s) m = resultOf (apply o a b) s m
 
 abbrev pub dupOf : List ℕ → List ℕ → Effect
 dupOf [] m = fails stackUnderflow
@@ -84,30 +84,23 @@ jumpIfOf test t (v ∷ s) m = cond (test v) (jumps t s m) (moves s m)
 abbrev pub loadOf : ℕ → List ℕ → List ℕ → Effect
 loadOf i s m = pushOf (getD m i 0) s m
 
--- what 50 carries: the slots that the storage would need, as far as a word counts them
-abbrev pub requested : ℕ → ℕ
-requested i = cond (ltb i 18446744073709551615) (i + 1) i
-
--- room is the length of the lent storage
+-- room is the length of the lent storage; 50 carries the slots that the storage would need, as far as a word counts them
 abbrev pub storeOf : ℕ → ℕ → List ℕ → List ℕ → Effect
 storeOf room i [] m = fails stackUnderflow
 storeOf room i (v ∷ s) m =
     cond (ltb i 65536)
     (cond (ltb i room) (moves s (storeAt m i v)) (fails outsideStorage))
-    (fails (storageLimitExceeded (requested i)))
-
-abbrev pub haltOf : List ℕ → List ℕ → Effect
-haltOf s m = ends
+    (fails (storageLimitExceeded (min (i + 1) (2 ^ 64 - 1))))
 
 -- the effects of kinds 0 to 15 with the operand v, c being the caller
 abbrev pub effects : (c room v : ℕ) → List (List ℕ → List ℕ → Effect)
 effects c room v =
-    pushOf v ∷ twoOf add ∷ twoOf sub ∷ twoOf mul ∷ twoOf div ∷ dupOf ∷ swapOf ∷ jumps v
-    ∷ jumpIfOf (λ x. not (eqb x 0)) v ∷ twoOf eq ∷ twoOf lt ∷ loadOf v ∷ storeOf room v ∷ pushOf c ∷ jumpIfOf (λ x. eqb x 0) v ∷ haltOf ∷ []
+    pushOf v ∷ binopOf add ∷ binopOf sub ∷ binopOf mul ∷ binopOf div ∷ dupOf ∷ swapOf ∷ jumps v
+    ∷ jumpIfOf (λ x. not (eqb x 0)) v ∷ binopOf eq ∷ binopOf lt ∷ loadOf v ∷ storeOf room v ∷ pushOf c ∷ jumpIfOf (λ x. eqb x 0) v ∷ (λ s m. ends) ∷ []
 
 -- a kind above 15 is taken for Halt
 abbrev pub effectOf : (c room : ℕ) → Operation → List ℕ → List ℕ → Effect
-effectOf c room o = getD (effects c room (o .operand)) (o .kind) haltOf
+effectOf c room o = getD (effects c room (o .operand)) (o .kind) (λ s m. ends)
 
 -- the price of an operation where `used` slots are used
 abbrev pub priceOf : Operation → (used : ℕ) → ℕ
@@ -151,5 +144,5 @@ abbrev pub start : List ℕ → Frame
 start m = record { pos = 0; stack = []; storage = m; ops = 0 }
 
 -- a whole run under the limit g: an operation that goes on costs at least 1, so g + 1 operations end it
-unfoldable pub whole : List Operation → (c room g : ℕ) → List ℕ → Progress
-whole program c room g m = runOf (machine program c room) (g + 1) g (start m)
+unfoldable pub runToEnd : List Operation → (c room g : ℕ) → List ℕ → Progress
+runToEnd program c room g m = runOf (machine program c room) (g + 1) g (start m)

@@ -1,23 +1,23 @@
 // What each operation does once its price is taken. The loop of crate `metered` calls these, and its registers
-// are always ready for one operation more. What a contract leaves free is named at `Did`.
+// are always ready for one operation more. What a contract leaves free is named at `RefinesEffect`.
 ghost use mathlib.Core.Path.{_≡_};
 ghost use mathlib.Core.Bool.{not};
 ghost use mathlib.Core.List.{List, _++_};
 ghost use mathlib.Core.Option.{some};
-ghost use Prim.Native.Nat.{ℕ, _+_, _-_, _≤_, _<_, _^_};
+ghost use Prim.Native.Nat.{ℕ, _+_, _-_, _≤_, _<_, _^_, min};
 ghost use lib.Dec.{eqb};
 ghost use lib.ListN.{length, take, drop, replicate};
 ghost use Rattle.word.specs.Apply.{apply as applyOf};
-ghost use Rattle.machine.specs.Machine.{jumps, pushOf, twoOf, dupOf, swapOf, jumpIfOf, loadOf, storeOf, requested as requestedOf};
-ghost use Rattle.machine.specs.Code.Registers.{Ready, Did, DidAny, binaryOf, goneOn};
+ghost use Rattle.machine.specs.Machine.{jumps, pushOf, binopOf, dupOf, swapOf, jumpIfOf, loadOf, storeOf};
+ghost use Rattle.machine.specs.Code.Registers.{CanStep, RefinesEffect, RefinesOnStack, binopOfKind, goneOn};
 use super::Regs;
 use super::registers;
 use kinds::MAX_STACK_ITEMS;
 use kinds::MAX_STORAGE_SLOTS;
 
 pub fn push(stack: &mut [u64], r: Regs, v: u64) -> Regs
-    requires { ⌜ Ready r (length (now stack)) ⌝ }
-    ensures { λ q. ⌜ DidAny (r .pos + 1) (pushOf v) r q (now (stack .entry)) (now (stack .exit)) ⌝ }
+    requires { ⌜ CanStep r (length (now stack)) ⌝ }
+    ensures { λ q. ⌜ RefinesOnStack (r .pos + 1) (pushOf v) r q (now (stack .entry)) (now (stack .exit)) ⌝ }
 {
     let n = r.items;
     if n >= MAX_STACK_ITEMS {
@@ -30,7 +30,7 @@ pub fn push(stack: &mut [u64], r: Regs, v: u64) -> Regs
 // The two-sided operation of a kind: the Rust's closures, as a choice.
 fn apply(kind: u8, a: u64, b: u64) -> u64
     requires { ⌜ (kind ≡ 4 → 1 ≤ b) ⌝ }
-    ensures { λ r. ⌜ some r ≡ applyOf (binaryOf kind) a b ⌝ }
+    ensures { λ r. ⌜ some r ≡ applyOf (binopOfKind kind) a b ⌝ }
 {
     match kind {
         1 => std::num::wrapping_add_u64(a, b),
@@ -42,9 +42,9 @@ fn apply(kind: u8, a: u64, b: u64) -> u64
     }
 }
 
-pub fn two(stack: &mut [u64], r: Regs, kind: u8) -> Regs
-    requires { ⌜ Ready r (length (now stack)) ⌝ }
-    ensures { λ q. ⌜ DidAny (r .pos + 1) (twoOf (binaryOf kind)) r q (now (stack .entry)) (now (stack .exit)) ⌝ }
+pub fn binop(stack: &mut [u64], r: Regs, kind: u8) -> Regs
+    requires { ⌜ CanStep r (length (now stack)) ⌝ }
+    ensures { λ q. ⌜ RefinesOnStack (r .pos + 1) (binopOf (binopOfKind kind)) r q (now (stack .entry)) (now (stack .exit)) ⌝ }
 {
     let n = r.items;
     if n < 2 {
@@ -62,8 +62,8 @@ pub fn two(stack: &mut [u64], r: Regs, kind: u8) -> Regs
 }
 
 pub fn dup(stack: &mut [u64], r: Regs) -> Regs
-    requires { ⌜ Ready r (length (now stack)) ⌝ }
-    ensures { λ q. ⌜ DidAny (r .pos + 1) dupOf r q (now (stack .entry)) (now (stack .exit)) ⌝ }
+    requires { ⌜ CanStep r (length (now stack)) ⌝ }
+    ensures { λ q. ⌜ RefinesOnStack (r .pos + 1) dupOf r q (now (stack .entry)) (now (stack .exit)) ⌝ }
 {
     let n = r.items;
     if n < 1 {
@@ -74,8 +74,8 @@ pub fn dup(stack: &mut [u64], r: Regs) -> Regs
 }
 
 pub fn swap(stack: &mut [u64], r: Regs) -> Regs
-    requires { ⌜ Ready r (length (now stack)) ⌝ }
-    ensures { λ q. ⌜ DidAny (r .pos + 1) swapOf r q (now (stack .entry)) (now (stack .exit)) ⌝ }
+    requires { ⌜ CanStep r (length (now stack)) ⌝ }
+    ensures { λ q. ⌜ RefinesOnStack (r .pos + 1) swapOf r q (now (stack .entry)) (now (stack .exit)) ⌝ }
 {
     let n = r.items;
     if n < 2 {
@@ -91,14 +91,14 @@ pub fn swap(stack: &mut [u64], r: Regs) -> Regs
 pub fn jump(r: Regs, t: u64) -> Regs
     requires { ⌜ r .ops + 1 < 2 ^ 64 ⌝ }
     requires { ⌜ r .items ≤ 4096 ⌝ }
-    ensures { λ q. ⌜ ((s : List ℕ) → DidAny 0 (jumps t) r q s s) ⌝ }
+    ensures { λ q. ⌜ ((s : List ℕ) → RefinesOnStack 0 (jumps t) r q s s) ⌝ }
 {
     go_on(r, t as usize, r.items, r.used)
 }
 
 pub fn jump_if_zero(stack: &[u64], r: Regs, t: u64) -> Regs
-    requires { ⌜ Ready r (length (now stack)) ⌝ }
-    ensures { λ q. ⌜ DidAny 0 (jumpIfOf (λ x. eqb x 0) t) r q (now (stack .entry)) (now (stack .entry)) ⌝ }
+    requires { ⌜ CanStep r (length (now stack)) ⌝ }
+    ensures { λ q. ⌜ RefinesOnStack 0 (jumpIfOf (λ x. eqb x 0) t) r q (now (stack .entry)) (now (stack .entry)) ⌝ }
 {
     let n = r.items;
     if n < 1 {
@@ -111,8 +111,8 @@ pub fn jump_if_zero(stack: &[u64], r: Regs, t: u64) -> Regs
 }
 
 pub fn jump_if_not_zero(stack: &[u64], r: Regs, t: u64) -> Regs
-    requires { ⌜ Ready r (length (now stack)) ⌝ }
-    ensures { λ q. ⌜ DidAny 0 (jumpIfOf (λ x. not (eqb x 0)) t) r q (now (stack .entry)) (now (stack .entry)) ⌝ }
+    requires { ⌜ CanStep r (length (now stack)) ⌝ }
+    ensures { λ q. ⌜ RefinesOnStack 0 (jumpIfOf (λ x. not (eqb x 0)) t) r q (now (stack .entry)) (now (stack .entry)) ⌝ }
 {
     let n = r.items;
     if n < 1 {
@@ -125,9 +125,9 @@ pub fn jump_if_not_zero(stack: &[u64], r: Regs, t: u64) -> Regs
 }
 
 pub fn load(stack: &mut [u64], work: &[u64], r: Regs, slot: u64) -> Regs
-    requires { ⌜ Ready r (length (now stack)) ⌝ }
+    requires { ⌜ CanStep r (length (now stack)) ⌝ }
     requires { ⌜ r .used ≤ length (now work) ⌝ }
-    ensures { λ q. ⌜ Did (r .pos + 1) (loadOf slot) r q (now (stack .entry)) (now (work .entry)) (now (stack .exit)) (now (work .entry)) ⌝ }
+    ensures { λ q. ⌜ RefinesEffect (r .pos + 1) (loadOf slot) r q (now (stack .entry)) (now (work .entry)) (now (stack .exit)) (now (work .entry)) ⌝ }
 {
     let at = slot as usize;
     let end = r.used;
@@ -138,9 +138,9 @@ pub fn load(stack: &mut [u64], work: &[u64], r: Regs, slot: u64) -> Regs
 }
 
 pub fn store(stack: &[u64], work: &mut [u64], r: Regs, slot: u64) -> Regs
-    requires { ⌜ Ready r (length (now stack)) ⌝ }
+    requires { ⌜ CanStep r (length (now stack)) ⌝ }
     requires { ⌜ r .used ≤ length (now work) ⌝ }
-    ensures { λ q. ⌜ Did (r .pos + 1) (storeOf (length (now (work .entry))) slot) r q (now (stack .entry)) (now (work .entry)) (now (stack .entry)) (now (work .exit)) ⌝ }
+    ensures { λ q. ⌜ RefinesEffect (r .pos + 1) (storeOf (length (now (work .entry))) slot) r q (now (stack .entry)) (now (work .entry)) (now (stack .entry)) (now (work .exit)) ⌝ }
 {
     let n = r.items;
     if n < 1 {
@@ -182,7 +182,7 @@ fn go_on(r: Regs, pos: usize, items: usize, used: usize) -> Regs
 
 // The slots that the storage would need, as far as a word counts them.
 fn requested(slot: u64) -> u64
-    ensures { λ r. ⌜ r ≡ requestedOf slot ⌝ }
+    ensures { λ r. ⌜ r ≡ min (slot + 1) (2 ^ 64 - 1) ⌝ }
 {
     if slot < 18446744073709551615 {
         return slot + 1;

@@ -1,2 +1,2 @@
-pub mod Arms
-pub mod Turns
+pub mod StepArms
+pub mod Loop

@@ -2,7 +2,7 @@
 ghost use mathlib.Core.Path.{_≡_};
 ghost use lib.ListN.{length};
 ghost use Rattle.machine.specs.Machine.{decode};
-ghost use Rattle.machine.specs.Code.Registers.{Running, Ran};
+ghost use Rattle.machine.specs.Code.Registers.{Running, RefinesRun};
 
 mod step;
 
@@ -10,7 +10,7 @@ use machine::Regs;
 use machine::registers;
 
 // Operations until the program ends or is refused, from any registers that run. Crate `vm` calls it behind its
-// test of the buffers' lengths (34). Free are, by `Ran`, what lies above the items and past the used slots, and after a
+// test of the buffers' lengths (34). Free are, by `RefinesRun`, what lies above the items and past the used slots, and after a
 // refusal both buffers: `vm` clears them.
 pub fn run(
     kinds: &[u8],
@@ -22,7 +22,7 @@ pub fn run(
 ) -> Regs
     requires { ⌜ length (now kinds) ≡ length (now operands) ⌝ }
     requires { ⌜ Running from (length (now stack)) (length (now work)) ⌝ }
-    ensures { λ q. ⌜ Ran (decode (now (kinds .entry)) (now (operands .entry))) caller from q (now (stack .entry)) (now (work .entry)) (now (stack .exit)) (now (work .exit)) ⌝ }
+    ensures { λ q. ⌜ RefinesRun (decode (now (kinds .entry)) (now (operands .entry))) caller from q (now (stack .entry)) (now (work .entry)) (now (stack .exit)) (now (work .exit)) ⌝ }
 {
     let mut r = from;
     while r.pos < kinds.len() {

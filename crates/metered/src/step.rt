@@ -2,7 +2,7 @@
 ghost use Prim.Native.Nat.{_<_, _^_};
 ghost use lib.ListN.{length};
 ghost use Rattle.kinds.specs.Kinds.{operation};
-ghost use Rattle.machine.specs.Code.Registers.{Running, Stepped};
+ghost use Rattle.machine.specs.Code.Registers.{Running, RefinesStep};
 use machine::Regs;
 use machine::operations;
 use machine::price;
@@ -18,7 +18,7 @@ fn step_of(
 ) -> Regs
     requires { ⌜ Running r (length (now stack)) (length (now work)) ⌝ }
     requires { ⌜ r .pos < 2 ^ 63 ⌝ }
-    ensures { λ q. ⌜ Stepped caller (operation kind operand) r q (now (stack .entry)) (now (work .entry)) (now (stack .exit)) (now (work .exit)) ⌝ }
+    ensures { λ q. ⌜ RefinesStep caller (operation kind operand) r q (now (stack .entry)) (now (work .entry)) (now (stack .exit)) (now (work .exit)) ⌝ }
 {
     let p = price::gas_cost(kind);
     let g = r.gas;
@@ -28,16 +28,16 @@ fn step_of(
     let q = registers::pay(r, p);
     match kind {
         0 => operations::push(stack, q, operand),
-        1 => operations::two(stack, q, 1),
-        2 => operations::two(stack, q, 2),
-        3 => operations::two(stack, q, 3),
-        4 => operations::two(stack, q, 4),
+        1 => operations::binop(stack, q, 1),
+        2 => operations::binop(stack, q, 2),
+        3 => operations::binop(stack, q, 3),
+        4 => operations::binop(stack, q, 4),
         5 => operations::dup(stack, q),
         6 => operations::swap(stack, q),
         7 => operations::jump(q, operand),
         8 => operations::jump_if_not_zero(stack, q, operand),
-        9 => operations::two(stack, q, 9),
-        10 => operations::two(stack, q, 10),
+        9 => operations::binop(stack, q, 9),
+        10 => operations::binop(stack, q, 10),
         11 => operations::load(stack, work, q, operand),
         12 => operations::store(stack, work, q, operand),
         13 => operations::push(stack, q, caller),
@@ -57,7 +57,7 @@ pub fn step(
 ) -> Regs
     requires { ⌜ Running r (length (now stack)) (length (now work)) ⌝ }
     requires { ⌜ r .pos < 2 ^ 63 ⌝ }
-    ensures { λ q. ⌜ Stepped caller (operation kind operand) r q (now (stack .entry)) (now (work .entry)) (now (stack .exit)) (now (work .exit)) ⌝ }
+    ensures { λ q. ⌜ RefinesStep caller (operation kind operand) r q (now (stack .entry)) (now (work .entry)) (now (stack .exit)) (now (work .exit)) ⌝ }
 {
     if kind < 3 {
         if kind < 1 {

@@ -7,8 +7,8 @@ use borrow.Author.Tests.{eq-eqb, ne-eqb}
 use native.Mathlib.Omega.{arith}
 use lib.ListN.{length, getD, drop, length-append}
 use Rattle.base.specs.Range.{within}
-use Rattle.base.proofs.Tests.{never, by-eqb, between, above}
-use Rattle.base.proofs.Parts.{next}
+use Rattle.base.proofs.Tests.{false-true, by-eqb, between, above}
+use Rattle.base.proofs.Parts.{drop-cons-at}
 use Rattle.search.specs.First.{prefixOf}
 use Rattle.search.proofs.Prefix.{split}
 use Rattle.lines.specs.Lines.{feedFree}
@@ -35,7 +35,7 @@ span-free : (s t : List ℕ) → feedFree s ≡ true → span (s ++ (10 ∷ t)) 
 span-free [] t e = refl
 span-free (a ∷ s) t e =
     by-eqb a 10
-    (λ h. never (sym (rw h refl) ∙ e))
+    (λ h. false-true (sym (rw h refl) ∙ e))
     (λ h. rw (ne-eqb a 10 h, span) (ap suc (span-free s t (sym (free-cons a s h) ∙ e))))
 
 -- White_Space within a line has no line feed, and stays such without a carriage return at its end
@@ -98,7 +98,7 @@ remark-skip {b} h y rule line start =
 
 -- an operation between White_Space, when trimmed
 trim-between : {b y : List ℕ} → Blank b → Blank y → (w : List ℕ) → within 65 90 (getD w 0 0) ≡ true → trimmed w ≡ w → trimmed (b ++ (w ++ y)) ≡ w
-trim-between h k [] e t = never e
+trim-between h k [] e t = false-true e
 trim-between {b} {y} h k (a ∷ w) e t =
     ap endTrimmed (start-blank h (a ∷ w ++ y) ∙ stays (w ++ y)) ∙ end-blank k (a ∷ w) ∙ ap endTrimmed (sym (stays w)) ∙ t
   where
@@ -114,7 +114,7 @@ not-indented text at h e =
     let a = getD text at 0 in
     let r = between 0x24 0x7F a e in
     let white : white1 a ≡ false = simp (above 0x09 0x0D a (omega arith), ne-eqb a 0x20 (λ e. omega arith)) in
-    let n : blanksLen (drop at text) ≡ 0 = ap blanksLen (next text at (at + 1) h refl) ∙ no-blank a (drop (at + 1) text) (simp white) (r .1) in
+    let n : blanksLen (drop at text) ≡ 0 = ap blanksLen (drop-cons-at text at (at + 1) h refl) ∙ no-blank a (drop (at + 1) text) (simp white) (r .1) in
     record { within = h; is = omega (arith, n) }
 
 pub indent : (text : List ℕ) (at first : ℕ) → Indented text at first → Blanks text at first
@@ -140,7 +140,7 @@ module _ (text : List ℕ) (at first : ℕ) (b : Blanks text at first) (rule : R
 
       go : (x : List ℕ) → feedFree x ≡ true → drop first text ≡ x ++ 10 ∷ drop (feed + 1) text → feed ≡ first + length x
           → lineReadAt rule text at line ≡ record { read = Skip; next = feed + 1 }
-      go [] f d p = never (sym (ap (prefixOf (35 ∷ [])) d) ∙ e)
+      go [] f d p = false-true (sym (ap (prefixOf (35 ∷ [])) d) ∙ e)
       go (c ∷ x) f d p =
           let l = b .between in
           let q : drop first text ≡ 35 ∷ drop 1 (drop first text) = split (35 ∷ []) (drop first text) e in
@@ -181,5 +181,5 @@ module _ (text : List ℕ) (at first : ℕ) (b : Blanks text at first) (rule : R
           ∙ ap (Op k) (sym (o .operand)))
         where
           kept : (w : List ℕ) → within 65 90 (getD w 0 0) ≡ true → lessReturn w ≡ w → lessReturn (b .between ++ w) ≡ b .between ++ w
-          kept [] e f = never e
+          kept [] e f = false-true e
           kept (c ∷ w) e f = less-append (b .between) c w ∙ ap (λ (s : List ℕ). b .between ++ s) f

@@ -8,7 +8,7 @@ use lib.Seq.{take-at}
 use Rattle.base.specs.Overwrite.{overwrite}
 use Rattle.base.specs.Outcome.{is, refused}
 use Rattle.kinds.specs.Kinds.{Operation}
-use Rattle.ops.specs.Ops.{Reading, readText, answerOf, opsOf, kindsOf, operandsOf, Parsed}
+use Rattle.ops.specs.Ops.{Reading, readText, answerOf, opsOf, kindsOf, operandsOf, ReadsOps}
 use Rattle.ops.specs.declared.ParsedOps.{ParsedOps}
 use Rattle.ops.specs.declared.ParsedOps.the-variants.{Read}
 
@@ -37,7 +37,7 @@ count (is os) n e = cc
 count (refused x) n e = absurd (let z : _≡_ {A = ℕ} 0 1 = cc in omega arith)
 
 -- after reading, n being that number, or 0 where it was refused
-pub front : (text ks vs ks′ vs′ : List ℕ) (r : ParsedOps) (n : ℕ) → Parsed text ks vs ks′ vs′ r → n ≡ length (opsOf (readText text (min (length ks) (length vs))))
+pub front : (text ks vs ks′ vs′ : List ℕ) (r : ParsedOps) (n : ℕ) → ReadsOps text ks vs ks′ vs′ r → n ≡ length (opsOf (readText text (min (length ks) (length vs))))
     → Front (opsOf (readText text (min (length ks) (length vs)))) n ks′ vs′
 front text ks vs ks′ vs′ r n p k =
     let os = opsOf (readText text (min (length ks) (length vs))) in
@@ -48,6 +48,6 @@ front text ks vs ks′ vs′ r n p k =
       operands = is-front (λ o. o .operand) os vs vs′ n (p .operandsWritten) k;
     }
 
-pub read-front : (text ks vs ks′ vs′ : List ℕ) (r : ParsedOps) (n : ℕ) → Parsed text ks vs ks′ vs′ r → r ≡ Read n
+pub read-front : (text ks vs ks′ vs′ : List ℕ) (r : ParsedOps) (n : ℕ) → ReadsOps text ks vs ks′ vs′ r → r ≡ Read n
     → Front (opsOf (readText text (min (length ks) (length vs)))) n ks′ vs′
 read-front text ks vs ks′ vs′ r n p e = front text ks vs ks′ vs′ r n p (count (readText text (min (length ks) (length vs))) n (sym e ∙ p .answer))

@@ -5,10 +5,10 @@ pub mod BlankLines
 pub mod Written
 pub mod WrittenAgain
 pub mod Front
-pub mod Parsing
-pub mod Filling
-pub mod Passing
-pub mod Reading
-pub mod Reached
+pub mod WholeText
+pub mod SecondPass
+pub mod PassLine
+pub mod FirstPass
+pub mod LineStarts
 pub mod Trimmed
 pub mod Examples

@@ -8,7 +8,7 @@ use native.Mathlib.Omega.{arith}
 use lib.ListN.{length, getD, drop}
 use Rattle.base.specs.Range.{within}
 use Rattle.base.specs.Lists.{isNot, all}
-use Rattle.base.proofs.Tests.{never, and-left, and-right, between, inside, above}
+use Rattle.base.proofs.Tests.{false-true, and-left, and-right, between, inside, above}
 use Rattle.base.proofs.Lists.{all-weaker, all-at}
 use Rattle.utf8.specs.Utf8.{utf8}
 use Rattle.utf8.proofs.Lead.{one-is}
@@ -22,9 +22,9 @@ use Rattle.decimal.specs.Decimal.{digit}
 use Rattle.decimal.specs.declared.Number.the-variants.{Is}
 use Rattle.kinds.specs.Kinds.{kindOf}
 use Rattle.kinds.proofs.ByKind.{span, _&_, end}
-use Rattle.ops.specs.Kinds.{follows, lineWith, partOf, parted}
-use Rattle.ops.specs.Line.{Rule, skipped, ofNumber, partRead, lineOf}
-use Rattle.ops.specs.declared.kind.Parted.the-variants.{Alone, Before}
+use Rattle.ops.specs.Kinds.{follows, lineWith, headWith, headOf}
+use Rattle.ops.specs.Line.{Rule, skipped, ofNumber, headRead, lineOf}
+use Rattle.ops.specs.declared.kind.Head.the-variants.{Alone, Before}
 use Rattle.ops.specs.declared.line.LineRead.the-variants.{Op}
 use Rattle.ops.proofs.Trimmed.{part-read}
 
@@ -100,7 +100,7 @@ module _ (a : ℕ) (w : List ℕ) (e : all graphic (a ∷ w) ≡ true) where
 abbrev Told : ℕ → Type 0
 Told k =
     (d : List ℕ)
-    → (parted (lineWith k d) ≡ partOf k (kindOf k)) × ((within 65 90 (getD (kindOf k .word) 0 0) && all graphic (kindOf k .word)) ≡ true)
+    → (headOf (lineWith k d) ≡ headWith k (kindOf k)) × ((within 65 90 (getD (kindOf k .word) 0 0) && all graphic (kindOf k .word)) ≡ true)
 
 told : (k : ℕ) → k < 16 → Told k
 told k h =
@@ -127,7 +127,7 @@ module _ (rule : Rule) (k : ℕ) (d : List ℕ) (v : ℕ) (g : all graphic d ≡
     said : skipped l ≡ false
 
   line-plain : (w : List ℕ) (b : Bool) → (within 65 90 (getD w 0 0) && all graphic w) ≡ true → Line (w ++ cond b (32 ∷ d) [])
-  line-plain [] b e = never e
+  line-plain [] b e = false-true e
   line-plain (a ∷ w) b e =
       let f = and-right (within 65 90 a) (all graphic (a ∷ w)) e in
       let i = and-left (within 65 90 a) (all graphic (a ∷ w)) e in
@@ -146,7 +146,7 @@ module _ (rule : Rule) (k : ℕ) (d : List ℕ) (v : ℕ) (g : all graphic d ≡
       go (a ∷ d) e h = plain-word a d e .untrimmed
 
   part-is : (line place : ℕ) (w : List ℕ) (b : Bool)
-      → partRead rule line place (w ++ cond b (32 ∷ d) []) (cond b (Before k (length w + 1)) (Alone k)) ≡ Op k (cond b v 0)
+      → headRead rule line place (w ++ cond b (32 ∷ d) []) (cond b (Before k (length w + 1)) (Alone k)) ≡ Op k (cond b v 0)
   part-is line place w false = refl
   part-is line place w true =
       let z : length w + 1 ≡ suc (length w) = omega arith in
@@ -163,9 +163,9 @@ module _ (rule : Rule) (k : ℕ) (d : List ℕ) (v : ℕ) (g : all graphic d ≡
       by-part q line start l t =
           let s = lineWith k d in
           let place = start + (length l - length (startTrimmed l)) in
-          part-read l (startTrimmed l) (trimmed l) refl refl rule line start (parted (trimmed l)) (ap skipped t ∙ q .said) refl
-          ∙ ap (λ (t : List ℕ). partRead rule line place t (parted t)) t
-          ∙ ap (partRead rule line place s) (told k p d .0)
+          part-read l (startTrimmed l) (trimmed l) refl refl rule line start (headOf (trimmed l)) (ap skipped t ∙ q .said) refl
+          ∙ ap (λ (t : List ℕ). headRead rule line place t (headOf t)) t
+          ∙ ap (headRead rule line place s) (told k p d .0)
           ∙ part-is line place (kindOf k .word) (follows (kindOf k .operand))
 
 -- the lines of such a line, a line feed and what follows

@@ -15,11 +15,11 @@ use Rattle.decimal.specs.declared.Number.{Number}
 use Rattle.kinds.specs.Kinds.{Operand, kindOf}
 use Rattle.kinds.proofs.ByKind as ByKind
 use Rattle.kinds.proofs.ByKind.{span, _&_, no-kind}
-use Rattle.ops.specs.Kinds.{parted}
-use Rattle.ops.specs.Line.{Rule, ruleOf, badNumber, skipped, ofNumber, operandOf, partRead, lineOf}
-use Rattle.ops.specs.declared.kind.Parted.{Parted}
-use Rattle.ops.specs.declared.line.Rule as Named
-use Rattle.ops.specs.declared.line.Rule.the-variants.{FromStr}
+use Rattle.ops.specs.Kinds.{headOf}
+use Rattle.ops.specs.Line.{Rule, ruleOf, badNumber, skipped, ofNumber, operandOf, headRead, lineOf}
+use Rattle.ops.specs.declared.kind.Head.{Head}
+use Rattle.ops.specs.declared.line.OperandRule as Named
+use Rattle.ops.specs.declared.line.OperandRule.the-variants.{FromStr}
 use Rattle.ops.specs.declared.OpsError.{OpsError}
 use Rattle.ops.specs.declared.OpsError.the-variants.{BadPush, BadSlot, BadTarget}
 use Rattle.ops.specs.declared.line.LineRead.the-variants.{Skip}
@@ -42,13 +42,13 @@ module _ (s first t : List ℕ) (p : first ≡ startTrimmed s) (q : t ≡ endTri
 
   pub skip-read : (rule : Rule) (line start : ℕ) → skipped t ≡ true → lineOf rule line start s ≡ Skip
   skip-read rule line start e =
-      ap (λ (b : Bool). cond b Skip (partRead rule line (start + (length s - length (startTrimmed s))) (trimmed s) (parted (trimmed s))))
+      ap (λ (b : Bool). cond b Skip (headRead rule line (start + (length s - length (startTrimmed s))) (trimmed s) (headOf (trimmed s))))
       (ap skipped (ap endTrimmed (sym p) ∙ sym q) ∙ e)
 
-  pub part-read : (rule : Rule) (line start : ℕ) (x : Parted) → skipped t ≡ false → x ≡ parted t
-      → lineOf rule line start s ≡ partRead rule line (start + (length s - length first)) t x
+  pub part-read : (rule : Rule) (line start : ℕ) (x : Head) → skipped t ≡ false → x ≡ headOf t
+      → lineOf rule line start s ≡ headRead rule line (start + (length s - length first)) t x
   part-read rule line start x e r =
-      ap (λ (b : Bool). cond b Skip (partRead rule line (start + (length s - length (startTrimmed s))) (trimmed s) (parted (trimmed s))))
+      ap (λ (b : Bool). cond b Skip (headRead rule line (start + (length s - length (startTrimmed s))) (trimmed s) (headOf (trimmed s))))
       (ap skipped (ap endTrimmed (sym p) ∙ sym q) ∙ e)
       ∙ rw (r, q, p) refl
 
@@ -71,5 +71,5 @@ bad-number k line place len = go (decLt k 16)
     go (no h) = rw (no-kind k (omega arith), ne-eqb k 0 (omega arith), ne-eqb k 11 (omega arith), ne-eqb k 12 (omega arith))
 
 -- the rules that the code has names for
-pub number-is : (rule : Named.Rule) (operand : Operand) (t : List ℕ) → numberOf t ≡ ruleOf rule operand t
+pub number-is : (rule : Named.OperandRule) (operand : Operand) (t : List ℕ) → numberOf t ≡ ruleOf rule operand t
 number-is FromStr operand t = refl

@@ -9,7 +9,7 @@ use lib.Dec.{ltb}
 use lib.ListN.{length}
 use Rattle.base.specs.Outcome.{is, refused, andThen}
 use Rattle.base.specs.Lists.{all}
-use Rattle.base.proofs.Tests.{by-bool, never}
+use Rattle.base.proofs.Tests.{by-bool, false-true}
 use Rattle.base.proofs.Outcome.{not-is, is-same, then-is}
 use Rattle.utf8.specs.Utf8.{utf8}
 use Rattle.lines.specs.Lines.{lines}
@@ -18,12 +18,12 @@ use Rattle.decimal.specs.Decimal.{digit, value, withoutPlus}
 use Rattle.decimal.specs.declared.Number.{Number}
 use Rattle.decimal.specs.declared.Number.the-variants.{Is, Invalid}
 use Rattle.kinds.specs.Kinds.{kindOf, Operation, operation}
-use Rattle.ops.specs.Kinds.{follows, parted}
-use Rattle.ops.specs.Line.{Rule, fromStr, ReadsDigits, ReadsWords, ofNumber, partRead, skipped, lineOf}
+use Rattle.ops.specs.Kinds.{follows, headOf}
+use Rattle.ops.specs.Line.{Rule, fromStr, ReadsDigits, ReadsWords, ofNumber, headRead, skipped, lineOf}
 use Rattle.ops.specs.Ops.{Reading, startOf, thenRead, readLines, notEmpty, readBy, readText}
 use Rattle.ops.specs.Written.{writtenAll, cleared, IsOperation, IsRead, Each, none, one}
-use Rattle.ops.specs.declared.kind.Parted.{Parted}
-use Rattle.ops.specs.declared.kind.Parted.the-variants.{Alone, Before}
+use Rattle.ops.specs.declared.kind.Head.{Head}
+use Rattle.ops.specs.declared.kind.Head.the-variants.{Alone, Before}
 use Rattle.ops.specs.declared.OpsError.{OpsError}
 use Rattle.ops.specs.declared.OpsError.the-variants.{NotUtf8}
 use Rattle.ops.specs.declared.line.LineRead.{LineRead}
@@ -64,7 +64,7 @@ module _ (rule : Rule) (words : ReadsWords rule) where
       let p : k ≡ j = cc in
       let q : n ≡ v = cc in
       subst IsRead (ap₂ operation p q)
-      (record { is = record { kind = h; operand = w n refl }; unused = cleared-same (operation k n) (λ g. never (sym g ∙ f)) })
+      (record { is = record { kind = h; operand = w n refl }; unused = cleared-same (operation k n) (λ g. false-true (sym g ∙ f)) })
   number-read k line place len Invalid h f w j v e = absurd (let z : _≡_ {A = ℕ} 0 1 = cc in omega arith)
 
   alone-read : (k : ℕ) → k < 16 → (j v : ℕ) → Op k 0 ≡ Op j v → IsRead (operation j v)
@@ -80,12 +80,12 @@ module _ (rule : Rule) (words : ReadsWords rule) where
       by-bool (skipped (trimmed l))
       (λ s. absurd (no-skip (sym (skip-read l (startTrimmed l) (trimmed l) refl refl rule line start s) ∙ e)))
       (λ s.
-      let r = sym (part-read l (startTrimmed l) (trimmed l) refl refl rule line start (parted (trimmed l)) s refl) ∙ e in
+      let r = sym (part-read l (startTrimmed l) (trimmed l) refl refl rule line start (headOf (trimmed l)) s refl) ∙ e in
       parted-at (trimmed l)
-      (λ u. absurd (no-bad _ (sym (ap (partRead rule line _ (trimmed l)) u) ∙ r)))
+      (λ u. absurd (no-bad _ (sym (ap (headRead rule line _ (trimmed l)) u) ∙ r)))
       (λ k h _ p. by-bool (follows (kindOf k .operand))
-      (λ f. number-read k line _ _ _ h f (words (kindOf k .operand) _) j v (sym (ap (partRead rule line _ (trimmed l)) (p ∙ ap (part k) f)) ∙ r))
-      (λ f. alone-read k h j v (sym (ap (partRead rule line _ (trimmed l)) (p ∙ ap (part k) f)) ∙ r))))
+      (λ f. number-read k line _ _ _ h f (words (kindOf k .operand) _) j v (sym (ap (headRead rule line _ (trimmed l)) (p ∙ ap (part k) f)) ∙ r))
+      (λ f. alone-read k h j v (sym (ap (headRead rule line _ (trimmed l)) (p ∙ ap (part k) f)) ∙ r))))
     where
       no-skip : Skip ≡ Op j v → ⊥
       no-skip e = let z : _≡_ {A = ℕ} 0 1 = cc in omega arith
@@ -93,7 +93,7 @@ module _ (rule : Rule) (words : ReadsWords rule) where
       no-bad : (x : OpsError) → Bad x ≡ Op j v → ⊥
       no-bad x e = let z : _≡_ {A = ℕ} 0 1 = cc in omega arith
 
-      part : ℕ → Bool → Parted
+      part : ℕ → Bool → Head
       part k b = cond b (Before k (length (kindOf k .word) + 1)) (Alone k)
 
   -- the operations of lines

@@ -6,13 +6,13 @@ use mathlib.Core.Bool.{Bool, cond, not, _&&_}
 use lib.Dec.{eqb}
 use lib.ListN.{length, getD}
 use Rattle.search.specs.First.{prefixOf}
-use Rattle.kinds.specs.Kinds.{Operand, none, Kind, kinds, kindOf, code}
-use Rattle.ops.specs.declared.kind.Parted.{Parted}
-use Rattle.ops.specs.declared.kind.Parted.the-variants.{Alone, Before, Unknown}
+use Rattle.kinds.specs.Kinds.{Operand, none, Kind, kinds, kindOf, sortNumber}
+use Rattle.ops.specs.declared.kind.Head.{Head}
+use Rattle.ops.specs.declared.kind.Head.the-variants.{Alone, Before, Unknown}
 
 -- whether an operand follows the word: one does unless it is of the sort none
 abbrev pub follows : Operand → Bool
-follows operand = not (eqb (code operand) (code none))
+follows operand = not (eqb (sortNumber operand) (sortNumber none))
 
 -- a kind's word, and behind it a space and digits where an operand follows
 abbrev pub lineWith : ℕ → List ℕ → List ℕ
@@ -24,16 +24,16 @@ fits w t =
     cond (follows (w .operand)) (prefixOf (w .word ++ 32 ∷ []) t) (prefixOf (w .word) t && eqb (length t) (length (w .word)))
 
 -- the kind's number, and where what follows the space starts
-abbrev pub partOf : ℕ → Kind → Parted
-partOf k w = cond (follows (w .operand)) (Before k (length (w .word) + 1)) (Alone k)
+abbrev pub headWith : ℕ → Kind → Head
+headWith k w = cond (follows (w .operand)) (Before k (length (w .word) + 1)) (Alone k)
 
 -- the first of the kinds that fits, their numbers being counted from k
-abbrev pub partedFrom : ℕ → List Kind → List ℕ → Parted
-partedFrom k [] t = Unknown
-partedFrom k (w ∷ ws) t = cond (fits w t) (partOf k w) (partedFrom (suc k) ws t)
+abbrev pub headFrom : ℕ → List Kind → List ℕ → Head
+headFrom k [] t = Unknown
+headFrom k (w ∷ ws) t = cond (fits w t) (headWith k w) (headFrom (suc k) ws t)
 
-abbrev pub parted : List ℕ → Parted
-parted t = partedFrom 0 kinds t
+abbrev pub headOf : List ℕ → Head
+headOf t = headFrom 0 kinds t
 
 -- a text that starts with a byte
 pub record FirstIs (a : ℕ) (t : List ℕ) : Type 0 where

@@ -5,19 +5,19 @@ use mathlib.Core.List.{List, [], _∷_}
 use mathlib.Core.Bool.{Bool, true, cond}
 use lib.Dec.{eqb}
 use lib.ListN.{length, drop}
-use Rattle.trim.specs.Trim.{trimmed, passed}
+use Rattle.trim.specs.Trim.{trimmed, leadingBlanks}
 use Rattle.base.specs.Lists.{all}
 use Rattle.decimal.specs.Decimal.{digit, numberOf}
 use Rattle.decimal.specs.declared.Number.{Number}
 use Rattle.decimal.specs.declared.Number.the-variants.{Is, Invalid}
 use Rattle.kinds.specs.Kinds.{Operand, none, value, slot, target, kindOf}
-use Rattle.ops.specs.Kinds.{parted}
-use Rattle.ops.specs.declared.kind.Parted.{Parted}
-use Rattle.ops.specs.declared.kind.Parted.the-variants.{Alone, Before, Unknown}
+use Rattle.ops.specs.Kinds.{headOf}
+use Rattle.ops.specs.declared.kind.Head.{Head}
+use Rattle.ops.specs.declared.kind.Head.the-variants.{Alone, Before, Unknown}
 use Rattle.ops.specs.declared.OpsError.{OpsError}
 use Rattle.ops.specs.declared.OpsError.the-variants.{BadPush, BadSlot, UnknownOp, BadTarget}
-use Rattle.ops.specs.declared.line.Rule as Named
-use Rattle.ops.specs.declared.line.Rule.the-variants.{FromStr}
+use Rattle.ops.specs.declared.line.OperandRule as Named
+use Rattle.ops.specs.declared.line.OperandRule.the-variants.{FromStr}
 use Rattle.ops.specs.declared.line.LineRead.{LineRead}
 use Rattle.ops.specs.declared.line.LineRead.the-variants.{Skip, Op, Bad}
 
@@ -38,7 +38,7 @@ abbrev pub ReadsWords : Rule → Type 0
 ReadsWords rule = (operand : Operand) (t : List ℕ) (v : ℕ) → rule operand t ≡ Is v → v < 2 ^ 64
 
 -- the rules that the code has names for
-abbrev pub ruleOf : Named.Rule → Rule
+abbrev pub ruleOf : Named.OperandRule → Rule
 ruleOf FromStr = fromStr
 
 -- the refusal where that text says no number; no text stands behind the word of a kind without an operand
@@ -52,22 +52,22 @@ abbrev pub ofNumber : ℕ → ℕ → ℕ → ℕ → Number → LineRead
 ofNumber k line place len (Is v) = Op k v
 ofNumber k line place len Invalid = Bad (badNumber (kindOf k .operand) line place len)
 
--- a kind and what follows its word, which starts at a place
+-- a kind and what follows its word, which starts at an offset
 abbrev pub operandOf : Rule → ℕ → ℕ → ℕ → List ℕ → LineRead
 operandOf rule k line place rest =
-    ofNumber k line (place + passed rest) (length (trimmed rest)) (rule (kindOf k .operand) (trimmed rest))
+    ofNumber k line (place + leadingBlanks rest) (length (trimmed rest)) (rule (kindOf k .operand) (trimmed rest))
 
--- a trimmed line, which starts at a place
-abbrev pub partRead : Rule → ℕ → ℕ → List ℕ → Parted → LineRead
-partRead rule line place t (Alone k) = Op k 0
-partRead rule line place t (Before k n) = operandOf rule k line (place + n) (drop n t)
-partRead rule line place t Unknown = Bad (UnknownOp line place (length t))
+-- a trimmed line, which starts at an offset
+abbrev pub headRead : Rule → ℕ → ℕ → List ℕ → Head → LineRead
+headRead rule line place t (Alone k) = Op k 0
+headRead rule line place t (Before k n) = operandOf rule k line (place + n) (drop n t)
+headRead rule line place t Unknown = Bad (UnknownOp line place (length t))
 
 -- nothing, or a remark
 abbrev pub skipped : List ℕ → Bool
 skipped [] = true
 skipped (a ∷ t) = eqb a 35
 
--- the line of a number, which starts at a place
+-- the line of a number, which starts at an offset
 abbrev pub lineOf : Rule → ℕ → ℕ → List ℕ → LineRead
-lineOf rule line start l = cond (skipped (trimmed l)) Skip (partRead rule line (start + passed l) (trimmed l) (parted (trimmed l)))
+lineOf rule line start l = cond (skipped (trimmed l)) Skip (headRead rule line (start + leadingBlanks l) (trimmed l) (headOf (trimmed l)))

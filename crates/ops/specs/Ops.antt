@@ -11,7 +11,7 @@ use Rattle.base.specs.Outcome.{Outcome, is, refused, andThen}
 use Rattle.utf8.specs.Utf8.{utf8}
 use Rattle.lines.specs.Lines.{lines}
 use Rattle.lines.specs.Cursor.{span}
-use Rattle.trim.specs.Trim.{trimmed, passed}
+use Rattle.trim.specs.Trim.{trimmed, leadingBlanks}
 use Rattle.kinds.specs.Kinds.{operation}
 use Rattle.ops.specs.Line.{Rule, fromStr, lineOf}
 use Rattle.ops.specs.Numbers.{parsedOpsNumbered}
@@ -75,7 +75,7 @@ abbrev pub operandsOf : List Operation → List ℕ
 operandsOf os = map (λ o. o .operand) os
 
 -- what reading gives: the answer, document 01's number and values of it, and the buffers
-pub record Parsed (text kinds operands kindsAfter operandsAfter : List ℕ) (r : ParsedOps) : Type 0 where
+pub record ReadsOps (text kinds operands kindsAfter operandsAfter : List ℕ) (r : ParsedOps) : Type 0 where
   pub answer : r ≡ answerOf (readText text (min (length kinds) (length operands)))
   pub says : parsedOpsNumbered r ≡ parsedOpsNumbered (answerOf (readText text (min (length kinds) (length operands))))
   pub kindsWritten : kindsAfter ≡ overwrite 0 (kindsOf (opsOf (readText text (min (length kinds) (length operands))))) kinds
@@ -92,4 +92,4 @@ trimmedLine text n = cond (utf8 text) (trimmed (nthLine n (lines text))) []
 
 -- where that text starts; 0 where the text is not UTF-8 or has no such line
 abbrev pub trimmedPlace : List ℕ → ℕ → ℕ
-trimmedPlace text n = cond (utf8 text && leb n (length (lines text))) (startOf (n - 1) text + passed (nthLine n (lines text))) 0
+trimmedPlace text n = cond (utf8 text && leb n (length (lines text))) (startOf (n - 1) text + leadingBlanks (nthLine n (lines text))) 0

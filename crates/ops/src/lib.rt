@@ -17,11 +17,11 @@ ghost use mathlib.Core.Bool.{true};
 ghost use Rattle.base.specs.Part.{Part};
 ghost use Rattle.ops.specs.Line.{fromStr};
 ghost use Rattle.ops.specs.Numbers.{opsErrorNumbered, parsedOpsNumbered};
-ghost use Rattle.ops.specs.Ops.{Parsed, trimmedLine, trimmedPlace};
+ghost use Rattle.ops.specs.Ops.{ReadsOps, trimmedLine, trimmedPlace};
 ghost use Rattle.ops.specs.Code.Numbered.{lineNumbered};
-ghost use Rattle.ops.specs.Code.Passes.{Good, Passed};
+ghost use Rattle.ops.specs.Code.Passes.{NoneRefused, PassOver};
 
-// Lines are counted from 1. Places count bytes from 0 in the whole text.
+// Lines are counted from 1. Offsets count bytes from 0 in the whole text.
 pub enum OpsError {
     NotUtf8,
     BadPush {
@@ -94,7 +94,7 @@ impl ParsedOps {
 // line by line, and then leaves both buffers unchanged; a success leaves unchanged what lies behind the operations. The text is read
 // twice: first for the answer, then, unless that is a refusal, to write.
 pub fn parse_ops(text: &[u8], kinds: &mut [u8], operands: &mut [u64]) -> ParsedOps
-    ensures { λ r. ⌜ Parsed (now (text .entry)) (now (kinds .entry)) (now (operands .entry)) (now (kinds .exit)) (now (operands .exit)) r ⌝ }
+    ensures { λ r. ⌜ ReadsOps (now (text .entry)) (now (kinds .entry)) (now (operands .entry)) (now (kinds .exit)) (now (operands .exit)) r ⌝ }
 {
     if !utf8::is_utf8(text) {
         return ParsedOps::Refused(OpsError::NotUtf8);
@@ -147,8 +147,8 @@ pub fn nth_line(text: &[u8], line: usize) -> Step
 
 // One pass over a text that is UTF-8. It gives the answer, and writes the operations only where it is told to.
 fn pass(text: &[u8], kinds: &mut [u8], operands: &mut [u64], writing: bool) -> ParsedOps
-    requires { ⌜ (writing ≡ true → Good fromStr (now text) (now kinds) (now operands)) ⌝ }
-    ensures { λ r. ⌜ Passed fromStr (now (text .entry)) (now (kinds .entry)) (now (operands .entry)) (now (kinds .exit)) (now (operands .exit)) writing r ⌝ }
+    requires { ⌜ (writing ≡ true → NoneRefused fromStr (now text) (now kinds) (now operands)) ⌝ }
+    ensures { λ r. ⌜ PassOver fromStr (now (text .entry)) (now (kinds .entry)) (now (operands .entry)) (now (kinds .exit)) (now (operands .exit)) writing r ⌝ }
 {
     let room = min(kinds.len(), operands.len());
     let mut at: usize = 0;

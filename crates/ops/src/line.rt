@@ -1,7 +1,7 @@
 // What one line of a text says.
 use super::OpsError;
-use super::kind::Parted;
-use super::kind::part;
+use super::kind::Head;
+use super::kind::classify;
 use super::plain::Plain;
 use super::plain::plain_at;
 use super::word::one;
@@ -14,10 +14,10 @@ ghost use Prim.Native.Nat.{_+_, _-_, _^_, _<_, _≤_};
 ghost use lib.ListN.{length, take, drop};
 ghost use Rattle.kinds.specs.Kinds.{kindOf};
 ghost use Rattle.ops.specs.Line.{fromStr, ruleOf, badNumber, operandOf, skipped, lineOf};
-ghost use Rattle.ops.specs.Code.Passes.{lineReadAt, KnownRead, Indented};
+ghost use Rattle.ops.specs.Code.Passes.{lineReadAt, FastRead, Indented};
 
 // The rules for operands.
-pub enum Rule {
+pub enum OperandRule {
     FromStr,
 }
 
@@ -27,48 +27,48 @@ pub enum LineRead {
     Bad(OpsError),
 }
 
-// What the line at a place says, and where the next one starts.
-pub struct Reached {
+// What the line at an offset says, and where the next one starts.
+pub struct ReadLine {
     pub read: LineRead,
     pub next: usize,
 }
 
 // What a line says and where the next one starts, as far as it is known from the line's start on.
-pub enum Known {
+pub enum FastLine {
     Op { kind: u8, operand: u64, next: usize },
     Skip(usize),
     Unknown,
 }
 
-// The line that starts at a place, its number being line. `any_line_at` is called at two places, so that LLVM leaves it a function
+// The line that starts at a place, its number being line. `general_line_at` is called at two places, so that LLVM leaves it a function
 // of its own: inlined here it made the fast path slower.
-pub fn line_read_at(text: &[u8], at: usize, line: usize) -> Reached
+pub fn line_read_at(text: &[u8], at: usize, line: usize) -> ReadLine
     ensures { λ r. ⌜ r ≡ lineReadAt fromStr (now (text .entry)) at line ⌝ }
 {
     if text.len() <= at {
-        return any_line_at(text, at, line);
+        return general_line_at(text, at, line);
     }
-    let known = known_line_at(text, at);
+    let known = fast_line_at(text, at);
     match known {
-        Known::Op {
+        FastLine::Op {
             kind,
             operand,
             next,
-        } => Reached {
+        } => ReadLine {
             read: LineRead::Op { kind, operand },
             next,
         },
-        Known::Skip(next) => Reached {
+        FastLine::Skip(next) => ReadLine {
             read: LineRead::Skip,
             next,
         },
-        Known::Unknown => any_line_at(text, at, line),
+        FastLine::Unknown => general_line_at(text, at, line),
     }
 }
 
-fn known_line_at(text: &[u8], at: usize) -> Known
+fn fast_line_at(text: &[u8], at: usize) -> FastLine
     requires { ⌜ at < length (now text) ⌝ }
-    ensures { λ r. ⌜ KnownRead (now (text .entry)) at r ⌝ }
+    ensures { λ r. ⌜ FastRead (now (text .entry)) at r ⌝ }
 {
     let first = first_at(text, at);
     operation_line_at(text, at, first)
@@ -86,16 +86,16 @@ fn first_at(text: &[u8], at: usize) -> usize
 }
 
 // An operation with White_Space before it, from at to first, and behind it; or a line that is skipped.
-fn operation_line_at(text: &[u8], at: usize, first: usize) -> Known
+fn operation_line_at(text: &[u8], at: usize, first: usize) -> FastLine
     requires { ⌜ Indented (now text) at first ⌝ }
-    ensures { λ r. ⌜ KnownRead (now (text .entry)) at r ⌝ }
+    ensures { λ r. ⌜ FastRead (now (text .entry)) at r ⌝ }
 {
     let plain = plain_at(text, first);
     let Plain::Op { kind, operand, end } = plain else {
         return skipped_line_at(text, at, first);
     };
     if one(text, end, b'\n') {
-        return Known::Op {
+        return FastLine::Op {
             kind,
             operand,
             next: end + 1,
@@ -103,9 +103,9 @@ fn operation_line_at(text: &[u8], at: usize, first: usize) -> Known
     }
     let feed = trim::blanks_end(text, end);
     if !one(text, feed, b'\n') {
-        return Known::Unknown;
+        return FastLine::Unknown;
     }
-    Known::Op {
+    FastLine::Op {
         kind,
         operand,
         next: feed + 1,
@@ -113,34 +113,34 @@ fn operation_line_at(text: &[u8], at: usize, first: usize) -> Known
 }
 
 // White_Space alone, or a remark with White_Space before it, from at to first.
-fn skipped_line_at(text: &[u8], at: usize, first: usize) -> Known
+fn skipped_line_at(text: &[u8], at: usize, first: usize) -> FastLine
     requires { ⌜ Indented (now text) at first ⌝ }
-    ensures { λ r. ⌜ KnownRead (now (text .entry)) at r ⌝ }
+    ensures { λ r. ⌜ FastRead (now (text .entry)) at r ⌝ }
 {
     if one(text, first, b'\n') {
-        return Known::Skip(first + 1);
+        return FastLine::Skip(first + 1);
     }
     if !one(text, first, b'#') {
-        return Known::Unknown;
+        return FastLine::Unknown;
     }
     let feed = lines::line_feed(text, first);
     if feed < text.len() {
-        return Known::Skip(feed + 1);
+        return FastLine::Skip(feed + 1);
     }
-    Known::Unknown
+    FastLine::Unknown
 }
 
-fn any_line_at(text: &[u8], at: usize, line: usize) -> Reached
+fn general_line_at(text: &[u8], at: usize, line: usize) -> ReadLine
     ensures { λ r. ⌜ r ≡ lineReadAt fromStr (now (text .entry)) at line ⌝ }
 {
     let step = lines::line_at(text, at);
     match step {
         Step::Next(l) => {
             let end = l.end;
-            let read = read_line(text, at, end, line, Rule::FromStr);
-            Reached { read, next: l.next }
+            let read = read_line(text, at, end, line, OperandRule::FromStr);
+            ReadLine { read, next: l.next }
         }
-        Step::Done => Reached {
+        Step::Done => ReadLine {
             read: LineRead::Skip,
             next: at,
         },
@@ -148,7 +148,7 @@ fn any_line_at(text: &[u8], at: usize, line: usize) -> Reached
 }
 
 // The line that stands from start to end, its number being line.
-fn read_line(text: &[u8], start: usize, end: usize, line: usize, rule: Rule) -> LineRead
+fn read_line(text: &[u8], start: usize, end: usize, line: usize, rule: OperandRule) -> LineRead
     requires { ⌜ (start ≤ end) × (end ≤ length (now text)) ⌝ }
     ensures { λ r. ⌜ r ≡ lineOf (ruleOf rule) line start (take (end - start) (drop start (now (text .entry)))) ⌝ }
 {
@@ -159,11 +159,11 @@ fn read_line(text: &[u8], start: usize, end: usize, line: usize, rule: Rule) -> 
         return LineRead::Skip;
     }
     let place = start + (raw.len() - from_first.len());
-    let p = part(t);
+    let p = classify(t);
     match p {
-        Parted::Alone(kind) => LineRead::Op { kind, operand: 0 },
-        Parted::Before(kind, n) => read_operand(t, n, kind, line, place + n, rule),
-        Parted::Unknown => {
+        Head::Alone(kind) => LineRead::Op { kind, operand: 0 },
+        Head::Before(kind, n) => read_operand(t, n, kind, line, place + n, rule),
+        Head::Unknown => {
             let len = t.len();
             LineRead::Bad(OpsError::UnknownOp { line, place, len })
         }
@@ -171,7 +171,14 @@ fn read_line(text: &[u8], start: usize, end: usize, line: usize, rule: Rule) -> 
 }
 
 // What follows a kind's word in a trimmed line: it starts at n there, and at place in the text.
-fn read_operand(t: &[u8], n: usize, kind: u8, line: usize, place: usize, rule: Rule) -> LineRead
+fn read_operand(
+    t: &[u8],
+    n: usize,
+    kind: u8,
+    line: usize,
+    place: usize,
+    rule: OperandRule,
+) -> LineRead
     requires { ⌜ (n ≤ length (now t)) × (place + (length (now t) - n) < 2 ^ 64) ⌝ }
     ensures { λ r. ⌜ r ≡ operandOf (ruleOf rule) kind line place (drop n (now (t .entry))) ⌝ }
 {
@@ -189,11 +196,11 @@ fn read_operand(t: &[u8], n: usize, kind: u8, line: usize, place: usize, rule: R
 }
 
 // The number that the text behind a kind's word says.
-fn number_by(rule: Rule, kind: u8, text: &[u8]) -> Number
+fn number_by(rule: OperandRule, kind: u8, text: &[u8]) -> Number
     ensures { λ r. ⌜ r ≡ ruleOf rule (kindOf kind .operand) (now (text .entry)) ⌝ }
 {
     match rule {
-        Rule::FromStr => decimal::from_str(text),
+        OperandRule::FromStr => decimal::from_str(text),
     }
 }
 

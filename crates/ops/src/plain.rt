@@ -17,7 +17,7 @@ pub enum Plain {
     Other,
 }
 
-// The operation at a place, if a word, or a word, a space and digits stand there. `operation_line_at` calls it behind White_Space of the text.
+// The operation at an offset, if a word, or a word, a space and digits stand there. `operation_line_at` calls it behind White_Space of the text.
 pub fn plain_at(text: &[u8], at: usize) -> Plain
     requires { ⌜ at ≤ length (now text) ⌝ }
     ensures { λ r. ⌜ PlainRead (now (text .entry)) at r ⌝ }
@@ -130,7 +130,7 @@ fn alone(fits: bool, kind: u8, end: usize) -> Plain
     }
 }
 
-// A kind whose word and space stand at a place, with the place of what follows.
+// A kind whose word and space stand at an offset, with the offset of what follows.
 fn operand(text: &[u8], at: usize, fits: bool, kind: u8, digits: usize) -> Plain
     requires { ⌜ (fits ≡ true → WordAt (now text) at kind digits) ⌝ }
     ensures { λ r. ⌜ PlainRead (now (text .entry)) at r ⌝ }

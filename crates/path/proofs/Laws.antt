@@ -8,18 +8,18 @@ use native.Mathlib.Omega.{arith}
 use lib.Dec.{eqb}
 use lib.ListN.{length, getD, take, drop, length-drop}
 use lib.Seq.{split-at, take-take, length-take-le}
-use Rattle.base.proofs.Parts.{next, rest, middle}
-use Rattle.base.proofs.Tests.{never, by-eqb}
+use Rattle.base.proofs.Parts.{drop-cons-at, take-length-drop, take-drop-slice}
+use Rattle.base.proofs.Tests.{false-true, by-eqb}
 use Rattle.path.specs.Stem.{partsFrom, ignored, lastOf, component, parent, has, beforeLast, stemOf}
 use Rattle.path.specs.Code.Scan.{Last, StartsPart}
 
 -- a byte that a text has not
 module _ (b a : ℕ) (s : List ℕ) (h : has b (a ∷ s) ≡ false) where
   none-here : a ≡ b → ⊥
-  none-here e = never (sym h ∙ rw (eq-eqb a b e) refl)
+  none-here e = false-true (sym h ∙ rw (eq-eqb a b e) refl)
 
   none-behind : has b s ≡ false
-  none-behind = by-eqb a b (λ e. never (sym h ∙ rw (eq-eqb a b e) refl)) (λ n. rw (ne-eqb a b n) at h)
+  none-behind = by-eqb a b (λ e. false-true (sym h ∙ rw (eq-eqb a b e) refl)) (λ n. rw (ne-eqb a b n) at h)
 
 none-front : (b a : ℕ) (s : List ℕ) → (a ≡ b → ⊥) → has b s ≡ false → has b (a ∷ s) ≡ false
 none-front b a s n h = rw (ne-eqb a b n, h)
@@ -78,7 +78,7 @@ module _ (s : List ℕ) (end : ℕ) (k : end ≤ length s) where
       let o : i + 1 ≤ end = omega arith in
       let x : i ≡ i + 1 - 1 = omega arith in
       let y : take i t ≡ take (i + 1 - 1) s = take-take i end s (omega arith) ∙ ap (λ (j : ℕ). take j s) x in
-      let z : drop (i + 1) t ≡ take (end - (i + 1)) (drop (i + 1) s) = sym (middle s (i + 1) end o k) in
+      let z : drop (i + 1) t ≡ take (end - (i + 1)) (drop (i + 1) s) = sym (take-drop-slice s (i + 1) end o k) in
       record {
         ordered = o;
         last =
@@ -124,10 +124,10 @@ abbrev pub tail : List ℕ → List ℕ
 tail s = take (length s - 1) (drop 1 s)
 
 pub tail-length : (s : List ℕ) → length (tail s) ≡ length s - 1
-tail-length s = ap length (rest s 1) ∙ length-drop 1 s
+tail-length s = ap length (take-length-drop s 1) ∙ length-drop 1 s
 
 tail-cons : (a : ℕ) (s : List ℕ) → tail (a ∷ s) ≡ s
-tail-cons a s = rest (a ∷ s) 1
+tail-cons a s = take-length-drop (a ∷ s) 1
 
 pub stem-empty : (s : List ℕ) → length s ≡ 0 → stemOf s ≡ s
 stem-empty [] e = refl
@@ -152,7 +152,7 @@ module _ (b : ℕ) (s : List ℕ) (i : ℕ) (p : 0 < i) (k : i ≤ length s) (h 
   scan-hit e = let z : i - 1 + 1 ≡ i = omega arith in record { inside = omega arith; here = e; behind = rw z h }
 
   pub scan-miss : (getD s (i - 1) 0 ≡ b → ⊥) → has b (drop (i - 1) s) ≡ false
-  scan-miss n = rw (next s (i - 1) i (omega arith) (omega arith)) (none-front b (getD s (i - 1) 0) (drop i s) n h)
+  scan-miss n = rw (drop-cons-at s (i - 1) i (omega arith) (omega arith)) (none-front b (getD s (i - 1) 0) (drop i s) n h)
 
 -- the last component by the last part
 module _ (s : List ℕ) (end start : ℕ) (e : component s ≡ component (take end s)) (p : StartsPart s end start) where

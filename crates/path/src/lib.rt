@@ -41,7 +41,7 @@ fn last_component<'a>(path: &'a [u8]) -> &'a [u8]
     }
 }
 
-// Where the part starts that ends at a place: behind the last slash before it.
+// Where the part starts that ends at an offset: behind the last slash before it.
 fn part_start(path: &[u8], end: usize) -> usize
     requires { ⌜ end ≤ length (now path) ⌝ }
     ensures { λ r. ⌜ StartsPart (now (path .entry)) end r ⌝ }
@@ -85,7 +85,7 @@ fn stem<'a>(name: &'a [u8]) -> &'a [u8]
     }
 }
 
-// The last place at which b stands.
+// The last offset at which b stands.
 fn last_byte(s: &[u8], b: u8) -> Found
     ensures { λ r. ⌜ LastAt b (now (s .entry)) r ⌝ }
 {

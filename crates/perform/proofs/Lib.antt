@@ -1,3 +1,3 @@
 pub mod Needed
-pub mod Ends
+pub mod Results
 pub mod Laws

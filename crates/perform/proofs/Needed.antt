@@ -10,11 +10,11 @@ use lib.ListN.{length, getD, set, take, drop, length-set, length-append, length-
 use lib.Seq.{getD-set-same, getD-set-other, getD-take, getD-drop, getD-append-add, length-take-le, ext-getD}
 use lib.Dec.{eqb, leb, ltb}
 use borrow.Author.Tests.{eq-eqb, ne-eqb, le-leb, lt-leb, lt-ltb, le-ltb}
-use Rattle.base.proofs.Tests.{never, and-right, and-both, by-bool, by-eqb}
-use Rattle.base.proofs.Parts.{next}
+use Rattle.base.proofs.Tests.{false-true, and-right, and-both, by-bool, by-eqb}
+use Rattle.base.proofs.Parts.{drop-cons-at}
 use Rattle.kinds.specs.Kinds.{Operation, operation}
 use Rattle.kinds.proofs.ByKind.{takes-slot}
-use Rattle.machine.specs.Machine.{storeAt, priceOf, halt, decode, whole}
+use Rattle.machine.specs.Machine.{storeAt, priceOf, halt, decode, runToEnd}
 use Rattle.machine.specs.Code.Alike.{AlikeBut}
 use Rattle.machine.proofs.Alike.{Respects, same-whole}
 use Rattle.machine.proofs.Program.{decode-length, decode-at}
@@ -139,7 +139,7 @@ named-at ks vs (suc n) i j h e = go (decLt i n) (λ l. named-at ks vs n i j l e)
   where
     left : (a b : Bool) → a ≡ true → (a || b) ≡ true
     left true b q = refl
-    left false b q = never q
+    left false b q = false-true q
 
     right : (a b : Bool) → b ≡ true → (a || b) ≡ true
     right true b q = refl
@@ -162,7 +162,7 @@ stores-at (k ∷ ks) (suc i) h e = go (eqb k 12) (stores-at ks i (omega arith) e
 -- a hit so far, and what is left of the program
 pub store-next : (ks : List ℕ) (hit : Bool) (i : ℕ) → i < length ks → ((hit || eqb (getD ks i 0) 12) || stores (drop (i + 1) ks)) ≡ (hit || stores (drop i ks))
 unfolding stores
-store-next ks hit i h = rw (next ks i (i + 1) h refl) (go hit)
+store-next ks hit i h = rw (drop-cons-at ks i (i + 1) h refl) (go hit)
   where
     go : (b : Bool) → ((b || eqb (getD ks i 0) 12) || stores (drop (i + 1) ks)) ≡ (b || (eqb (getD ks i 0) 12 || stores (drop (i + 1) ks)))
     go true = refl
@@ -206,7 +206,7 @@ module _ (ks vs : List ℕ) (used : ℕ) where
           more = rw (store-length m i v) (omega (arith, r .more));
           same = λ j e. slot j (r .same j e);
           past = λ j l. slot j (r .past j l);
-          kept = λ j e l. r .kept j e l ∙ sym (store-other m′ i v j (λ q. never (sym e ∙ ap (changed ks vs used) q ∙ n)));
+          kept = λ j e l. r .kept j e l ∙ sym (store-other m′ i v j (λ q. false-true (sym e ∙ ap (changed ks vs used) q ∙ n)));
         }
       where
         slot : (j : ℕ) → getD m j 0 ≡ getD m′ j 0 → getD (storeAt m i v) j 0 ≡ getD (storeAt m′ i v) j 0
@@ -232,7 +232,7 @@ module _ (ks vs : List ℕ) (used : ℕ) where
       where
         go : Dec (i < length ks) → Respects (Serves ks vs used m₀) (getD (decode ks vs) i halt)
         go (yes h) = rw (decode-at ks vs i e h) (touches (operation (getD ks i 0) (getD vs i 0)) (λ j q. needed-at i j h q) (λ q. stores-at ks i h q))
-        go (no h) = rw (List·getD-eq-default (decode ks vs) halt {n = i} (omega (arith, decode-length ks vs e))) (touches halt (λ j q. never q) (λ q. never q))
+        go (no h) = rw (List·getD-eq-default (decode ks vs) halt {n = i} (omega (arith, decode-length ks vs e))) (touches halt (λ j q. false-true q) (λ q. false-true q))
 
   -- what is copied into the work buffer serves a run from the storage
   begins : (m w w₀ : List ℕ) → Copied (λ j. needed ks vs used j && ltb j used) m w w₀ → used ≤ length m → length w ≡ length m → Serves ks vs used m (take used w₀) (take used m)
@@ -259,7 +259,7 @@ module _ (ks vs : List ℕ) (used : ℕ) where
       go j e (no k) = past j (omega arith)
 
   pub served : (c g : ℕ) (m w w₀ : List ℕ) → length ks ≡ length vs → Copied (λ j. needed ks vs used j && ltb j used) m w w₀ → used ≤ length m → length w ≡ length m
-      → AlikeBut (Serves ks vs used m) (whole (decode ks vs) c (length m) g (take used w₀)) (whole (decode ks vs) c (length m) g (take used m))
+      → AlikeBut (Serves ks vs used m) (runToEnd (decode ks vs) c (length m) g (take used w₀)) (runToEnd (decode ks vs) c (length m) g (take used m))
   served c g m w w₀ e p h l = same-whole (Serves ks vs used m) (decode ks vs) c (length m) (respects m e) g (take used w₀) (take used m) (begins m w w₀ p h l)
 
   -- what is copied back is the storage that the run leaves

@@ -2,10 +2,10 @@
 use mathlib.Core.List.{[], _∷_}
 use Rattle.numbered.specs.declared.Numbered.{Numbered}
 use Rattle.numbered.specs.Numbered.{carrying}
-use Rattle.checks.specs.Numbers.{refusalNumbered}
-use Rattle.perform.specs.declared.Answer.{Answer}
-use Rattle.perform.specs.declared.Answer.the-variants.{Success, Refused}
+use Rattle.checks.specs.Numbers.{vmErrorNumbered}
+use Rattle.perform.specs.declared.RunAnswer.{RunAnswer}
+use Rattle.perform.specs.declared.RunAnswer.the-variants.{Success, Refused}
 
-abbrev pub answerNumbered : Answer → Numbered
-answerNumbered (Success gasSpent operations items state) = carrying 0 (gasSpent ∷ operations ∷ items ∷ state .used ∷ [])
-answerNumbered (Refused f) = refusalNumbered f
+abbrev pub runAnswerNumbered : RunAnswer → Numbered
+runAnswerNumbered (Success gasSpent operations items state) = carrying 0 (gasSpent ∷ operations ∷ items ∷ state .used ∷ [])
+runAnswerNumbered (Refused f) = vmErrorNumbered f

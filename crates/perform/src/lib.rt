@@ -5,8 +5,8 @@ ghost use Prim.Native.Nat.{ℕ, _≤_};
 ghost use lib.ListN.{length};
 ghost use Rattle.machine.specs.Machine.{Progress};
 ghost use Rattle.machine.specs.Code.Alike.{AlikeBut};
-ghost use Rattle.machine.specs.Code.Registers.{progressOf, faultOf, Held};
-ghost use Rattle.perform.specs.Numbers.{answerNumbered};
+ghost use Rattle.machine.specs.Code.Registers.{progressOf, faultOf, Bounds};
+ghost use Rattle.perform.specs.Numbers.{runAnswerNumbered};
 ghost use Rattle.perform.specs.Run.{Meets, performed, ofRun, refusalOf};
 ghost use Rattle.perform.specs.Lent.{Lent};
 ghost use Rattle.perform.specs.Code.Needed.{Serves};
@@ -14,7 +14,7 @@ ghost use Rattle.perform.specs.Code.Needed.{Serves};
 mod buffers;
 mod slots;
 
-use checks::Refusal;
+use checks::VmError;
 use machine::Regs;
 use numbered::Numbered;
 use numbered::carrying_four;
@@ -24,34 +24,34 @@ pub struct State {
     pub used: usize,
 }
 
-pub enum Answer {
+pub enum RunAnswer {
     Success {
         gas_spent: u64,
         operations: u64,
         items: usize,
         state: State,
     },
-    Refused(Refusal),
+    Refused(VmError),
 }
 
-impl Answer {
+impl RunAnswer {
     pub fn numbered(self) -> Numbered
-        ensures { λ r. ⌜ r ≡ answerNumbered self ⌝ }
+        ensures { λ r. ⌜ r ≡ runAnswerNumbered self ⌝ }
     {
         match self {
-            Answer::Success {
+            RunAnswer::Success {
                 gas_spent,
                 operations,
                 items,
                 state,
             } => carrying_four(0, gas_spent, operations, items as u64, state.used as u64),
-            Answer::Refused(f) => f.numbered(),
+            RunAnswer::Refused(f) => f.numbered(),
         }
     }
 }
 
 // The calls of crate `vm` come here behind their test of lengths (34) and the verifier. Where the program has more operations
-// than an eighth of the used slots, to look at it is no gain over copying them all. The loop is called at two places, so that LLVM
+// than an eighth of the used slots, scanning it costs more than copying them all. The loop is called at two places, so that LLVM
 // leaves it a function of its own, which is faster than inlined into this one.
 pub fn run(
     kinds: &[u8],
@@ -62,7 +62,7 @@ pub fn run(
     work: &mut [u64],
     storage: &mut [u64],
     state: State,
-) -> Answer
+) -> RunAnswer
     requires { ⌜ Lent (now kinds) (now operands) (now stack) (now work) (now storage) (state .used) ⌝ }
     ensures { λ a. ⌜ Meets (performed (record {
       kinds = now (kinds .entry);
@@ -112,9 +112,9 @@ fn finish(
     work: &mut [u64],
     storage: &mut [u64],
     state: State,
-) -> Answer
+) -> RunAnswer
     requires { ⌜ Lent (now kinds) (now operands) (now stack) (now work) (now storage) (state .used) ⌝ }
-    requires { ⌜ Held (length (now work)) r × (1 ≤ r .code) × (r .gas ≤ «gas_limit») ⌝ }
+    requires { ⌜ Bounds (length (now work)) r × (1 ≤ r .code) × (r .gas ≤ «gas_limit») ⌝ }
     ensures { λ a. ⌜ ((c : ℕ) (o : Progress) → AlikeBut
         (Serves (now (kinds .entry)) (now (operands .entry)) (state .used) (now (storage .entry)))
         (progressOf (now (stack .entry)) (now (work .entry)) r) o
@@ -133,7 +133,7 @@ fn finish(
     if r.code != 1 {
         buffers::clear_from(stack, 0);
         buffers::clear_from(work, 0);
-        return Answer::Refused(refusal_of(r.code, r.note, r.gas));
+        return RunAnswer::Refused(refusal_of(r.code, r.note, r.gas));
     }
     let items = r.items;
     let used = r.used;
@@ -142,7 +142,7 @@ fn finish(
     slots::copy_changed(storage, work, kinds, operands, before);
     buffers::copy_part(storage, work, before, used);
     buffers::clear_from(work, 0);
-    Answer::Success {
+    RunAnswer::Success {
         gas_spent: gas_limit - r.gas,
         operations: r.ops,
         items,
@@ -151,15 +151,15 @@ fn finish(
 }
 
 // The refusal that registers hold whose code is neither 0 nor 1.
-fn refusal_of(code: u64, note: u64, left: u64) -> Refusal
+fn refusal_of(code: u64, note: u64, left: u64) -> VmError
     ensures { λ f. ⌜ f ≡ refusalOf (faultOf code note left) ⌝ }
 {
     match code {
-        47 => Refusal::StackUnderflow,
-        48 => Refusal::StackLimitExceeded,
-        49 => Refusal::DivisionByZero,
-        50 => Refusal::StorageLimitExceeded(note),
-        51 => Refusal::OutsideStorage,
-        _ => Refusal::OutOfGas { price: note, left },
+        47 => VmError::StackUnderflow,
+        48 => VmError::StackLimitExceeded,
+        49 => VmError::DivisionByZero,
+        50 => VmError::StorageLimitExceeded(note),
+        51 => VmError::OutsideStorage,
+        _ => VmError::OutOfGas { price: note, left },
     }
 }

@@ -6,7 +6,7 @@ use mathlib.Core.List.{List, [], _∷_}
 use Rattle.base.specs.Ascii.{ascii}
 use Rattle.base.specs.Equal.{equal}
 use Rattle.base.specs.Need.{need}
-use Rattle.base.proofs.Tests.{never}
+use Rattle.base.proofs.Tests.{false-true}
 use Rattle.context.specs.declared.ContextError.{ContextError}
 use Rattle.context.specs.declared.ContextError.the-variants.{InvalidChainId, InvalidNetworkId, InvalidGenesisId, ProtocolMismatch, VmMismatch, GenesisMismatch}
 use Rattle.context.specs.declared.Gate.{Gate}
@@ -45,4 +45,4 @@ validate-gives chain network genesis protocol vm expectedProtocol expectedVm =
   where
     go : (b : Bool) → b ≡ true → Validates (need b (gate.Refused GenesisMismatch) gate.Passed)
     go true e = refl
-    go false e = never e
+    go false e = false-true e

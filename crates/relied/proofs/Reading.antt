@@ -12,21 +12,21 @@ use Rattle.utf8.specs.Utf8.{utf8}
 use Rattle.search.specs.First.{prefixOf}
 use Rattle.search.proofs.Prefix.{fits}
 use Rattle.lines.specs.Lines.{lines}
-use Rattle.trim.specs.Trim.{startTrimmed, trimmed, passed}
+use Rattle.trim.specs.Trim.{startTrimmed, trimmed, leadingBlanks}
 use Rattle.trim.proofs.Laws.{startTrimmed-length, endTrimmed-length}
 use Rattle.decimal.specs.declared.Number.{Number}
 use Rattle.decimal.specs.declared.Number.the-variants.{Is, Invalid}
 use Rattle.kinds.specs.Kinds as Operands
 use Rattle.kinds.specs.Kinds.{Operand, Kind, kinds, kindOf, Operation, operation}
-use Rattle.ops.specs.Kinds.{follows, partOf, partedFrom, parted}
+use Rattle.ops.specs.Kinds.{follows, headWith, headFrom, headOf}
 use Rattle.ops.specs.Kinds as Kinds
-use Rattle.ops.specs.Line.{Rule, fromStr, badNumber, ofNumber, partRead, skipped, lineOf}
+use Rattle.ops.specs.Line.{Rule, fromStr, badNumber, ofNumber, headRead, skipped, lineOf}
 use Rattle.ops.specs.Numbers.{opsErrorNumbered, parsedOpsNumbered}
 use Rattle.base.specs.Outcome.{is, refused, andThen}
 use Rattle.ops.specs.Ops.{Reading, startOf, thenRead, readLines, notEmpty, readBy, answerOf, opsOf}
 use Rattle.ops.specs.Written.{Each, none, one}
-use Rattle.ops.specs.declared.kind.Parted.{Parted}
-use Rattle.ops.specs.declared.kind.Parted.the-variants.{Alone, Before, Unknown}
+use Rattle.ops.specs.declared.kind.Head.{Head}
+use Rattle.ops.specs.declared.kind.Head.the-variants.{Alone, Before, Unknown}
 use Rattle.ops.specs.declared.OpsError.the-variants.{NotUtf8}
 use Rattle.ops.specs.declared.line.LineRead.{LineRead}
 use Rattle.ops.specs.declared.line.LineRead.the-variants.{Skip, Op, Bad}
@@ -36,7 +36,7 @@ use Rattle.relied.proofs.Among.{widen}
 use Rattle.relied.proofs.Lines.{size, lines-size, lines-count}
 
 -- a line that starts with a kind's word has two bytes or more
-abbrev Worded : List ℕ → Parted → Type 0
+abbrev Worded : List ℕ → Head → Type 0
 Worded t (Alone k) = (k ≤ 15) × (2 ≤ length t)
 Worded t (Before k n) = (k ≤ 15) × (2 ≤ length t)
 Worded t Unknown = Unit {0}
@@ -45,7 +45,7 @@ abbrev long : List Kind → Bool
 long [] = true
 long (w ∷ ws) = leb 2 (length (w .word)) && long ws
 
-part-worded : (k : ℕ) (w : Kind) (t : List ℕ) → k ≤ 15 → 2 ≤ length (w .word) → Kinds.fits w t ≡ true → Worded t (partOf k w)
+part-worded : (k : ℕ) (w : Kind) (t : List ℕ) → k ≤ 15 → 2 ≤ length (w .word) → Kinds.fits w t ≡ true → Worded t (headWith k w)
 part-worded k w t h l = go (follows (w .operand))
   where
     go : (b : Bool) → cond b (prefixOf (w .word ++ 32 ∷ []) t) (prefixOf (w .word) t && eqb (length t) (length (w .word))) ≡ true
@@ -53,15 +53,15 @@ part-worded k w t h l = go (follows (w .operand))
     go true e = let m = fits (w .word ++ 32 ∷ []) t e in (h, omega (arith, length-append (w .word) (32 ∷ [])))
     go false e = let m = fits (w .word) t (and-left (prefixOf (w .word) t) (eqb (length t) (length (w .word))) e) in (h, omega arith)
 
-table-worded : (ws : List Kind) (k : ℕ) (t : List ℕ) → k + length ws ≤ 16 → long ws ≡ true → Worded t (partedFrom k ws t)
+table-worded : (ws : List Kind) (k : ℕ) (t : List ℕ) → k + length ws ≤ 16 → long ws ≡ true → Worded t (headFrom k ws t)
 table-worded [] k t h e = tt
 table-worded (w ∷ ws) k t h e = go (Kinds.fits w t) refl (table-worded ws (suc k) t (omega arith) (and-right (leb 2 (length (w .word))) (long ws) e))
   where
-    go : (b : Bool) → Kinds.fits w t ≡ b → Worded t (partedFrom (suc k) ws t) → Worded t (cond b (partOf k w) (partedFrom (suc k) ws t))
+    go : (b : Bool) → Kinds.fits w t ≡ b → Worded t (headFrom (suc k) ws t) → Worded t (cond b (headWith k w) (headFrom (suc k) ws t))
     go true f ih = part-worded k w t (omega arith) (leb-true 2 (length (w .word)) (and-left (leb 2 (length (w .word))) (long ws) e)) f
     go false f ih = ih
 
-parted-worded : (t : List ℕ) → Worded t (parted t)
+parted-worded : (t : List ℕ) → Worded t (headOf t)
 parted-worded t = table-worded kinds 0 t (omega arith) refl
 
 -- what a line of n bytes says
@@ -85,11 +85,11 @@ number-says n k line place len Invalid h l = go (kindOf k .operand)
     go Operands.slot = refl
     go Operands.target = refl
 
-part-says : (rule : Rule) (line place : ℕ) (t : List ℕ) (x : Parted) → Worded t x → Says (length t) (partRead rule line place t x)
+part-says : (rule : Rule) (line place : ℕ) (t : List ℕ) (x : Head) → Worded t x → Says (length t) (headRead rule line place t x)
 part-says rule line place t (Alone k) h = h
 part-says rule line place t (Before k n) h =
     let rest = drop n t in
-    number-says (length t) k line (place + n + passed rest) (length (trimmed rest)) (rule (kindOf k .operand) (trimmed rest)) (h .0) (h .1)
+    number-says (length t) k line (place + n + leadingBlanks rest) (length (trimmed rest)) (rule (kindOf k .operand) (trimmed rest)) (h .0) (h .1)
 part-says rule line place t Unknown h = refl
 
 trimmed-length : (l : List ℕ) → length (trimmed l) ≤ length l
@@ -98,11 +98,11 @@ trimmed-length l = omega (arith, endTrimmed-length (startTrimmed l), startTrimme
 line-says : (rule : Rule) (line start : ℕ) (l : List ℕ) → Says (length l) (lineOf rule line start l)
 line-says rule line start l = go (skipped (trimmed l))
   where
-    go : (b : Bool) → Says (length l) (cond b Skip (partRead rule line (start + passed l) (trimmed l) (parted (trimmed l))))
+    go : (b : Bool) → Says (length l) (cond b Skip (headRead rule line (start + leadingBlanks l) (trimmed l) (headOf (trimmed l))))
     go true = tt
     go false =
-        longer (length (trimmed l)) (length l) (partRead rule line (start + passed l) (trimmed l) (parted (trimmed l))) (trimmed-length l)
-        (part-says rule line (start + passed l) (trimmed l) (parted (trimmed l)) (parted-worded (trimmed l)))
+        longer (length (trimmed l)) (length l) (headRead rule line (start + leadingBlanks l) (trimmed l) (headOf (trimmed l))) (trimmed-length l)
+        (part-says rule line (start + leadingBlanks l) (trimmed l) (headOf (trimmed l)) (parted-worded (trimmed l)))
 
 -- what lines give, by their count, the bytes that they take and the room
 record Got (bytes room : ℕ) (os : List Operation) : Type 0 where

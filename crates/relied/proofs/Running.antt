@@ -10,31 +10,31 @@ use lib.ListN.{length, getD, take}
 use lib.Dec.{ltb, leb, eqb}
 use borrow.Author.Tests.{lt-ltb, le-leb, eq-eqb, ltb-true, ltb-false, leb-true, leb-false, eqb-true, eqb-false}
 use Rattle.base.specs.Need.{need}
-use Rattle.base.proofs.Tests.{never, and-both}
+use Rattle.base.proofs.Tests.{false-true, and-both}
 use Rattle.word.specs.Apply.{Binary, add, sub, mul, div, eq, lt, apply}
 use Rattle.kinds.specs.Kinds.{Operation, operation}
 use Rattle.kinds.proofs.ByKind.{Span, end, _&_, span, priced, unpriced}
 use Rattle.context.specs.declared.Gate.{Gate}
 use Rattle.context.specs.declared.Gate.the-variants as gate
-use Rattle.machine.specs.Machine.{Fault, outOfGas, stackLimitExceeded, storageLimitExceeded, outsideStorage, Frame, Effect, moves, jumps, ends, fails, over, costs, next, done, stop, storeAt, pushOf, valueOf, twoOf, dupOf, swapOf, jumpIfOf, storeOf, requested, effectOf, priceOf, settle, pay, actOf, decode, halt, machine, follow, runOf, start, whole, Progress}
+use Rattle.machine.specs.Machine.{Fault, outOfGas, stackLimitExceeded, storageLimitExceeded, outsideStorage, Frame, Effect, moves, jumps, ends, fails, over, costs, next, done, stop, storeAt, pushOf, resultOf, binopOf, dupOf, swapOf, jumpIfOf, storeOf, effectOf, priceOf, settle, pay, actOf, decode, halt, machine, follow, runOf, start, runToEnd, Progress}
 use Rattle.machine.proofs.Program.{effect-high}
 use Rattle.machine.proofs.Runs.{unpaid, afforded, Ended, whole-ends}
 use Rattle.ops.specs.Written as Written
 use Rattle.ops.specs.Written.{Each}
-use Rattle.checks.specs.declared.Refusal.{Refusal}
-use Rattle.checks.specs.declared.Refusal.the-variants.{BufferLengths, EmptyProgram, ProgramTooLarge, StorageTooLarge, UnknownKind, JumpOutOfRange}
+use Rattle.checks.specs.declared.VmError.{VmError}
+use Rattle.checks.specs.declared.VmError.the-variants.{BufferLengths, EmptyProgram, ProgramTooLarge, StorageTooLarge, UnknownKind, JumpOutOfRange}
 use Rattle.checks.specs.declared.Check.{Check}
 use Rattle.checks.specs.declared.Check.the-variants as check
 use Rattle.checks.specs.Numbers.{checkNumbered}
 use Rattle.checks.specs.Verify.{thenCheck, buffersFit, gateCheck, targetFits, operationCheck, operationsCheck, verifyOf}
 use Rattle.perform.specs.Call.{Call}
 use Rattle.perform.specs.Lent.{Lent}
-use Rattle.perform.specs.Numbers.{answerNumbered}
+use Rattle.perform.specs.Numbers.{runAnswerNumbered}
 use Rattle.perform.specs.Run.{refusalOf, ofRun, performed}
 use Rattle.vm.specs.Transition.{afterCheck, lengthsCheck, checksOf, runUnder}
 use Rattle.vm.specs.Refusals.{refusalNumber}
 use Rattle.relied.specs.Numbers.{Among}
-use Rattle.relied.specs.Running.{Known, VerifyRelied, Handed, RunRelied}
+use Rattle.relied.specs.Running.{KnownKinds, VerifyRelied, Handed, RunRelied}
 use Rattle.relied.proofs.Among.{allIn, widen}
 use Rattle.relied.proofs.Gate.{gate-gives}
 
@@ -54,11 +54,11 @@ each f (a ∷ l) = Written.one (f a) (each f l)
 
 -- the run of a call
 abbrev pub ran : Call → Progress
-ran x = whole (decode (x .kinds) (x .operands)) (x .caller) (length (x .storage)) (x .limit) (take (x .state .used) (x .storage))
+ran x = runToEnd (decode (x .kinds) (x .operands)) (x .caller) (length (x .storage)) (x .limit) (take (x .state .used) (x .storage))
 
 -- the number that a call whose own test is `own` answers
 abbrev answerNumber : Check → Call → ℕ
-answerNumber own x = answerNumbered (runUnder own check.Passed (λ r. r) x .answer) .number
+answerNumber own x = runAnswerNumbered (runUnder own check.Passed (λ r. r) x .answer) .number
 
 abbrev faultNumber : Fault → ℕ
 faultNumber f = refusalNumber (refusalOf f)
@@ -68,7 +68,7 @@ module _ (P : ℕ → Type 0) where
   abbrev Gives : Check → Type 0
   Gives c = P (checkNumbered c .number)
 
-  need-gives : (b : Bool) (f : Refusal) (c : Check) → (b ≡ false → P (refusalNumber f)) → Gives c → Gives (need b (check.Refused f) c)
+  need-gives : (b : Bool) (f : VmError) (c : Check) → (b ≡ false → P (refusalNumber f)) → Gives c → Gives (need b (check.Refused f) c)
   need-gives true f c h g = g
   need-gives false f c h g = h refl
 
@@ -141,11 +141,11 @@ module _ (P : ℕ → Type 0) where
     push-fails : (v : ℕ) (s m : List ℕ) → Fails (pushOf v s m)
     push-fails v s m = cond-fails (ltb (length s) 4096) (moves (v ∷ s) m) (fails stackLimitExceeded) (λ e. tt) (λ e. r .items)
 
-    value-fails : (o : Option ℕ) (s m : List ℕ) → Fails (valueOf o s m)
+    value-fails : (o : Option ℕ) (s m : List ℕ) → Fails (resultOf o s m)
     value-fails none s m = r .divisor
     value-fails (some v) s m = tt
 
-    two-fails : (b : Binary) (s m : List ℕ) → Fails (twoOf b s m)
+    two-fails : (b : Binary) (s m : List ℕ) → Fails (binopOf b s m)
     two-fails b [] m = r .underflow
     two-fails b (y ∷ []) m = r .underflow
     two-fails b (y ∷ x ∷ s) m = value-fails (apply b x y) s m
@@ -166,7 +166,7 @@ module _ (P : ℕ → Type 0) where
     store-fails : (room i : ℕ) (s m : List ℕ) → (i < 65536 → room ≤ i → P 51) → Fails (storeOf room i s m)
     store-fails room i [] m o = r .underflow
     store-fails room i (v ∷ s) m o =
-        cond-fails (ltb i 65536) _ (fails (storageLimitExceeded (requested i)))
+        cond-fails (ltb i 65536) _ (fails (storageLimitExceeded _))
         (λ e. cond-fails (ltb i room) (moves s (storeAt m i v)) (fails outsideStorage) (λ f. tt) (λ f. o (ltb-true i 65536 e) (ltb-false i room f)))
         (λ e. r .slots)
 
@@ -232,8 +232,8 @@ module _ (P : ℕ → Type 0) where
           go (done i f) p ih = tt
           go (stop f) p ih = p
 
-      whole-stops : (g : ℕ) (m : List ℕ) → Stops (whole program c room g m)
-      unfolding whole
+      whole-stops : (g : ℕ) (m : List ℕ) → Stops (runToEnd program c room g m)
+      unfolding runToEnd
       whole-stops g m = run-stops (g + 1) g (start m)
 
   run-gives : (own : Check) (x : Call) → Gives own → Verifying (x .kinds) (x .operands) → Gives (lengthsCheck x) → Stops (ran x)
@@ -245,7 +245,7 @@ module _ (P : ℕ → Type 0) where
       (then-gives (lengthsCheck x) (thenCheck own (thenCheck v check.Passed)) b (then-gives own (thenCheck v check.Passed) q t))
       r (whole-ends (decode (x .kinds) (x .operands)) (x .caller) (length (x .storage)) (x .limit) (take (x .state .used) (x .storage)))
     where
-      go : (c : Check) (o : Progress) → Gives c → Stops o → Ended o → P (answerNumbered (afterCheck c x (ofRun x o) .answer) .number)
+      go : (c : Check) (o : Progress) → Gives c → Stops o → Ended o → P (runAnswerNumbered (afterCheck c x (ofRun x o) .answer) .number)
       go (check.Refused f) o p q z = p
       go check.Passed (next i fr) p q z = absurd z
       go check.Passed (done i fr) p q z = p
@@ -281,7 +281,7 @@ module _ (ns : List ℕ) where
       record { gas = p 46 refl; underflow = p 47 refl; items = p 48 refl; divisor = p 49 refl; slots = p 50 refl }
 
 -- known kinds are none that 44 refuses
-known-44 : {P : Type 0} {ks : List ℕ} → Known ks → Each (λ k. leb k 15 ≡ false → P) ks
+known-44 : {P : Type 0} {ks : List ℕ} → KnownKinds ks → Each (λ k. leb k 15 ≡ false → P) ks
 known-44 h = each-of (λ k l e. absurd (omega (arith, leb-false k 15 e))) h
 
 pub verify-relied : (ks vs : List ℕ) (used : ℕ) → VerifyRelied ks vs used
@@ -330,7 +330,7 @@ module _ (ns : List ℕ) (own : Check) (x : Call) (o : Gives (Among ns) own) (v 
       run-gives (Among ns) own x o
       (verifying ns v (x .kinds) (x .operands) (λ e. absurd (eqb-false (length (x .kinds)) (length (x .operands)) e (h .lent .program))) (known-44 (h .known)))
       (need-gives (Among ns) fit BufferLengths check.Passed
-      (λ e. never (sym e ∙ fits (x .kinds) (x .operands) (x .stack) (x .work) (x .storage) (x .state .used) (h .lent))) zero-among)
+      (λ e. false-true (sym e ∙ fits (x .kinds) (x .operands) (x .stack) (x .work) (x .storage) (x .state .used) (h .lent))) zero-among)
       (whole-stops (Among ns) (running ns r) (decode (x .kinds) (x .operands)) (x .caller) (length (x .storage))
       (each-of (λ op p e l q. absurd (let z = p e l in omega arith)) (h .stores)) (x .limit) (take (x .state .used) (x .storage)))
 
@@ -353,14 +353,14 @@ first-over c room fr o = (
 follow-over : (k : ℕ) (o : Progress) (more : ℕ → Frame → Progress) → OverAt k o → OverAt k (follow o more)
 follow-over k o more h = (λ l. (h .0 l .0, h .0 l .1, rw (h .0 l .2)), λ l. (h .1 l .0, rw (h .1 l .1)))
 
-unmetered-over : (program : List Operation) (c room : ℕ) (m : List ℕ) → OverAt (getD program 0 halt .kind) (whole program c room 0 m)
-unfolding whole runOf
+unmetered-over : (program : List Operation) (c room : ℕ) (m : List ℕ) → OverAt (getD program 0 halt .kind) (runToEnd program c room 0 m)
+unfolding runToEnd runOf
 unmetered-over [] c room m = (λ h. (0, start m, refl), λ h. absurd (omega arith))
 unmetered-over (op ∷ program) c room m =
     rw (lt-ltb 0 (suc (length program)) (omega arith))
     (follow-over (op .kind) (pay 0 (start m) (actOf c room op (start m))) (runOf (machine (op ∷ program) c room) 0) (first-over c room (start m) op))
 
-unmetered-stops : (P : ℕ → Type 0) → P 46 → (program : List Operation) (c room : ℕ) (m : List ℕ) → Stops P (whole program c room 0 m)
+unmetered-stops : (P : ℕ → Type 0) → P 46 → (program : List Operation) (c room : ℕ) (m : List ℕ) → Stops P (runToEnd program c room 0 m)
 unmetered-stops P g program c room m = go (decLt (getD program 0 halt .kind) 15) (unmetered-over program c room m)
   where
     go : {o : Progress} → Dec (getD program 0 halt .kind < 15) → OverAt (getD program 0 halt .kind) o → Stops P o
@@ -368,7 +368,7 @@ unmetered-stops P g program c room m = go (decLt (getD program 0 halt .kind) 15)
     go (no h) e = rw (e .0 (omega arith) .2) tt
 
 -- tests that pass
-need-passed : (b : Bool) (f : Refusal) (c : Check) → need b (check.Refused f) c ≡ check.Passed → (b ≡ true) × (c ≡ check.Passed)
+need-passed : (b : Bool) (f : VmError) (c : Check) → need b (check.Refused f) c ≡ check.Passed → (b ≡ true) × (c ≡ check.Passed)
 need-passed true f c e = (refl, e)
 need-passed false f c e = absurd (let z : _≡_ {A = ℕ} 0 1 = cc in omega arith)
 
@@ -402,13 +402,13 @@ verified-first ks vs used e =
 abbrev ByFirst : ℕ → ℕ → Type 0
 ByFirst k n = (k ≡ 15 → n ≡ 0) × ((k ≡ 15 → ⊥) → n ≡ 46)
 
-over-number : (x : Call) (k : ℕ) (o : Progress) → k ≤ 15 → OverAt k o → ByFirst k (answerNumbered (ofRun x o .answer) .number)
+over-number : (x : Call) (k : ℕ) (o : Progress) → k ≤ 15 → OverAt k o → ByFirst k (runAnswerNumbered (ofRun x o .answer) .number)
 over-number x k o l h = (λ e. rw (h .0 (omega arith) .2), λ e. rw (h .1 (omega arith) .1))
 
 passed-number : (own : Check) (x : Call) → x .limit ≡ 0 → checksOf own check.Passed x ≡ check.Passed
     → ByFirst (getD (x .kinds) 0 0) (answerNumber own x)
 passed-number own x z e =
-    subst (λ (c : Check). ByFirst (getD (x .kinds) 0 0) (answerNumbered (afterCheck c x (performed x) .answer) .number)) (sym e)
+    subst (λ (c : Check). ByFirst (getD (x .kinds) 0 0) (runAnswerNumbered (afterCheck c x (performed x) .answer) .number)) (sym e)
     (over-number x (getD (x .kinds) 0 0) (ran x) (first .known) over-first)
   where
     first : First (x .kinds) (x .operands)

@@ -6,18 +6,18 @@ use mathlib.Core.List.{List}
 use lib.ListN.{length, take, drop}
 use lib.Seq.{take-at}
 use Rattle.machine.specs.Machine.{Progress, next, done, stop}
-use Rattle.checks.specs.declared.Refusal.{Refusal}
+use Rattle.checks.specs.declared.VmError.{VmError}
 use Rattle.checks.specs.declared.Check.{Check}
 use Rattle.checks.specs.declared.Check.the-variants as check
 use Rattle.perform.specs.declared.State.{State}
-use Rattle.perform.specs.declared.Answer.the-variants.{Refused}
+use Rattle.perform.specs.declared.RunAnswer.the-variants.{Refused}
 use Rattle.perform.specs.Call.{Call}
-use Rattle.perform.specs.Run.{Result, ofRun}
+use Rattle.perform.specs.Run.{RunResult, ofRun}
 use Rattle.vm.specs.Transition.{afterCheck, checksOf, runUnder}
 use Rattle.relied.specs.Running.{SameRun}
 use Rattle.relied.proofs.Running.{ran}
 
-refused : (t u : Result) (f : Refusal) → t .answer ≡ Refused f → u .answer ≡ Refused f → SameRun t u
+refused : (t u : RunResult) (f : VmError) → t .answer ≡ Refused f → u .answer ≡ Refused f → SameRun t u
 refused t u f p q = record { answer = p ∙ sym q; success = λ spent operations items after e. absurd (let z : _≡_ {A = ℕ} 0 1 = cc in omega arith) }
 
 -- the header: "What the stack and work buffers hold before doesn't matter, nor what the storage buffer holds past `used`";
@@ -38,7 +38,7 @@ module _ (own : Check) (x : Call) (stack work storage : List ℕ)
     storage = storage;
   }
 
-  result : Call → Check → Progress → Result
+  result : Call → Check → Progress → RunResult
   result z c o = afterCheck c z (ofRun z o)
 
   by-progress : (c : Check) (o : Progress) → SameRun (result x c o) (result other c o)

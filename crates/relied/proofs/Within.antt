@@ -12,14 +12,14 @@ use borrow.Author.Tests.{ltb-true}
 use Rattle.word.specs.Apply.{Binary, add, sub, mul, div, eq, lt, apply}
 use Rattle.kinds.specs.Kinds.{Operation, operation}
 use Rattle.kinds.proofs.ByKind.{Span, end, _&_, span}
-use Rattle.machine.specs.Machine.{outOfGas, stackLimitExceeded, storageLimitExceeded, outsideStorage, Frame, Effect, moves, jumps, ends, fails, over, costs, next, done, stop, storeAt, pushOf, valueOf, twoOf, dupOf, swapOf, jumpIfOf, storeOf, requested, effectOf, priceOf, settle, pay, actOf, decode, halt, machine, follow, runOf, start, whole, Progress}
+use Rattle.machine.specs.Machine.{outOfGas, stackLimitExceeded, storageLimitExceeded, outsideStorage, Frame, Effect, moves, jumps, ends, fails, over, costs, next, done, stop, storeAt, pushOf, resultOf, binopOf, dupOf, swapOf, jumpIfOf, storeOf, effectOf, priceOf, settle, pay, actOf, decode, halt, machine, follow, runOf, start, runToEnd, Progress}
 use Rattle.machine.proofs.Program.{effect-high}
 use Rattle.machine.proofs.Slots.{store-length}
-use Rattle.checks.specs.declared.Refusal.{Refusal}
+use Rattle.checks.specs.declared.VmError.{VmError}
 use Rattle.checks.specs.declared.Check.{Check}
 use Rattle.checks.specs.declared.Check.the-variants as check
 use Rattle.perform.specs.declared.State.{State}
-use Rattle.perform.specs.declared.Answer.the-variants.{Success, Refused}
+use Rattle.perform.specs.declared.RunAnswer.the-variants.{Success, Refused}
 use Rattle.perform.specs.Call.{Call}
 use Rattle.perform.specs.Run.{ofRun}
 use Rattle.vm.specs.Transition.{afterCheck, checksOf, runUnder}
@@ -50,7 +50,7 @@ module _ (room : ℕ) where
   push-leaves v s m h =
       cond-leaves (ltb (length s) 4096) (moves (v ∷ s) m) (fails stackLimitExceeded) (λ e. record { stack = omega (arith, ltb-true (length s) 4096 e); storage = h }) (λ e. tt)
 
-  value-leaves : (o : Option ℕ) (s m : List ℕ) → suc (length s) ≤ 4096 → length m ≤ room → Leaves (valueOf o s m)
+  value-leaves : (o : Option ℕ) (s m : List ℕ) → suc (length s) ≤ 4096 → length m ≤ room → Leaves (resultOf o s m)
   value-leaves none s m l h = tt
   value-leaves (some v) s m l h = record { stack = omega arith; storage = h }
 
@@ -60,7 +60,7 @@ module _ (room : ℕ) where
       let b = ltb-true i room e in
       record { stack = l; storage = omega arith }
 
-  two-leaves : (o : Binary) (s m : List ℕ) → length s ≤ 4096 → length m ≤ room → Leaves (twoOf o s m)
+  two-leaves : (o : Binary) (s m : List ℕ) → length s ≤ 4096 → length m ≤ room → Leaves (binopOf o s m)
   two-leaves o [] m l h = tt
   two-leaves o (b ∷ []) m l h = tt
   two-leaves o (b ∷ a ∷ s) m l h = value-leaves (apply o a b) s m (omega arith) h
@@ -86,7 +86,7 @@ module _ (room : ℕ) where
   store-leaves : (i : ℕ) (s m : List ℕ) → length s ≤ 4096 → length m ≤ room → Leaves (storeOf room i s m)
   store-leaves i [] m l h = tt
   store-leaves i (v ∷ s) m l h =
-      cond-leaves (ltb i 65536) _ (fails (storageLimitExceeded (requested i)))
+      cond-leaves (ltb i 65536) _ (fails (storageLimitExceeded _))
       (λ e. cond-leaves (ltb i room) (moves s (storeAt m i v)) (fails outsideStorage) (λ f. stored i v s m (omega arith) h f) (λ f. tt))
       (λ e. tt)
 
@@ -156,8 +156,8 @@ module _ (room : ℕ) where
         go (done h f) p ih = p
         go (stop f) p ih = tt
 
-    whole-reaches : (g : ℕ) (m : List ℕ) → length m ≤ room → Reaches (whole program c room g m)
-    unfolding whole
+    whole-reaches : (g : ℕ) (m : List ℕ) → length m ≤ room → Reaches (runToEnd program c room g m)
+    unfolding runToEnd
     whole-reaches g m h = run-reaches (g + 1) g (start m) (record { stack = omega arith; storage = h })
 
 -- `Vm::perform` takes as many items of its stack buffer and as many slots of its storage buffer as the answer says: a success has
@@ -170,7 +170,7 @@ success-within own x spent operations items after =
     go (checksOf own check.Passed x) (ran x)
     (whole-reaches (length (x .storage)) (decode (x .kinds) (x .operands)) (x .caller) (x .limit) (take (x .state .used) (x .storage)) (simp length-take (omega arith)))
   where
-    not-success : {A : Type 0} (f : Refusal) → Refused f ≡ Success spent operations items after → A
+    not-success : {A : Type 0} (f : VmError) → Refused f ≡ Success spent operations items after → A
     not-success f e = let z : _≡_ {A = ℕ} 0 1 = cc in absurd (omega arith)
 
     go : (c : Check) (o : Progress) → Reaches (length (x .storage)) o → afterCheck c x (ofRun x o) .answer ≡ Success spent operations items after

@@ -11,11 +11,11 @@ use Rattle.checks.specs.declared.Check.the-variants.{Passed}
 use Rattle.checks.specs.Numbers.{checkNumbered}
 use Rattle.checks.specs.Verify.{gateCheck, verifyOf}
 use Rattle.perform.specs.declared.State.{State}
-use Rattle.perform.specs.declared.Answer.the-variants.{Success}
+use Rattle.perform.specs.declared.RunAnswer.the-variants.{Success}
 use Rattle.perform.specs.Call.{Call}
 use Rattle.perform.specs.Lent.{Lent}
-use Rattle.perform.specs.Numbers.{answerNumbered}
-use Rattle.perform.specs.Run.{Result}
+use Rattle.perform.specs.Numbers.{runAnswerNumbered}
+use Rattle.perform.specs.Run.{RunResult}
 use Rattle.vm.specs.Transition.{checksOf, meteredOf, transitionOf}
 use Rattle.relied.specs.Numbers.{Among}
 
@@ -24,14 +24,14 @@ abbrev pub verifyNumber : (ks vs : List ℕ) → ℕ → ℕ
 verifyNumber ks vs used = checkNumbered (verifyOf ks vs used) .number
 
 abbrev pub meteredNumber : Call → ℕ
-meteredNumber x = answerNumbered (meteredOf x .answer) .number
+meteredNumber x = runAnswerNumbered (meteredOf x .answer) .number
 
 abbrev pub transitionNumber : Gate → Call → ℕ
-transitionNumber gate x = answerNumbered (transitionOf gate x .answer) .number
+transitionNumber gate x = runAnswerNumbered (transitionOf gate x .answer) .number
 
 -- every kind is one of the sixteen, as `Op::encode` gives them
-abbrev pub Known : List ℕ → Type 0
-Known ks = Each (λ k. k ≤ 15) ks
+abbrev pub KnownKinds : List ℕ → Type 0
+KnownKinds ks = Each (λ k. k ≤ 15) ks
 
 -- a slot that a Store, kind 12, names lies within a storage of `room` slots, or is 65,536 or more
 abbrev pub StoresWithin : ℕ → Operation → Type 0
@@ -42,12 +42,12 @@ pub record VerifyRelied (ks vs : List ℕ) (used : ℕ) : Type 0 where
   -- the header: "Gives 0, 34 (for kinds and operands), 41 to 45"
   pub gives : Among (0 ∷ 34 ∷ 41 ∷ 42 ∷ 43 ∷ 44 ∷ 45 ∷ []) (verifyNumber ks vs used)
   -- the `unreachable!` of `VmError::of` under `Vm::verify`: no 34, no 44
-  pub known : length ks ≡ length vs → Known ks → Among (0 ∷ 41 ∷ 42 ∷ 43 ∷ 45 ∷ []) (verifyNumber ks vs used)
+  pub known : length ks ≡ length vs → KnownKinds ks → Among (0 ∷ 41 ∷ 42 ∷ 43 ∷ 45 ∷ []) (verifyNumber ks vs used)
 
 -- what `Vm::perform` hands over: buffers that fit, known kinds, and storage up to the highest slot below 65,536 that a Store names
 pub record Handed (x : Call) : Type 0 where
   pub lent : Lent (x .kinds) (x .operands) (x .stack) (x .work) (x .storage) (x .state .used)
-  pub known : Known (x .kinds)
+  pub known : KnownKinds (x .kinds)
   pub stores : Each (StoresWithin (length (x .storage))) (decode (x .kinds) (x .operands))
 
 -- any call
@@ -76,7 +76,7 @@ pub record RunRelied (x : Call) : Type 0 where
       → Among (0 ∷ 35 ∷ 36 ∷ 37 ∷ 38 ∷ 39 ∷ 40 ∷ 41 ∷ 42 ∷ 43 ∷ 45 ∷ 46 ∷ 47 ∷ 48 ∷ 49 ∷ 50 ∷ []) (transitionNumber gate x)
 
 -- the same of two calls
-pub record SameRun (t u : Result) : Type 0 where
+pub record SameRun (t u : RunResult) : Type 0 where
   pub answer : t .answer ≡ u .answer
   -- after a success stack, work and the used slots are the same, too
   pub success : (spent operations items : ℕ) (after : State) → t .answer ≡ Success spent operations items after

@@ -7,14 +7,14 @@ use numbered::Numbered;
 use perform::State;
 
 // What a call is given beside texts and buffers.
-struct Given {
+struct RunCase {
     used: usize,
     caller: u64,
     limit: u64,
 }
 
-fn read_given(line: &[u8]) -> Given {
-    Given {
+fn read_given(line: &[u8]) -> RunCase {
+    RunCase {
         used: field::number(field::at(line, 4)) as usize,
         caller: field::number(field::at(line, 5)),
         limit: field::number(field::at(line, 6)),
@@ -102,7 +102,7 @@ fn called(
 fn transition(
     call: u8,
     line: &[u8],
-    given: Given,
+    given: RunCase,
     kinds: &[u8],
     operands: &[u64],
     stack: &mut [u64],

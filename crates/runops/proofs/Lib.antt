@@ -1,4 +1,4 @@
-pub mod Printing
-pub mod Running
+pub mod PrintedLines
+pub mod Reported
 pub mod Reading
 mod Examples

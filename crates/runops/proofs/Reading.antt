@@ -9,21 +9,21 @@ use Rattle.ops.specs.declared.OpsError.{OpsError}
 use Rattle.ops.specs.declared.ParsedOps.{ParsedOps}
 use Rattle.ops.specs.declared.ParsedOps.the-variants.{Read, Refused}
 use Rattle.base.specs.Outcome.{is, refused}
-use Rattle.ops.specs.Ops.{Reading, readText, answerOf, opsOf, Parsed}
+use Rattle.ops.specs.Ops.{Reading, readText, answerOf, opsOf, ReadsOps}
 use Rattle.ops.specs.Numbers.{opsErrorNumbered}
 use Rattle.ops.proofs.Front.{Front, read-front}
 use Rattle.runops.specs.declared.report.Report.{Report}
 use Rattle.runops.specs.Report.{refusedWith, zeros, runReport, readingReport, reportOf}
 
 -- n operations were read into two buffers, and are run
-pub read : (text ks vs : List ℕ) (p : ParsedOps) (n : ℕ) → Parsed text zeros zeros ks vs p → p ≡ Read n → Front (opsOf (readText text 4096)) n ks vs
+pub read : (text ks vs : List ℕ) (p : ParsedOps) (n : ℕ) → ReadsOps text zeros zeros ks vs p → p ≡ Read n → Front (opsOf (readText text 4096)) n ks vs
 read text ks vs p n h e = read-front text zeros zeros ks vs p n h e
 
 read-of : (r : Reading) (n : ℕ) (ks vs : List ℕ) → Read n ≡ answerOf r → Front (opsOf r) n ks vs → runReport (take n ks) (take n vs) ≡ readingReport r
 read-of (is os) n ks vs a f = ap₂ runReport (f .kinds) (f .operands)
 read-of (refused x) n ks vs a f = absurd (let z : _≡_ {A = ℕ} 0 1 = cc in omega arith)
 
-pub read-run : (text ks vs : List ℕ) (p : ParsedOps) (n : ℕ) → Parsed text zeros zeros ks vs p → p ≡ Read n
+pub read-run : (text ks vs : List ℕ) (p : ParsedOps) (n : ℕ) → ReadsOps text zeros zeros ks vs p → p ≡ Read n
     → runReport (take n ks) (take n vs) ≡ readingReport (readText text 4096)
 read-run text ks vs p n h e = read-of (readText text 4096) n ks vs (sym e ∙ h .answer) (read text ks vs p n h e)
 
@@ -31,7 +31,7 @@ refused-of : (r : Reading) (e : OpsError) → Refused e ≡ answerOf r → refus
 refused-of (is os) e a = absurd (let z : _≡_ {A = ℕ} 0 1 = cc in omega arith)
 refused-of (refused d) e a = let k : e ≡ d = cc in ap (λ (x : OpsError). refusedWith (opsErrorNumbered x .number)) k
 
-pub not-read : (text ks vs : List ℕ) (p : ParsedOps) (e : OpsError) (n : ℕ) (r : Report) → Parsed text zeros zeros ks vs p → p ≡ Refused e → n ≡ opsErrorNumbered e .number → r ≡ refusedWith n → r ≡ readingReport (readText text 4096)
+pub not-read : (text ks vs : List ℕ) (p : ParsedOps) (e : OpsError) (n : ℕ) (r : Report) → ReadsOps text zeros zeros ks vs p → p ≡ Refused e → n ≡ opsErrorNumbered e .number → r ≡ refusedWith n → r ≡ readingReport (readText text 4096)
 not-read text ks vs p e n r h q k l = l ∙ ap refusedWith k ∙ refused-of (readText text 4096) e (sym q ∙ h .answer)
 
 -- by the text's length

@@ -11,11 +11,11 @@ use Rattle.decimal.specs.Decimal.{decimal}
 use Rattle.ops.specs.Ops.{Reading, readText, kindsOf, operandsOf}
 use Rattle.base.specs.Outcome.{is, refused}
 use Rattle.ops.specs.Numbers.{opsErrorNumbered}
-use Rattle.perform.specs.declared.Answer.{Answer}
-use Rattle.perform.specs.declared.Answer.the-variants.{Success, Refused}
+use Rattle.perform.specs.declared.RunAnswer.{RunAnswer}
+use Rattle.perform.specs.declared.RunAnswer.the-variants.{Success, Refused}
 use Rattle.perform.specs.Call.{Call}
-use Rattle.perform.specs.Numbers.{answerNumbered}
-use Rattle.perform.specs.Run.{Result}
+use Rattle.perform.specs.Numbers.{runAnswerNumbered}
+use Rattle.perform.specs.Run.{RunResult}
 use Rattle.vm.specs.Transition.{meteredOf}
 use Rattle.runops.specs.declared.report.Report.{Report}
 
@@ -29,17 +29,17 @@ topOf stack zero = 0
 topOf stack (suc below) = getD stack below 0
 
 -- slots is the used length
-abbrev pub answered : Answer → List ℕ → Report
+abbrev pub answered : RunAnswer → List ℕ → Report
 answered (Success spent operations items state) stack =
     record {
-      refusal = answerNumbered (Success spent operations items state) .number;
+      refusal = runAnswerNumbered (Success spent operations items state) .number;
       «gas_spent» = spent;
       operations = operations;
       items = items;
       top = topOf stack items;
       slots = state .used;
     }
-answered (Refused f) stack = refusedWith (answerNumbered (Refused f) .number)
+answered (Refused f) stack = refusedWith (runAnswerNumbered (Refused f) .number)
 
 -- all buffers 4,096 long
 abbrev pub zeros : List ℕ
@@ -60,7 +60,7 @@ call kinds operands =
     }
 
 -- a metered run
-unfoldable pub ran : (kinds operands : List ℕ) → Result
+unfoldable pub ran : (kinds operands : List ℕ) → RunResult
 ran kinds operands = meteredOf (call kinds operands)
 
 abbrev pub runReport : (kinds operands : List ℕ) → Report

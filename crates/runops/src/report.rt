@@ -4,7 +4,7 @@ ghost use mathlib.Core.Path.{_≡_};
 ghost use lib.ListN.{length};
 ghost use Rattle.runops.specs.Report.{refusedWith, topOf, runReport, reportOf};
 use ops::ParsedOps;
-use perform::Answer;
+use perform::RunAnswer;
 use perform::State;
 
 pub struct Report {
@@ -51,11 +51,11 @@ fn of_run(kinds: &[u8], operands: &[u64]) -> Report
         State { used: 0 },
     );
     match answer {
-        Answer::Refused(f) => {
+        RunAnswer::Refused(f) => {
             let why = f.numbered();
             refused(why.number)
         }
-        Answer::Success {
+        RunAnswer::Success {
             gas_spent,
             operations,
             items,

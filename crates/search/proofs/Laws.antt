@@ -7,8 +7,8 @@ use borrow.Author.Tests.{le-leb, lt-leb}
 use native.Mathlib.Omega.{arith}
 use lib.ListN.{length, getD, drop, drop-of-length-le, length-drop}
 use Rattle.base.specs.Code.Skips.{Skips}
-use Rattle.base.proofs.Tests.{by-bool, by-leb, by-eqb, never}
-use Rattle.base.proofs.Parts.{next}
+use Rattle.base.proofs.Tests.{by-bool, by-leb, by-eqb, false-true}
+use Rattle.base.proofs.Parts.{drop-cons-at}
 use Rattle.base.proofs.Skips.{either-more, skips-all}
 use Rattle.search.specs.declared.Found.{Found}
 use Rattle.search.specs.declared.Found.the-variants.{At, Nothing}
@@ -55,7 +55,7 @@ module _ (p s : List ℕ) where
   pub miss : (at : ℕ) → prefixOf p (drop at s) ≡ false → Skips (firstAt p s) at (at + 1)
   miss at e =
       by-leb (at + 1) (length s)
-      (λ h. let n = next s at (at + 1) (omega arith) refl in
+      (λ h. let n = drop-cons-at s at (at + 1) (omega arith) refl in
       within at (omega arith) ∙ ap (firstFrom at p) n ∙ from-miss p at (getD s at 0) (drop (at + 1) s) (ap (prefixOf p) (sym n) ∙ e) ∙ sym (within (at + 1) h))
       (λ h. by-leb at (length s)
       (λ g. let n : drop at s ≡ [] = drop-of-length-le s {i = at} (omega arith) in
@@ -65,7 +65,7 @@ module _ (p s : List ℕ) where
   -- p stands at none of n places: one place more, by a test that says yes wherever p stands
   pub miss-more : (at n : ℕ) (hit t : Bool) → (hit ≡ false → Misses p s at n) → (prefixOf p (drop (at + n) s) ≡ true → t ≡ true) → (hit || t) ≡ false → Misses p s at (n + 1)
   miss-more at n hit t a f =
-      either-more (λ i. prefixOf p (drop i s) ≡ false) at n hit t a (λ e. by-bool (prefixOf p (drop (at + n) s)) (λ y. never (sym e ∙ f y)) (λ y. y))
+      either-more (λ i. prefixOf p (drop i s) ≡ false) at n hit t a (λ e. by-bool (prefixOf p (drop (at + n) s)) (λ y. false-true (sym e ∙ f y)) (λ y. y))
 
   pub misses : (n at : ℕ) → Misses p s at n → Skips (firstAt p s) at (at + n)
   misses n at a = skips-all (firstAt p s) n at (λ k h. miss (at + k) (a k h))

@@ -8,8 +8,8 @@ use native.Mathlib.Omega.{arith}
 use lib.Dec.{eqb}
 use lib.ListN.{length, getD, drop, drop-of-length-le, length-append, length-drop, List·getD-append}
 use lib.Seq.{getD-drop}
-use Rattle.base.proofs.Tests.{by-bool, by-leb, by-eqb, never}
-use Rattle.base.proofs.Parts.{next}
+use Rattle.base.proofs.Tests.{by-bool, by-leb, by-eqb, false-true}
+use Rattle.base.proofs.Parts.{drop-cons-at}
 use Rattle.search.specs.First.{prefixOf}
 
 pub same : (a b : ℕ) (p s : List ℕ) → a ≡ b → prefixOf (a ∷ p) (b ∷ s) ≡ prefixOf p s
@@ -29,11 +29,11 @@ append (a ∷ p) s = same a a p (p ++ s) refl ∙ append p s
 
 pub split : (p s : List ℕ) → prefixOf p s ≡ true → s ≡ p ++ drop (length p) s
 split [] s e = refl
-split (a ∷ p) [] e = never e
+split (a ∷ p) [] e = false-true e
 split (a ∷ p) (b ∷ s) e =
     by-eqb a b
     (λ q. ap (λ (x : ℕ). x ∷ s) (sym q) ∙ ap (λ (t : List ℕ). a ∷ t) (split p s (sym (same a b p s q) ∙ e)))
-    (λ q. never (sym (other a b p s q) ∙ e))
+    (λ q. false-true (sym (other a b p s q) ∙ e))
 
 pub fits : (p s : List ℕ) → prefixOf p s ≡ true → length p ≤ length s
 fits p s e = omega (arith, simp length-append at (ap length (split p s e)))
@@ -55,7 +55,7 @@ no-room p s at h =
 -- from place j of p and place i of s on
 module _ (p s : List ℕ) (j i k : ℕ) (in-p : j < length p) (in-s : i < length s) (n : k ≡ i + 1) where
   heads : prefixOf (drop j p) (drop i s) ≡ prefixOf (getD p j 0 ∷ drop (j + 1) p) (getD s i 0 ∷ drop k s)
-  heads = rw (next p j (j + 1) in-p refl, next s i k in-s n)
+  heads = rw (drop-cons-at p j (j + 1) in-p refl, drop-cons-at s i k in-s n)
 
   pub same-at : getD p j 0 ≡ getD s i 0 → prefixOf (drop j p) (drop i s) ≡ prefixOf (drop (j + 1) p) (drop k s)
   same-at e = heads ∙ same (getD p j 0) (getD s i 0) (drop (j + 1) p) (drop k s) e
@@ -84,5 +84,5 @@ module _ (b : ℕ) (s : List ℕ) (i : ℕ) where
   pub byte-at : prefixOf (b ∷ []) (drop i s) ≡ true → (i < length s) × (getD s i 0 ≡ b)
   byte-at e =
       by-leb (length s) i
-      (λ h. never (ap (prefixOf (b ∷ [])) (sym (drop-of-length-le s h)) ∙ e))
-      (λ h. (h, by-eqb (getD s i 0) b (λ q. q) (λ q. never (sym (byte-no h q) ∙ e))))
+      (λ h. false-true (ap (prefixOf (b ∷ [])) (sym (drop-of-length-le s h)) ∙ e))
+      (λ h. (h, by-eqb (getD s i 0) b (λ q. q) (λ q. false-true (sym (byte-no h q) ∙ e))))

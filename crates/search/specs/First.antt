@@ -13,11 +13,11 @@ prefixOf [] s = true
 prefixOf (a ∷ p) [] = false
 prefixOf (a ∷ p) (b ∷ s) = elim (eqb a b) [ true ↦ prefixOf p s | false ↦ false ]
 
--- the first place of s at which p stands, places being counted from n
+-- the first offset of s at which p stands, offsets being counted from n
 abbrev pub firstFrom : ℕ → List ℕ → List ℕ → Found
 firstFrom n p [] = elim (prefixOf p []) [ true ↦ At n | false ↦ Nothing ]
 firstFrom n p (a ∷ s) = elim (prefixOf p (a ∷ s)) [ true ↦ At n | false ↦ firstFrom (n + 1) p s ]
 
--- the first place at or after `at` at which p stands in s; a place past the end has none
+-- the first offset at or after `at` at which p stands in s; an offset past the end has none
 abbrev pub firstAt : List ℕ → List ℕ → ℕ → Found
 firstAt p s at = elim (leb at (length s)) [ true ↦ firstFrom at p (drop at s) | false ↦ Nothing ]

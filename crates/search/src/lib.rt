@@ -1,5 +1,5 @@
-// The first occurrence of a byte, and of a byte string, in a slice from a place on.
-// Whole blocks of places are passed by tests that have no branch and compile to vector code.
+// The first occurrence of a byte, and of a byte string, in a slice starting at an offset.
+// Whole blocks of offsets are passed by tests that have no branch and compile to vector code.
 use base::both;
 use base::either;
 use base::pick;
@@ -11,9 +11,9 @@ ghost use lib.Dec.{leb, ltb};
 ghost use lib.ListN.{length, drop};
 ghost use Rattle.base.specs.Code.Skips.{Skips, SkipsTo};
 ghost use Rattle.search.specs.First.{prefixOf, firstAt};
-ghost use Rattle.search.specs.Code.Scan.{orElse, Places, Least};
+ghost use Rattle.search.specs.Code.Scan.{orElse, RoomAtEach, Least};
 
-// How many places a block has.
+// How many offsets a block has.
 const BLOCK: usize = 16;
 
 pub enum Found {
@@ -51,7 +51,7 @@ pub fn find_far_byte(s: &[u8], b: u8, at: usize) -> Found
     find_byte(s, b, from)
 }
 
-// How many of the n bytes from a place on stand before the first b, or n.
+// How many of the n bytes starting at an offset stand before the first b, or n.
 fn place_in(s: &[u8], b: u8, at: usize, n: u8) -> u8
     requires { ⌜ at + n ≤ length (now s) ⌝ }
     ensures { λ r. ⌜ Least (b ∷ []) (now (s .entry)) at n n r ⌝ }
@@ -119,7 +119,7 @@ fn pass_blocks(s: &[u8], b: u8, at: usize) -> usize
     block
 }
 
-// No only where b is not among the n bytes from a place on.
+// No only where b is not among the n bytes starting at an offset.
 fn has_byte(s: &[u8], b: u8, at: usize, n: usize) -> bool
     requires { ⌜ at + n ≤ length (now s) ⌝ }
     ensures { λ r. ⌜ (r ≡ false → Skips (firstAt (b ∷ []) (now (s .entry))) at (at + n)) ⌝ }
@@ -133,7 +133,7 @@ fn has_byte(s: &[u8], b: u8, at: usize, n: usize) -> bool
     hit
 }
 
-// The first place before end at which b stands.
+// The first offset before end at which b stands.
 fn byte_before(s: &[u8], b: u8, at: usize, end: usize) -> Found
     requires { ⌜ (at ≤ end) × (end ≤ length (now s)) ⌝ }
     ensures { λ r. ⌜ firstAt (b ∷ []) (now (s .entry)) at ≡ orElse r (firstAt (b ∷ []) (now (s .entry)) end) ⌝ }
@@ -147,7 +147,7 @@ fn byte_before(s: &[u8], b: u8, at: usize, end: usize) -> Found
 }
 
 fn find_string(s: &[u8], p: &[u8], at: usize) -> Found
-    requires { ⌜ Places (now p) (now s) at (at + 1) ⌝ }
+    requires { ⌜ RoomAtEach (now p) (now s) at (at + 1) ⌝ }
     ensures { λ r. ⌜ r ≡ firstAt (now (p .entry)) (now (s .entry)) at ⌝ }
 {
     let stop = s.len() - p.len() + 1;
@@ -165,9 +165,9 @@ fn find_string(s: &[u8], p: &[u8], at: usize) -> Found
     Found::Nothing
 }
 
-// Whether p may stand at a place before end. Of less than a block nothing is known.
+// Whether p may stand at an offset before end. Of less than a block nothing is known.
 fn may_stand(s: &[u8], p: &[u8], at: usize, end: usize) -> bool
-    requires { ⌜ Places (now p) (now s) at end ⌝ }
+    requires { ⌜ RoomAtEach (now p) (now s) at end ⌝ }
     ensures { λ r. ⌜ (r ≡ false → Skips (firstAt (now (p .entry)) (now (s .entry))) at end) ⌝ }
 {
     if end - at != BLOCK {
@@ -176,9 +176,9 @@ fn may_stand(s: &[u8], p: &[u8], at: usize, end: usize) -> bool
     any_agrees(s, p, at, BLOCK)
 }
 
-// No only where p agrees at none of the n places from a place on.
+// No only where p agrees at none of the n offsets starting at an offset.
 fn any_agrees(s: &[u8], p: &[u8], at: usize, n: usize) -> bool
-    requires { ⌜ Places (now p) (now s) at (at + n) ⌝ }
+    requires { ⌜ RoomAtEach (now p) (now s) at (at + n) ⌝ }
     ensures { λ r. ⌜ (r ≡ false → Skips (firstAt (now (p .entry)) (now (s .entry))) at (at + n)) ⌝ }
 {
     let mut hit = false;
@@ -190,9 +190,9 @@ fn any_agrees(s: &[u8], p: &[u8], at: usize, n: usize) -> bool
     hit
 }
 
-// Whether the first, the middle and the last byte of p stand where they do if p stands at a place.
+// Whether the first, the middle and the last byte of p stand where they do if p stands at an offset.
 fn agrees(s: &[u8], p: &[u8], at: usize) -> bool
-    requires { ⌜ Places (now p) (now s) at (at + 1) ⌝ }
+    requires { ⌜ RoomAtEach (now p) (now s) at (at + 1) ⌝ }
     ensures { λ r. ⌜ (prefixOf (now (p .entry)) (drop at (now (s .entry))) ≡ true → r ≡ true) ⌝ }
 {
     let middle = p.len() / 2;
@@ -201,9 +201,9 @@ fn agrees(s: &[u8], p: &[u8], at: usize) -> bool
     both(ends, s[at + middle] == p[middle])
 }
 
-// The first place before end at which p stands.
+// The first offset before end at which p stands.
 fn string_before(s: &[u8], p: &[u8], at: usize, end: usize) -> Found
-    requires { ⌜ Places (now p) (now s) at end ⌝ }
+    requires { ⌜ RoomAtEach (now p) (now s) at end ⌝ }
     ensures { λ r. ⌜ firstAt (now (p .entry)) (now (s .entry)) at ≡ orElse r (firstAt (now (p .entry)) (now (s .entry)) end) ⌝ }
 {
     let first = p[0];
@@ -215,7 +215,7 @@ fn string_before(s: &[u8], p: &[u8], at: usize, end: usize) -> Found
     Found::Nothing
 }
 
-// Whether p stands at a place that has room for it.
+// Whether p stands at an offset that has room for it.
 fn stands(s: &[u8], p: &[u8], at: usize) -> bool
     requires { ⌜ at + length (now p) ≤ length (now s) ⌝ }
     ensures { λ r. ⌜ r ≡ prefixOf (now (p .entry)) (drop at (now (s .entry))) ⌝ }
@@ -230,7 +230,7 @@ fn stands(s: &[u8], p: &[u8], at: usize) -> bool
     true
 }
 
-// Where the block that starts at a place ends, or the places do.
+// Where the block that starts at an offset ends, or the offsets do.
 fn block_end(at: usize, stop: usize) -> usize
     requires { ⌜ at < stop ⌝ }
     ensures { λ r. ⌜ (at < r) × (r ≤ stop) ⌝ }
@@ -238,7 +238,7 @@ fn block_end(at: usize, stop: usize) -> usize
     if stop - at < BLOCK { stop } else { at + BLOCK }
 }
 
-// Whether n bytes or more are left from a place on.
+// Whether n bytes or more are left starting at an offset.
 fn has_room(s: &[u8], n: usize, at: usize) -> bool
     ensures { λ r. ⌜ r ≡ leb (at + n) (length (now (s .entry))) ⌝ }
 {

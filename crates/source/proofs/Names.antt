@@ -4,8 +4,8 @@ use mathlib.Core.Path.{_≡_, refl, sym, ap, _∙_}
 use mathlib.Core.List.{List}
 use native.Mathlib.Omega.{arith}
 use lib.ListN.{length, take, drop}
-use Rattle.base.proofs.Parts.{inner}
-use Rattle.trim.specs.Trim.{passed, trimmed}
+use Rattle.base.proofs.Parts.{take-drop-take}
+use Rattle.trim.specs.Trim.{leadingBlanks, trimmed}
 use Rattle.source.specs.Parameters.{name}
 use Rattle.source.specs.Code.Cursor.{before, trimmedSpan, nameSpan}
 use Rattle.source.specs.declared.parameters.Span.{Span}
@@ -22,8 +22,8 @@ module _ (p : List ℕ) where
       let b = before 0x3A t in
       let k = trimmed-fits b in
       trimmed-place b
-      ∙ inner t b 0 (length b) (passed b) (length (name p)) (passed b) (before-starts 0x3A t) k (omega arith)
-      ∙ inner p t (passed p) (length t) (passed b) (length (name p)) (passed p + passed b) (trimmed-place p) (omega (arith, before-length 0x3A t)) refl
+      ∙ take-drop-take t b 0 (length b) (leadingBlanks b) (length (name p)) (leadingBlanks b) (before-starts 0x3A t) k (omega arith)
+      ∙ take-drop-take p t (leadingBlanks p) (length t) (leadingBlanks b) (length (name p)) (leadingBlanks p + leadingBlanks b) (trimmed-place p) (omega (arith, before-length 0x3A t)) refl
 
 -- the name by its steps: the piece trimmed, cut at the colon, trimmed again
 module _ (p : List ℕ) (whole : Span) (e : whole ≡ trimmedSpan p) where
@@ -35,8 +35,8 @@ module _ (p : List ℕ) (whole : Span) (e : whole ≡ trimmedSpan p) where
 
   text-is : text ≡ trimmed p
   text-is =
-      let n : passed p + length (trimmed p) - passed p ≡ length (trimmed p) = omega arith in
-      rw e (ap (λ (k : ℕ). take k (drop (passed p) p)) n ∙ sym (trimmed-place p))
+      let n : leadingBlanks p + length (trimmed p) - leadingBlanks p ≡ length (trimmed p) = omega arith in
+      rw e (ap (λ (k : ℕ). take k (drop (leadingBlanks p) p)) n ∙ sym (trimmed-place p))
 
   module _ (colon : ℕ) (f : colon ≡ cutAt 0x3A text 0) where
     pub colon-fits : colon ≤ length text

@@ -5,7 +5,7 @@ use mathlib.Core.List.{List, [], _∷_}
 use native.Mathlib.Omega.{arith}
 use lib.ListN.{length, take, drop, length-drop, drop-of-length-le}
 use lib.Seq.{drop-drop}
-use Rattle.base.proofs.Parts.{inner}
+use Rattle.base.proofs.Parts.{take-drop-take}
 use Rattle.base.proofs.Tests.{by-leb, by-eqb}
 use Rattle.source.specs.Parameters.{front, pieces, name, names, unlessEmpty, parameters}
 use Rattle.source.specs.Code.Cursor.{before, nameSpan, comma, placed, firstKept, parameterAt}
@@ -116,7 +116,7 @@ module _ (s : List ℕ) (at : ℕ) (ps : List (List ℕ)) (cut : pieces (drop at
         on = further;
         fits = inside;
         is = sym (name-place p
-            ∙ inner s p at (length p) (nameSpan p .start) (length (name p)) (at + nameSpan p .start) (before-starts 0x2C (drop at s)) (omega arith) refl
+            ∙ take-drop-take s p at (length p) (nameSpan p .start) (length (name p)) (at + nameSpan p .start) (before-starts 0x2C (drop at s)) (omega arith) refl
             ∙ ap (λ (k : ℕ). take k (drop (at + nameSpan p .start) s)) m);
         answer = ap (firstKept at) cut ∙ first-kept at p ps ∙ ap (kept (name p) (placed at (p ∷ ps))) follows;
         names = ap names cut ∙ ap (unlessEmpty (name p)) following;

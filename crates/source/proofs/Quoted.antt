@@ -8,7 +8,7 @@ use native.Mathlib.Omega.{arith}
 use lib.Dec.{eqb}
 use lib.ListN.{length, getD, take, drop, set, List·getD-append}
 use lib.Seq.{drop-drop, getD-append-add, take-suc, take-suc-set, take-all}
-use Rattle.base.proofs.Tests.{by-bool, by-eqb, never, and-left, and-right}
+use Rattle.base.proofs.Tests.{by-bool, by-eqb, false-true, and-left, and-right}
 use Rattle.search.specs.declared.Found.{Found}
 use Rattle.search.specs.declared.Found.the-variants.{Nothing}
 use Rattle.search.specs.First.{prefixOf, firstAt}
@@ -27,7 +27,7 @@ module _ (p q s : List ℕ) where
   never-then e =
       by-bool (prefixOf (p ++ q) s)
       (λ y. let r = drop (length (p ++ q)) s in
-      never (sym e ∙ ap (prefixOf p) (split (p ++ q) s y ∙ append-assoc p q r) ∙ append p (q ++ r)))
+      false-true (sym e ∙ ap (prefixOf p) (split (p ++ q) s y ∙ append-assoc p q r) ∙ append p (q ++ r)))
       (λ n. n)
 
 -- no more is read than p has

@@ -7,7 +7,7 @@ use native.Mathlib.Omega.{arith}
 use lib.ListN.{length, take, drop, length-append}
 use lib.Seq.{take-at, drop-at}
 use Rattle.base.proofs.Tests.{by-bool}
-use Rattle.trim.specs.Trim.{passed, white1, white2, white3, trimmedBy, after1, after2, startTrimmed, back, endTrimmed, trimmed}
+use Rattle.trim.specs.Trim.{leadingBlanks, white1, white2, white3, trimmedBy, after1, after2, startTrimmed, back, endTrimmed, trimmed}
 use Rattle.trim.specs.Code.Trims.{back2, back3}
 use Rattle.trim.proofs.Laws.{startTrimmed-length, endTrimmed-length}
 
@@ -45,11 +45,11 @@ module _ (two : ℕ → ℕ → Bool) (three : ℕ → ℕ → ℕ → Bool) whe
         (λ e. rw (e, after2) (ends-more a (ends-more b (ends-more c (ends s)))))
         (λ e. rw (e, after2) (ends-all (a ∷ b ∷ c ∷ s)))
 
-pub start-place : (s : List ℕ) → startTrimmed s ≡ drop (passed s) s
+pub start-place : (s : List ℕ) → startTrimmed s ≡ drop (leadingBlanks s) s
 start-place s =
     let e = ends white2 white3 s in
-    let n : length (e .cut) ≡ passed s = omega (arith, simp length-append at (ap length (e .is))) in
-    sym (ap (drop (passed s)) (e .is) ∙ drop-at (e .cut) (startTrimmed s) (passed s) n)
+    let n : length (e .cut) ≡ leadingBlanks s = omega (arith, simp length-append at (ap length (e .is))) in
+    sym (ap (drop (leadingBlanks s)) (e .is) ∙ drop-at (e .cut) (startTrimmed s) (leadingBlanks s) n)
 
 pub end-place : (s : List ℕ) → endTrimmed s ≡ take (length (endTrimmed s)) s
 end-place s =
@@ -57,8 +57,8 @@ end-place s =
     let p : s ≡ endTrimmed s ++ reverse (e .cut) = sym (reverse-reverse s) ∙ ap reverse (e .is) ∙ reverse-append (e .cut) (back (reverse s)) in
     sym (ap (take (length (endTrimmed s))) p ∙ take-at (endTrimmed s) (reverse (e .cut)) (length (endTrimmed s)) refl)
 
-pub trimmed-place : (s : List ℕ) → trimmed s ≡ take (length (trimmed s)) (drop (passed s) s)
+pub trimmed-place : (s : List ℕ) → trimmed s ≡ take (length (trimmed s)) (drop (leadingBlanks s) s)
 trimmed-place s = end-place (startTrimmed s) ∙ ap (take (length (trimmed s))) (start-place s)
 
-pub trimmed-fits : (s : List ℕ) → passed s + length (trimmed s) ≤ length s
+pub trimmed-fits : (s : List ℕ) → leadingBlanks s + length (trimmed s) ≤ length s
 trimmed-fits s = omega (arith, startTrimmed-length s, endTrimmed-length (startTrimmed s))

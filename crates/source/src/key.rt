@@ -13,7 +13,7 @@ use base::both;
 use base::either;
 use search::Found;
 
-// How many places a block has.
+// How many offsets a block has.
 const BLOCK: usize = 16;
 
 // How many places are tried one by one where the key may stand.
@@ -46,7 +46,7 @@ pub fn find_quoted(s: &[u8], key: &[u8]) -> Found
     }
 }
 
-// Where the places end that are tried one by one from a place on.
+// Where the offsets end that are tried one by one starting at an offset.
 fn near_end(at: usize, stop: usize) -> usize
     requires { ⌜ at ≤ stop ⌝ }
     ensures { λ r. ⌜ (at ≤ r) × (r ≤ stop) × (at < stop → at < r) ⌝ }
@@ -85,7 +85,7 @@ fn find_by_blocks(s: &[u8], key: &[u8], at: usize, stop: usize) -> Found
     find_last(s, key, mark, left, i, stop)
 }
 
-// The places behind the last whole block.
+// The offsets behind the last whole block.
 fn find_last(s: &[u8], key: &[u8], mark: Mark, left: usize, at: usize, stop: usize) -> Found
     requires { ⌜ (at ≤ stop) × (stop + length (now key) + 1 ≡ length (now s)) × Marks (now key) mark ⌝ }
     ensures { λ r. ⌜ r ≡ firstAt (quoted (now (key .entry))) (now (s .entry)) at ⌝ }
@@ -139,7 +139,7 @@ fn find_quotes(s: &[u8], key: &[u8], at: usize, stop: usize) -> Found
     Found::Nothing
 }
 
-// The last place from a place on and before end at which no quote stands.
+// The last offset starting at an offset and before end at which no quote stands.
 fn last_other(s: &[u8], from: usize, end: usize) -> Found
     requires { ⌜ (from ≤ end) × (end ≤ length (now s)) ⌝ }
     ensures { λ r. ⌜ Other (now (s .entry)) from end r ⌝ }

@@ -94,7 +94,7 @@ pub fn trimmed_span(s: &[u8]) -> Span
     }
 }
 
-// Where the text from a place on is cut: at the first such byte, or at the end.
+// Where the text starting at an offset is cut: at the first such byte, or at the end.
 fn cut(s: &[u8], b: u8, at: usize) -> usize
     requires { ⌜ at ≤ length (now s) ⌝ }
     ensures { λ r. ⌜ r ≡ at + length (before b (drop at (now (s .entry)))) ⌝ }

@@ -8,7 +8,8 @@ use lib.Dec.{eqb}
 use Rattle.base.specs.Range.{within}
 use Rattle.base.proofs.Tests.{by-bool, by-or, and-right, between}
 use Rattle.decimal.specs.Decimal.{digit}
-use Rattle.token.specs.Token.{space, nameStart, namePart, sign, goesOn}
+use Rattle.token.specs.Token.{space, nameStart, namePart, sign}
+use Rattle.token.specs.Code.Bytes.{goesOn}
 
 -- bytes that part tokens come first, then signs, digits, letters
 pub space-bound : (a : ℕ) → space a ≡ true → a ≤ 32

@@ -8,10 +8,11 @@ use native.Mathlib.Omega.{arith}
 use lib.ListN.{length, drop}
 use lib.Seq.{drop-at}
 use Rattle.base.specs.Lists.{all, takeWhile}
-use Rattle.base.proofs.Tests.{never, by-bool, by-or, and-left, and-right, and-both, or-by-left, or-by-right, between}
+use Rattle.base.proofs.Tests.{false-true, by-bool, by-or, and-left, and-right, and-both, or-by-left, or-by-right, between}
 use Rattle.base.proofs.Lists.{all-weaker, all-append, all-behind, takeWhile-append}
 use Rattle.decimal.specs.Decimal.{digit}
-use Rattle.token.specs.Token.{space, nameStart, namePart, sign, allowedByte, allowed, goesOn, scan, tokens}
+use Rattle.token.specs.Token.{space, nameStart, namePart, sign, allowed, scan, tokens}
+use Rattle.token.specs.Code.Bytes.{allowedByte, goesOn}
 use Rattle.token.specs.Tokens.{IsToken, digits, name, single, Longest, Tokens, none, parted, token}
 use Rattle.token.proofs.Classes.{space-bound, sign-bounds, start-bound, not-so}
 use Rattle.token.proofs.Tokens.{tokens-space, tokens-start, scan-more, scan-ended, scan-token, goes-on-digits}
@@ -56,13 +57,13 @@ token-more {a} {w} b g (digits h e) =
     let d = and-left (digit a) (all digit w) e in
     digits {w = a ∷ w ++ b ∷ []} (omega arith) (all-behind digit (a ∷ w) (b ∷ []) e ∙ (and-both (digit b) true (sym (goes-on-digits a d b) ∙ g) refl))
 token-more {a} {w} b g (name e f) = name e (all-behind namePart w (b ∷ []) f ∙ (and-both (namePart b) true (sym (name-goes a b e) ∙ g) refl))
-token-more {a} b g (single e) = never (sym (sign-goes a b e) ∙ g)
+token-more {a} b g (single e) = false-true (sym (sign-goes a b e) ∙ g)
 
 token-first : (a : ℕ) → space a ≡ false → allowedByte a ≡ true → IsToken (a ∷ [])
 token-first a n e =
     by-or (space a || namePart a) (sign a) e
     (λ p. by-or (space a) (namePart a) p
-    (λ q. never (sym n ∙ q))
+    (λ q. false-true (sym n ∙ q))
     (λ q. by-or (nameStart a) (digit a) q (λ r. name r refl) (λ r. digits {w = a ∷ []} (omega arith) (and-both (digit a) true r refl))))
     (λ p. single p)
 
@@ -109,7 +110,7 @@ longest-here : (a b : ℕ) (w s : List ℕ) → goesOn a b ≡ false → Longest
 longest-here a b w s n [] u e h t = omega arith
 longest-here a b w s n (c ∷ v) u e h t =
     let p : b ≡ c = cc in
-    never (sym n ∙ ap (goesOn a) p ∙ and-left (goesOn a c) (all (goesOn a) v) (and-right (all (goesOn a) w) (all (goesOn a) (c ∷ v)) (sym (all-append (goesOn a) w (c ∷ v)) ∙ token-goes t)))
+    false-true (sym n ∙ ap (goesOn a) p ∙ and-left (goesOn a c) (all (goesOn a) v) (and-right (all (goesOn a) w) (all (goesOn a) (c ∷ v)) (sym (all-append (goesOn a) w (c ∷ v)) ∙ token-goes t)))
 
 starting : (a : ℕ) (s : List ℕ) → allowedByte a ≡ true → Both s → Tokens (a ∷ s) (tokens (a ∷ s))
 starting a s e h =

@@ -9,11 +9,12 @@ use lib.ListN.{length, getD, take, drop, length-drop, drop-of-length-le}
 use lib.Seq.{drop-drop, getD-drop, append-snoc, length-take-le}
 use Rattle.base.specs.Lists.{takeWhile}
 use Rattle.base.proofs.Tests.{by-bool, by-leb, below, between}
-use Rattle.base.proofs.Parts.{next}
+use Rattle.base.proofs.Parts.{drop-cons-at}
 use Rattle.base.proofs.Lists.{takeWhile-same, length-takeWhile, take-takeWhile, takeWhile-last, takeWhile-stops}
 use Rattle.decimal.specs.Decimal.{digit}
 use Rattle.token.specs.declared.Token.{Token}
-use Rattle.token.specs.Token.{space, nameStart, goesOn, scan, tokens}
+use Rattle.token.specs.Token.{space, nameStart, scan, tokens}
+use Rattle.token.specs.Code.Bytes.{goesOn}
 use Rattle.token.specs.Code.Places.{first, startAt, tokenAt}
 use Rattle.token.proofs.Classes.{goes-no-space}
 
@@ -88,7 +89,7 @@ module _ (s : List ℕ) (at i : ℕ) (e : i ≡ startAt s at) where
   pub next-at : i < length s → (end : ℕ) → end ≡ i + 1 + length (takeWhile (goesOn (getD s i 0)) (drop (i + 1) s)) → Next s at i end
   next-at h end q =
       let a = getD s i 0 in
-      let n = next s i (i + 1) h refl in
+      let n = drop-cons-at s i (i + 1) h refl in
       let r = length-takeWhile (goesOn a) (drop (i + 1) s) in
       let l = length-drop (i + 1) s in
       let m : end - i ≡ suc (length (takeWhile (goesOn a) (drop (i + 1) s))) = omega arith in

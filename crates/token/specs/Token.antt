@@ -22,20 +22,14 @@ namePart a = nameStart a || digit a
 abbrev pub sign : ℕ → Bool
 sign a = within 40 43 a || eqb a 45 || eqb a 47
 
--- a byte that parts tokens or is in one
-abbrev pub allowedByte : ℕ → Bool
-allowedByte a = space a || namePart a || sign a
-
+-- whether every byte parts tokens or is in one
 abbrev pub allowed : List ℕ → Bool
-allowed s = all allowedByte s
+allowed s = all (λ a. space a || namePart a || sign a) s
 
--- whether b goes on with a token that starts with a
-abbrev pub goesOn : ℕ → ℕ → Bool
-goesOn a b = (digit a && digit b) || (nameStart a && namePart b)
-
+-- whether b goes on with the token w
 abbrev pub extends : List ℕ → ℕ → Bool
 extends [] b = false
-extends (a ∷ w) b = goesOn a b
+extends (a ∷ w) b = (digit a && digit b) || (nameStart a && namePart b)
 
 -- the tokens where w is read of the first; where nothing was read there is none
 unfoldable pub scan : List ℕ → List ℕ → List (List ℕ)

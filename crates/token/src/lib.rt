@@ -4,7 +4,8 @@ ghost use Prim.Native.Nat.{_+_, _<_};
 ghost use lib.ListN.{length, getD, drop};
 ghost use Rattle.base.specs.Lists.{takeWhile};
 ghost use Rattle.decimal.specs.Decimal.{digit};
-ghost use Rattle.token.specs.Token.{space, nameStart, namePart, sign, allowedByte, allowed, goesOn};
+ghost use Rattle.token.specs.Token.{space, nameStart, namePart, sign, allowed};
+ghost use Rattle.token.specs.Code.Bytes.{allowedByte, goesOn};
 ghost use Rattle.token.specs.Code.Places.{startAt, tokenAt};
 use base::both;
 use base::either;
@@ -16,7 +17,7 @@ pub struct Token {
     pub end: usize,
 }
 
-// The first token from a place on.
+// The first token at or after an offset.
 pub fn token_at(text: &[u8], at: usize) -> Token
     ensures { λ r. ⌜ r ≡ tokenAt (now (text .entry)) at ⌝ }
 {
@@ -28,7 +29,7 @@ pub fn token_at(text: &[u8], at: usize) -> Token
     Token { start, end: start }
 }
 
-// Whether every byte from a place on parts tokens or is in one.
+// Whether every byte at or after an offset parts tokens or is in one.
 pub fn is_all_tokens(text: &[u8], at: usize) -> bool
     ensures { λ r. ⌜ r ≡ allowed (drop at (now (text .entry))) ⌝ }
 {

@@ -8,7 +8,7 @@ use native.Mathlib.Omega.{arith}
 use lib.Dec.{eqb}
 use lib.ListN.{length, getD, drop, length-append, length-drop}
 use lib.Seq.{drop-drop}
-use Rattle.base.proofs.Tests.{never, and-left, and-right, by-bool}
+use Rattle.base.proofs.Tests.{false-true, and-left, and-right, by-bool}
 use Rattle.base.proofs.Bytes.{at1, at3}
 use Rattle.trim.specs.Trim.{white1, white2, white3, startTrimmed, back, endTrimmed}
 use Rattle.trim.specs.Code.Trims.{back2, back3, threeLen}
@@ -83,7 +83,7 @@ mutual
       (let f = front s in
       record {
         between = a ∷ f .between;
-        is = one (and-left (white1 a) (not (eqb a 10)) e) (λ q. never (sym (ap not (eq-eqb a 10 q)) ∙ and-right (white1 a) (not (eqb a 10)) e)) (f .is);
+        is = one (and-left (white1 a) (not (eqb a 10)) e) (λ q. false-true (sym (ap not (eq-eqb a 10 q)) ∙ and-right (white1 a) (not (eqb a 10)) e)) (f .is);
         stands = ap (λ (t : List ℕ). a ∷ t) (f .stands);
         long = ap suc (f .long);
       }))

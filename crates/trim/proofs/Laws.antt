@@ -7,7 +7,7 @@ use native.Mathlib.Omega.{arith}
 use lib.ListN.{length, getD, take, length-reverse}
 use lib.Seq.{take-length}
 use Rattle.base.proofs.Tests.{by-bool}
-use Rattle.base.proofs.Parts.{last}
+use Rattle.base.proofs.Parts.{reverse-take-suc}
 use Rattle.trim.proofs.White.{not2, not3}
 use Rattle.trim.specs.Trim.{white1, white2, white3, trimmedBy, after1, after2, startTrimmed, back, endTrimmed, trimmed}
 use Rattle.trim.specs.Code.Trims.{back2, back3}
@@ -53,7 +53,7 @@ pub trimmed-kept : (a : ℕ) (s : List ℕ) → a ≤ 0x7F → white1 a ≡ fals
 trimmed-kept a s h e k f =
     let t = a ∷ s in
     let u : reverse t ≡ getD t (length s) 0 ∷ reverse (take (length s) t) =
-    ap reverse (sym (take-length t)) ∙ last t (length t) (length s) (omega arith) (omega arith) in
+    ap reverse (sym (take-length t)) ∙ reverse-take-suc t (length t) (length s) (omega arith) (omega arith) in
     let v : back (reverse t) ≡ reverse t = rw u (back-stays (getD t (length s) 0) (reverse (take (length s) t)) f (λ p q. omega arith)) in
     ap endTrimmed (start-stays a s e (λ p. omega arith) (λ p q. omega arith)) ∙ ap reverse v ∙ reverse-reverse t
 

@@ -6,7 +6,7 @@ use mathlib.Core.Bool.{true, false, cond}
 use native.Mathlib.Omega.{arith}
 use lib.ListN.{length, getD, take, drop, length-drop, drop-of-length-le}
 use Rattle.base.proofs.Tests.{by-bool, by-leb}
-use Rattle.base.proofs.Parts.{last}
+use Rattle.base.proofs.Parts.{reverse-take-suc}
 use Rattle.base.proofs.Bytes.{at1, at2, at3}
 use Rattle.trim.specs.Trim.{white2, white3}
 use Rattle.trim.specs.Code.Trims.{Trims, WhiteAt, threeLen}
@@ -56,10 +56,10 @@ none s e h = rw h refl
 
 module _ (s : List ℕ) (e : ℕ) (h : e ≤ length s) where
   pub before1 : 0 < e → reverse (take e s) ≡ getD s (e - 1) 0 ∷ reverse (take (e - 1) s)
-  before1 k = last s e (e - 1) (omega arith) (omega arith)
+  before1 k = reverse-take-suc s e (e - 1) (omega arith) (omega arith)
 
   pub before2 : 1 < e → reverse (take e s) ≡ getD s (e - 1) 0 ∷ getD s (e - 2) 0 ∷ reverse (take (e - 2) s)
-  before2 k = before1 (omega arith) ∙ ap (λ (t : List ℕ). getD s (e - 1) 0 ∷ t) (last s (e - 1) (e - 2) (omega arith) (omega arith))
+  before2 k = before1 (omega arith) ∙ ap (λ (t : List ℕ). getD s (e - 1) 0 ∷ t) (reverse-take-suc s (e - 1) (e - 2) (omega arith) (omega arith))
 
   pub before3 : 2 < e → reverse (take e s) ≡ getD s (e - 1) 0 ∷ getD s (e - 2) 0 ∷ getD s (e - 3) 0 ∷ reverse (take (e - 3) s)
-  before3 k = before2 (omega arith) ∙ ap (λ (t : List ℕ). getD s (e - 1) 0 ∷ getD s (e - 2) 0 ∷ t) (last s (e - 2) (e - 3) (omega arith) (omega arith))
+  before3 k = before2 (omega arith) ∙ ap (λ (t : List ℕ). getD s (e - 1) 0 ∷ getD s (e - 2) 0 ∷ t) (reverse-take-suc s (e - 2) (e - 3) (omega arith) (omega arith))

@@ -7,7 +7,7 @@ use native.Mathlib.Omega.{arith}
 use lib.ListN.{length, take, drop, length-append}
 use lib.Seq.{take-at, drop-at}
 use Rattle.base.proofs.Tests.{by-bool}
-use Rattle.trim.specs.Trim.{white1, white2, white3, trimmedBy, after1, after2, startTrimmed, back, endTrimmed, trimmed, passed}
+use Rattle.trim.specs.Trim.{white1, white2, white3, trimmedBy, after1, after2, startTrimmed, back, endTrimmed, trimmed, leadingBlanks}
 use Rattle.trim.specs.Code.Trims.{back2, back3}
 
 -- what was passed, and what is left
@@ -40,11 +40,11 @@ end-start s =
     (reverse (l .0), sym (reverse-reverse s) ∙ ap reverse (l .1) ∙ reverse-append (l .0) (back (reverse s)))
 
 -- the text from the White_Space passed on; the start of the text; and both
-pub start-place : (s : List ℕ) → startTrimmed s ≡ drop (passed s) s
+pub start-place : (s : List ℕ) → startTrimmed s ≡ drop (leadingBlanks s) s
 start-place s =
     let l = left white2 white3 s in
     let t = startTrimmed s in
-    let n : passed s ≡ length (l .0) = omega (arith, ap length (l .1), length-append (l .0) t) in
+    let n : leadingBlanks s ≡ length (l .0) = omega (arith, ap length (l .1), length-append (l .0) t) in
     sym (ap₂ drop n (l .1) ∙ drop-at (l .0) t (length (l .0)) refl)
 
 pub end-place : (s : List ℕ) → endTrimmed s ≡ take (length (endTrimmed s)) s
@@ -53,5 +53,5 @@ end-place s =
     let t = endTrimmed s in
     sym (ap (take (length t)) (l .1) ∙ take-at t (l .0) (length t) refl)
 
-pub trimmed-place : (s : List ℕ) → trimmed s ≡ take (length (trimmed s)) (drop (passed s) s)
+pub trimmed-place : (s : List ℕ) → trimmed s ≡ take (length (trimmed s)) (drop (leadingBlanks s) s)
 trimmed-place s = end-place (startTrimmed s) ∙ ap (take (length (trimmed s))) (start-place s)

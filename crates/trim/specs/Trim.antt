@@ -51,5 +51,5 @@ abbrev pub trimmed : List ℕ → List ℕ
 trimmed s = endTrimmed (startTrimmed s)
 
 -- how many bytes the White_Space takes that a text starts with
-abbrev pub passed : List ℕ → ℕ
-passed s = length s - length (startTrimmed s)
+abbrev pub leadingBlanks : List ℕ → ℕ
+leadingBlanks s = length s - length (startTrimmed s)

@@ -3,7 +3,7 @@ ghost use mathlib.Core.Path.{_≡_};
 ghost use Prim.Native.Nat.{_-_, _≤_, _<_};
 ghost use lib.ListN.{length, getD, drop};
 ghost use Rattle.base.specs.Part.{Part};
-ghost use Rattle.trim.specs.Trim.{startTrimmed, endTrimmed, trimmed, passed, white1, white2, white3};
+ghost use Rattle.trim.specs.Trim.{startTrimmed, endTrimmed, trimmed, leadingBlanks, white1, white2, white3};
 ghost use Rattle.trim.specs.Code.Trims.{WhiteAt, WhiteBefore, threeLen};
 ghost use Rattle.trim.specs.Code.Blank.{BlankAt, blanksEnd};
 use base::both;
@@ -11,13 +11,13 @@ use base::either;
 use base::in_range;
 
 pub fn trim<'a>(s: &'a [u8]) -> &'a [u8]
-    ensures { λ r. ⌜ Part (s .entry) r (passed (now (s .entry))) (trimmed (now (s .entry))) ⌝ }
+    ensures { λ r. ⌜ Part (s .entry) r (leadingBlanks (now (s .entry))) (trimmed (now (s .entry))) ⌝ }
 {
     trim_end(trim_start(s))
 }
 
 pub fn trim_start<'a>(s: &'a [u8]) -> &'a [u8]
-    ensures { λ r. ⌜ Part (s .entry) r (passed (now (s .entry))) (startTrimmed (now (s .entry))) ⌝ }
+    ensures { λ r. ⌜ Part (s .entry) r (leadingBlanks (now (s .entry))) (startTrimmed (now (s .entry))) ⌝ }
 {
     let mut i: usize = 0;
     while i < s.len() {

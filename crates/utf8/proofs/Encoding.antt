@@ -6,25 +6,25 @@ use mathlib.Core.Bool.{Bool, true, false, cond, _&&_, _||_}
 use borrow.Author.Tests.{le-leb, lt-leb, leb-true, eqb-true, ne-eqb}
 use native.Mathlib.Omega.{arith}
 use lib.Dec.{leb, eqb}
-use Rattle.utf8.specs.Utf8.{utf8, after, after2, after3, tail, two, three, four}
+use Rattle.utf8.specs.Utf8.{utf8, after, after2, after3, utf8-tail, utf8-2, utf8-3, utf8-4}
 use Rattle.base.specs.Range.{within}
-use Rattle.base.proofs.Tests.{inside, between, and-left, and-right, and-both, by-or, by-leb, by-cond, never}
+use Rattle.base.proofs.Tests.{inside, between, and-left, and-right, and-both, by-or, by-leb, by-cond, false-true}
 use Rattle.utf8.proofs.Lead.{utf8-cons, after-cons, after2-cons, after3-cons, one-is, two-is, three-is, four-is}
 use Rattle.base.specs.Lists.{all}
 use Rattle.utf8.specs.Encode.{scalar, encode, encode2, encode3, encode4, encodes, Valid}
 
 -- the alternatives of UTF8-3
 module _ (b c : ℕ) (k : 0x80 ≤ c) (l : c ≤ 0xBF) where
-  three-e0 : 0xA0 ≤ b → b ≤ 0xBF → three 0xE0 b c ≡ true
+  three-e0 : 0xA0 ≤ b → b ≤ 0xBF → utf8-3 0xE0 b c ≡ true
   three-e0 p q = simp (inside 0xA0 0xBF b p q, inside 0x80 0xBF c k l)
 
-  three-ed : 0x80 ≤ b → b ≤ 0x9F → three 0xED b c ≡ true
+  three-ed : 0x80 ≤ b → b ≤ 0x9F → utf8-3 0xED b c ≡ true
   three-ed p q = simp (inside 0x80 0x9F b p q, inside 0x80 0xBF c k l)
 
-  three-e1 : (a : ℕ) → 0xE1 ≤ a → a ≤ 0xEC → 0x80 ≤ b → b ≤ 0xBF → three a b c ≡ true
+  three-e1 : (a : ℕ) → 0xE1 ≤ a → a ≤ 0xEC → 0x80 ≤ b → b ≤ 0xBF → utf8-3 a b c ≡ true
   three-e1 a m n p q = simp (ne-eqb a 0xE0 (λ e. omega arith), le-leb 0xE1 a m, le-leb a 0xEC n, le-leb 0x80 b p, le-leb b 0xBF q, le-leb 0x80 c k, le-leb c 0xBF l)
 
-  three-ee : (a : ℕ) → 0xEE ≤ a → a ≤ 0xEF → 0x80 ≤ b → b ≤ 0xBF → three a b c ≡ true
+  three-ee : (a : ℕ) → 0xEE ≤ a → a ≤ 0xEF → 0x80 ≤ b → b ≤ 0xBF → utf8-3 a b c ≡ true
   three-ee a m n p q =
       simp (
         ne-eqb a 0xE0 (λ e. omega arith),
@@ -41,13 +41,13 @@ module _ (b c : ℕ) (k : 0x80 ≤ c) (l : c ≤ 0xBF) where
 
 -- the alternatives of UTF8-4
 module _ (b c d : ℕ) (k : 0x80 ≤ c) (l : c ≤ 0xBF) (m : 0x80 ≤ d) (n : d ≤ 0xBF) where
-  four-f0 : 0x90 ≤ b → b ≤ 0xBF → four 0xF0 b c d ≡ true
+  four-f0 : 0x90 ≤ b → b ≤ 0xBF → utf8-4 0xF0 b c d ≡ true
   four-f0 p q = simp (inside 0x90 0xBF b p q, inside 0x80 0xBF c k l, inside 0x80 0xBF d m n)
 
-  four-f4 : 0x80 ≤ b → b ≤ 0x8F → four 0xF4 b c d ≡ true
+  four-f4 : 0x80 ≤ b → b ≤ 0x8F → utf8-4 0xF4 b c d ≡ true
   four-f4 p q = simp (inside 0x80 0x8F b p q, inside 0x80 0xBF c k l, inside 0x80 0xBF d m n)
 
-  four-f1 : (a : ℕ) → 0xF1 ≤ a → a ≤ 0xF3 → 0x80 ≤ b → b ≤ 0xBF → four a b c d ≡ true
+  four-f1 : (a : ℕ) → 0xF1 ≤ a → a ≤ 0xF3 → 0x80 ≤ b → b ≤ 0xBF → utf8-4 a b c d ≡ true
   four-f1 a g h p q =
       simp (
         ne-eqb a 0xF0 (λ e. omega arith),
@@ -68,7 +68,7 @@ module _ (c : ℕ) (t : List ℕ) where
   two-in : 0x7F < c → c ≤ 0x7FF → utf8 (encode c ++ t) ≡ utf8 t
   two-in g h =
       let e : encode c ≡ encode2 c = simp (lt-leb c 0x7F g, le-leb c 0x7FF h) in
-      let q : two (0xC0 + c / 64) (0x80 + c % 64) ≡ true =
+      let q : utf8-2 (0xC0 + c / 64) (0x80 + c % 64) ≡ true =
       simp (le-leb 0xC2 (0xC0 + c / 64) (omega arith), le-leb (0xC0 + c / 64) 0xDF (omega arith), le-leb 0x80 (0x80 + c % 64) (omega arith), le-leb (0x80 + c % 64) 0xBF (omega arith)) in
       ap (λ (l : List ℕ). utf8 (l ++ t)) e ∙ two-is (0xC0 + c / 64) (0x80 + c % 64) t (omega arith) (omega arith) ∙ ap (λ (b : Bool). cond b (utf8 t) false) q
 
@@ -78,7 +78,7 @@ module _ (c : ℕ) (t : List ℕ) where
       let y = 0x80 + c / 64 % 64 in
       let z = 0x80 + c % 64 in
       let e : encode c ≡ encode3 c = simp (lt-leb c 0x7F (omega arith), lt-leb c 0x7FF g, le-leb c 0xFFFF h) in
-      let q : three x y z ≡ true =
+      let q : utf8-3 x y z ≡ true =
       by-leb c 0xFFF
       (λ p. let w : x ≡ 0xE0 = omega arith in rw w (three-e0 y z (omega arith) (omega arith) (omega arith) (omega arith)))
       (λ p. by-leb c 0xCFFF
@@ -95,7 +95,7 @@ module _ (c : ℕ) (t : List ℕ) where
       let z = 0x80 + c / 64 % 64 in
       let v = 0x80 + c % 64 in
       let e : encode c ≡ encode4 c = simp (lt-leb c 0x7F (omega arith), lt-leb c 0x7FF (omega arith), lt-leb c 0xFFFF g) in
-      let q : four x y z v ≡ true =
+      let q : utf8-4 x y z v ≡ true =
       by-leb c 0x3FFFF
       (λ p. let w : x ≡ 0xF0 = omega arith in rw w (four-f0 y z v (omega arith) (omega arith) (omega arith) (omega arith) (omega arith) (omega arith)))
       (λ p. by-leb c 0xFFFFF
@@ -139,10 +139,10 @@ valid-char c bs t e p v =
 valid1 : (a : ℕ) (t : List ℕ) → a ≤ 0x7F → Valid t → Valid (a ∷ t)
 valid1 a t h = valid-char a (a ∷ []) t (scalar-low a (omega arith)) (simp (le-leb a 0x7F h))
 
-valid2 : (a b : ℕ) (t : List ℕ) → two a b ≡ true → Valid t → Valid (a ∷ b ∷ t)
+valid2 : (a b : ℕ) (t : List ℕ) → utf8-2 a b ≡ true → Valid t → Valid (a ∷ b ∷ t)
 valid2 a b t e =
-    let f = between 0xC2 0xDF a (and-left (within 0xC2 0xDF a) (tail b) e) in
-    let g = between 0x80 0xBF b (and-right (within 0xC2 0xDF a) (tail b) e) in
+    let f = between 0xC2 0xDF a (and-left (within 0xC2 0xDF a) (utf8-tail b) e) in
+    let g = between 0x80 0xBF b (and-right (within 0xC2 0xDF a) (utf8-tail b) e) in
     let c = (a - 0xC0) * 64 + (b - 0x80) in
     let x : 0xC0 + c / 64 ≡ a = omega arith in
     let y : 0x80 + c % 64 ≡ b = omega arith in
@@ -153,7 +153,7 @@ module _ (a b d : ℕ) (t : List ℕ) where
   code3 : ℕ
   code3 = (a - 0xE0) * 4096 + (b - 0x80) * 64 + (d - 0x80)
 
-  bytes3 : 0xE0 ≤ a → a ≤ 0xEF → tail b ≡ true → tail d ≡ true → 0x7FF < code3 → scalar code3 ≡ true → Valid t → Valid (a ∷ b ∷ d ∷ t)
+  bytes3 : 0xE0 ≤ a → a ≤ 0xEF → utf8-tail b ≡ true → utf8-tail d ≡ true → 0x7FF < code3 → scalar code3 ≡ true → Valid t → Valid (a ∷ b ∷ d ∷ t)
   unfolding code3
   bytes3 g h k l m e =
       let f = between 0x80 0xBF b k in
@@ -166,7 +166,7 @@ module _ (a b d : ℕ) (t : List ℕ) where
       valid-char c (a ∷ b ∷ d ∷ []) t e (w ∙ rw (x, y, z) refl)
 
   -- an alternative of UTF8-3 whose first byte is one, or is between two
-  alt3 : (lo hi : ℕ) → 0xE0 ≤ a → a ≤ 0xEF → within lo hi b ≡ true → 0x80 ≤ lo → hi ≤ 0xBF → tail d ≡ true
+  alt3 : (lo hi : ℕ) → 0xE0 ≤ a → a ≤ 0xEF → within lo hi b ≡ true → 0x80 ≤ lo → hi ≤ 0xBF → utf8-tail d ≡ true
       → (lo ≤ b → b ≤ hi → 0x80 ≤ d → d ≤ 0xBF → (0x7FF < code3) × (scalar code3 ≡ true)) → Valid t → Valid (a ∷ b ∷ d ∷ t)
   alt3 lo hi g h k p q l r =
       let f = between lo hi b k in
@@ -174,47 +174,47 @@ module _ (a b d : ℕ) (t : List ℕ) where
       let j = r (f .0) (f .1) (i .0) (i .1) in
       bytes3 g h (inside 0x80 0xBF b (omega arith) (omega arith)) l (j .0) (j .1)
 
-  valid3 : three a b d ≡ true → Valid t → Valid (a ∷ b ∷ d ∷ t)
+  valid3 : utf8-3 a b d ≡ true → Valid t → Valid (a ∷ b ∷ d ∷ t)
   unfolding code3
   valid3 e v =
-      let u1 = eqb a 0xE0 && within 0xA0 0xBF b && tail d in
-      let u2 = within 0xE1 0xEC a && tail b && tail d in
-      let u3 = eqb a 0xED && within 0x80 0x9F b && tail d in
-      let u4 = within 0xEE 0xEF a && tail b && tail d in
+      let u1 = eqb a 0xE0 && within 0xA0 0xBF b && utf8-tail d in
+      let u2 = within 0xE1 0xEC a && utf8-tail b && utf8-tail d in
+      let u3 = eqb a 0xED && within 0x80 0x9F b && utf8-tail d in
+      let u4 = within 0xEE 0xEF a && utf8-tail b && utf8-tail d in
       let c = (a - 0xE0) * 4096 + (b - 0x80) * 64 + (d - 0x80) in
       by-or (u1 || u2 || u3) u4 e
       (λ e. by-or (u1 || u2) u3 e
       (λ e. by-or u1 u2 e
       (λ e.
-      let m = and-left (eqb a 0xE0 && within 0xA0 0xBF b) (tail d) e in
+      let m = and-left (eqb a 0xE0 && within 0xA0 0xBF b) (utf8-tail d) e in
       let n = eqb-true a 0xE0 (and-left (eqb a 0xE0) (within 0xA0 0xBF b) m) in
       alt3 0xA0 0xBF (omega arith) (omega arith) (and-right (eqb a 0xE0) (within 0xA0 0xBF b) m) (omega arith) (omega arith)
-      (and-right (eqb a 0xE0 && within 0xA0 0xBF b) (tail d) e)
+      (and-right (eqb a 0xE0 && within 0xA0 0xBF b) (utf8-tail d) e)
       (λ p q r s. (omega arith, scalar-low c (omega arith))) v)
       (λ e.
-      let m = and-left (within 0xE1 0xEC a && tail b) (tail d) e in
-      let n = between 0xE1 0xEC a (and-left (within 0xE1 0xEC a) (tail b) m) in
-      alt3 0x80 0xBF (omega arith) (omega arith) (and-right (within 0xE1 0xEC a) (tail b) m) (omega arith) (omega arith)
-      (and-right (within 0xE1 0xEC a && tail b) (tail d) e)
+      let m = and-left (within 0xE1 0xEC a && utf8-tail b) (utf8-tail d) e in
+      let n = between 0xE1 0xEC a (and-left (within 0xE1 0xEC a) (utf8-tail b) m) in
+      alt3 0x80 0xBF (omega arith) (omega arith) (and-right (within 0xE1 0xEC a) (utf8-tail b) m) (omega arith) (omega arith)
+      (and-right (within 0xE1 0xEC a && utf8-tail b) (utf8-tail d) e)
       (λ p q r s. (omega arith, scalar-low c (omega arith))) v))
       (λ e.
-      let m = and-left (eqb a 0xED && within 0x80 0x9F b) (tail d) e in
+      let m = and-left (eqb a 0xED && within 0x80 0x9F b) (utf8-tail d) e in
       let n = eqb-true a 0xED (and-left (eqb a 0xED) (within 0x80 0x9F b) m) in
       alt3 0x80 0x9F (omega arith) (omega arith) (and-right (eqb a 0xED) (within 0x80 0x9F b) m) (omega arith) (omega arith)
-      (and-right (eqb a 0xED && within 0x80 0x9F b) (tail d) e)
+      (and-right (eqb a 0xED && within 0x80 0x9F b) (utf8-tail d) e)
       (λ p q r s. (omega arith, scalar-low c (omega arith))) v))
       (λ e.
-      let m = and-left (within 0xEE 0xEF a && tail b) (tail d) e in
-      let n = between 0xEE 0xEF a (and-left (within 0xEE 0xEF a) (tail b) m) in
-      alt3 0x80 0xBF (omega arith) (omega arith) (and-right (within 0xEE 0xEF a) (tail b) m) (omega arith) (omega arith)
-      (and-right (within 0xEE 0xEF a && tail b) (tail d) e)
+      let m = and-left (within 0xEE 0xEF a && utf8-tail b) (utf8-tail d) e in
+      let n = between 0xEE 0xEF a (and-left (within 0xEE 0xEF a) (utf8-tail b) m) in
+      alt3 0x80 0xBF (omega arith) (omega arith) (and-right (within 0xEE 0xEF a) (utf8-tail b) m) (omega arith) (omega arith)
+      (and-right (within 0xEE 0xEF a && utf8-tail b) (utf8-tail d) e)
       (λ p q r s. (omega arith, scalar-high c (omega arith) (omega arith))) v)
 
 module _ (a b d f : ℕ) (t : List ℕ) where
   code4 : ℕ
   code4 = (a - 0xF0) * 262144 + (b - 0x80) * 4096 + (d - 0x80) * 64 + (f - 0x80)
 
-  alt4 : (lo hi : ℕ) → 0xF0 ≤ a → a ≤ 0xF4 → within lo hi b ≡ true → 0x80 ≤ lo → hi ≤ 0xBF → tail d ≡ true → tail f ≡ true
+  alt4 : (lo hi : ℕ) → 0xF0 ≤ a → a ≤ 0xF4 → within lo hi b ≡ true → 0x80 ≤ lo → hi ≤ 0xBF → utf8-tail d ≡ true → utf8-tail f ≡ true
       → (lo ≤ b → b ≤ hi → 0x80 ≤ d → d ≤ 0xBF → 0x80 ≤ f → f ≤ 0xBF → (0xFFFF < code4) × (code4 ≤ 0x10FFFF)) → Valid t → Valid (a ∷ b ∷ d ∷ f ∷ t)
   unfolding code4
   alt4 lo hi g h k p q l m r =
@@ -230,34 +230,34 @@ module _ (a b d f : ℕ) (t : List ℕ) where
       let w : encode c ≡ encode4 c = simp (lt-leb c 0x7F (omega arith), lt-leb c 0x7FF (omega arith), lt-leb c 0xFFFF (o .0)) in
       valid-char c (a ∷ b ∷ d ∷ f ∷ []) t (scalar-high c (omega arith) (o .1)) (w ∙ rw (x, y, z, v) refl)
 
-  valid4 : four a b d f ≡ true → Valid t → Valid (a ∷ b ∷ d ∷ f ∷ t)
+  valid4 : utf8-4 a b d f ≡ true → Valid t → Valid (a ∷ b ∷ d ∷ f ∷ t)
   unfolding code4
   valid4 e v =
-      let u1 = eqb a 0xF0 && within 0x90 0xBF b && tail d && tail f in
-      let u2 = within 0xF1 0xF3 a && tail b && tail d && tail f in
-      let u3 = eqb a 0xF4 && within 0x80 0x8F b && tail d && tail f in
+      let u1 = eqb a 0xF0 && within 0x90 0xBF b && utf8-tail d && utf8-tail f in
+      let u2 = within 0xF1 0xF3 a && utf8-tail b && utf8-tail d && utf8-tail f in
+      let u3 = eqb a 0xF4 && within 0x80 0x8F b && utf8-tail d && utf8-tail f in
       by-or (u1 || u2) u3 e
       (λ e. by-or u1 u2 e
       (λ e.
-      let l = and-left (eqb a 0xF0 && within 0x90 0xBF b && tail d) (tail f) e in
-      let m = and-left (eqb a 0xF0 && within 0x90 0xBF b) (tail d) l in
+      let l = and-left (eqb a 0xF0 && within 0x90 0xBF b && utf8-tail d) (utf8-tail f) e in
+      let m = and-left (eqb a 0xF0 && within 0x90 0xBF b) (utf8-tail d) l in
       let n = eqb-true a 0xF0 (and-left (eqb a 0xF0) (within 0x90 0xBF b) m) in
       alt4 0x90 0xBF (omega arith) (omega arith) (and-right (eqb a 0xF0) (within 0x90 0xBF b) m) (omega arith) (omega arith)
-      (and-right (eqb a 0xF0 && within 0x90 0xBF b) (tail d) l) (and-right (eqb a 0xF0 && within 0x90 0xBF b && tail d) (tail f) e)
+      (and-right (eqb a 0xF0 && within 0x90 0xBF b) (utf8-tail d) l) (and-right (eqb a 0xF0 && within 0x90 0xBF b && utf8-tail d) (utf8-tail f) e)
       (λ p q r s x y. (omega arith, omega arith)) v)
       (λ e.
-      let l = and-left (within 0xF1 0xF3 a && tail b && tail d) (tail f) e in
-      let m = and-left (within 0xF1 0xF3 a && tail b) (tail d) l in
-      let n = between 0xF1 0xF3 a (and-left (within 0xF1 0xF3 a) (tail b) m) in
-      alt4 0x80 0xBF (omega arith) (omega arith) (and-right (within 0xF1 0xF3 a) (tail b) m) (omega arith) (omega arith)
-      (and-right (within 0xF1 0xF3 a && tail b) (tail d) l) (and-right (within 0xF1 0xF3 a && tail b && tail d) (tail f) e)
+      let l = and-left (within 0xF1 0xF3 a && utf8-tail b && utf8-tail d) (utf8-tail f) e in
+      let m = and-left (within 0xF1 0xF3 a && utf8-tail b) (utf8-tail d) l in
+      let n = between 0xF1 0xF3 a (and-left (within 0xF1 0xF3 a) (utf8-tail b) m) in
+      alt4 0x80 0xBF (omega arith) (omega arith) (and-right (within 0xF1 0xF3 a) (utf8-tail b) m) (omega arith) (omega arith)
+      (and-right (within 0xF1 0xF3 a && utf8-tail b) (utf8-tail d) l) (and-right (within 0xF1 0xF3 a && utf8-tail b && utf8-tail d) (utf8-tail f) e)
       (λ p q r s x y. (omega arith, omega arith)) v))
       (λ e.
-      let l = and-left (eqb a 0xF4 && within 0x80 0x8F b && tail d) (tail f) e in
-      let m = and-left (eqb a 0xF4 && within 0x80 0x8F b) (tail d) l in
+      let l = and-left (eqb a 0xF4 && within 0x80 0x8F b && utf8-tail d) (utf8-tail f) e in
+      let m = and-left (eqb a 0xF4 && within 0x80 0x8F b) (utf8-tail d) l in
       let n = eqb-true a 0xF4 (and-left (eqb a 0xF4) (within 0x80 0x8F b) m) in
       alt4 0x80 0x8F (omega arith) (omega arith) (and-right (eqb a 0xF4) (within 0x80 0x8F b) m) (omega arith) (omega arith)
-      (and-right (eqb a 0xF4 && within 0x80 0x8F b) (tail d) l) (and-right (eqb a 0xF4 && within 0x80 0x8F b && tail d) (tail f) e)
+      (and-right (eqb a 0xF4 && within 0x80 0x8F b) (utf8-tail d) l) (and-right (eqb a 0xF4 && within 0x80 0x8F b && utf8-tail d) (utf8-tail f) e)
       (λ p q r s x y. (omega arith, omega arith)) v)
 
 -- what is UTF-8 is encoded
@@ -267,16 +267,16 @@ mutual
   complete (a ∷ s) e = by-cond (leb a 0x7F) (utf8 s) (after a s) (sym (utf8-cons a s) ∙ e) (λ p q. valid1 a s (leb-true a 0x7F p) (complete s q)) (λ _ q. complete1 s a q)
 
   complete1 : (s : List ℕ) (a : ℕ) → after a s ≡ true → Valid (a ∷ s)
-  complete1 [] a e = never e
-  complete1 (b ∷ s) a e = by-cond (two a b) (utf8 s) (after2 a b s) (sym (after-cons a b s) ∙ e) (λ p q. valid2 a b s p (complete s q)) (λ _ q. complete2 s a b q)
+  complete1 [] a e = false-true e
+  complete1 (b ∷ s) a e = by-cond (utf8-2 a b) (utf8 s) (after2 a b s) (sym (after-cons a b s) ∙ e) (λ p q. valid2 a b s p (complete s q)) (λ _ q. complete2 s a b q)
 
   complete2 : (s : List ℕ) (a b : ℕ) → after2 a b s ≡ true → Valid (a ∷ b ∷ s)
-  complete2 [] a b e = never e
-  complete2 (c ∷ s) a b e = by-cond (three a b c) (utf8 s) (after3 a b c s) (sym (after2-cons a b c s) ∙ e) (λ p q. valid3 a b c s p (complete s q)) (λ _ q. complete3 s a b c q)
+  complete2 [] a b e = false-true e
+  complete2 (c ∷ s) a b e = by-cond (utf8-3 a b c) (utf8 s) (after3 a b c s) (sym (after2-cons a b c s) ∙ e) (λ p q. valid3 a b c s p (complete s q)) (λ _ q. complete3 s a b c q)
 
   complete3 : (s : List ℕ) (a b c : ℕ) → after3 a b c s ≡ true → Valid (a ∷ b ∷ c ∷ s)
-  complete3 [] a b c e = never e
-  complete3 (d ∷ s) a b c e = by-cond (four a b c d) (utf8 s) false (sym (after3-cons a b c d s) ∙ e) (λ p q. valid4 a b c d s p (complete s q)) (λ _ q. never q)
+  complete3 [] a b c e = false-true e
+  complete3 (d ∷ s) a b c e = by-cond (utf8-4 a b c d) (utf8 s) false (sym (after3-cons a b c d s) ∙ e) (λ p q. valid4 a b c d s p (complete s q)) (λ _ q. false-true q)
 
 pub exact : (s : List ℕ) → Valid s → utf8 s ≡ true
 exact s v = rw (v .2) (sound (v .0) (v .1))

@@ -8,7 +8,7 @@ use lib.ListN.{length, getD, drop, length-drop}
 use Rattle.base.specs.Code.Skips.{Skips, AllFrom}
 use Rattle.base.proofs.Bytes.{at1, at2, at3, at4}
 use Rattle.base.proofs.Skips.{skips-all}
-use Rattle.utf8.specs.Utf8.{utf8, two, three, four}
+use Rattle.utf8.specs.Utf8.{utf8, utf8-2, utf8-3, utf8-4}
 use Rattle.utf8.specs.Code.From.{utf8From, CharactersAt}
 use Rattle.utf8.proofs.Lead.{one-is, two-is, three-is, four-is, two-short, three-short, four-short}
 
@@ -32,15 +32,15 @@ module _ (s : List ℕ) (at : ℕ) (h : at < length s) where
   pub at-one : getD s at 0 ≤ 0x7F → CharactersAt s at 1
   at-one e = chosen 1 true (omega arith) (omega arith) (ap utf8 (at1 s at h) ∙ one-is (getD s at 0) (drop (at + 1) s) e) refl
 
-  pub at-two : at + 2 ≤ length s → 0x7F < getD s at 0 → getD s at 0 ≤ 0xDF → utf8 (drop at s) ≡ cond (two (getD s at 0) (getD s (at + 1) 0)) (utf8 (drop (at + 2) s)) false
+  pub at-two : at + 2 ≤ length s → 0x7F < getD s at 0 → getD s at 0 ≤ 0xDF → utf8 (drop at s) ≡ cond (utf8-2 (getD s at 0) (getD s (at + 1) 0)) (utf8 (drop (at + 2) s)) false
   at-two g a b = ap utf8 (at2 s at (omega arith)) ∙ two-is (getD s at 0) (getD s (at + 1) 0) (drop (at + 2) s) a b
 
   pub at-three : at + 3 ≤ length s → 0xDF < getD s at 0 → getD s at 0 ≤ 0xEF
-      → utf8 (drop at s) ≡ cond (three (getD s at 0) (getD s (at + 1) 0) (getD s (at + 2) 0)) (utf8 (drop (at + 3) s)) false
+      → utf8 (drop at s) ≡ cond (utf8-3 (getD s at 0) (getD s (at + 1) 0) (getD s (at + 2) 0)) (utf8 (drop (at + 3) s)) false
   at-three g a b = ap utf8 (at3 s at (omega arith)) ∙ three-is (getD s at 0) (getD s (at + 1) 0) (getD s (at + 2) 0) (drop (at + 3) s) a b
 
   pub at-four : at + 4 ≤ length s → 0xEF < getD s at 0
-      → utf8 (drop at s) ≡ cond (four (getD s at 0) (getD s (at + 1) 0) (getD s (at + 2) 0) (getD s (at + 3) 0)) (utf8 (drop (at + 4) s)) false
+      → utf8 (drop at s) ≡ cond (utf8-4 (getD s at 0) (getD s (at + 1) 0) (getD s (at + 2) 0) (getD s (at + 3) 0)) (utf8 (drop (at + 4) s)) false
   at-four g a = ap utf8 (at4 s at (omega arith)) ∙ four-is (getD s at 0) (getD s (at + 1) 0) (getD s (at + 2) 0) (getD s (at + 3) 0) (drop (at + 4) s) a
 
   pub short-two : length s - at < 2 → 0x7F < getD s at 0 → CharactersAt s at 0

@@ -7,31 +7,31 @@ use borrow.Author.Tests.{le-leb, lt-leb, ne-eqb}
 use native.Mathlib.Omega.{arith}
 use lib.ListN.{length}
 use Rattle.base.proofs.Tests.{below, above, choice}
-use Rattle.utf8.specs.Utf8.{utf8, after, after2, after3, one, two, three, four}
+use Rattle.utf8.specs.Utf8.{utf8, after, after2, after3, utf8-1, utf8-2, utf8-3, utf8-4}
 
 -- a text by its first byte
-pub utf8-cons : (a : ℕ) (t : List ℕ) → utf8 (a ∷ t) ≡ cond (one a) (utf8 t) (after a t)
-utf8-cons a t = choice (one a) (utf8 t) (after a t)
+pub utf8-cons : (a : ℕ) (t : List ℕ) → utf8 (a ∷ t) ≡ cond (utf8-1 a) (utf8 t) (after a t)
+utf8-cons a t = choice (utf8-1 a) (utf8 t) (after a t)
 
-pub after-cons : (a b : ℕ) (t : List ℕ) → after a (b ∷ t) ≡ cond (two a b) (utf8 t) (after2 a b t)
-after-cons a b t = choice (two a b) (utf8 t) (after2 a b t)
+pub after-cons : (a b : ℕ) (t : List ℕ) → after a (b ∷ t) ≡ cond (utf8-2 a b) (utf8 t) (after2 a b t)
+after-cons a b t = choice (utf8-2 a b) (utf8 t) (after2 a b t)
 
-pub after2-cons : (a b c : ℕ) (t : List ℕ) → after2 a b (c ∷ t) ≡ cond (three a b c) (utf8 t) (after3 a b c t)
-after2-cons a b c t = choice (three a b c) (utf8 t) (after3 a b c t)
+pub after2-cons : (a b c : ℕ) (t : List ℕ) → after2 a b (c ∷ t) ≡ cond (utf8-3 a b c) (utf8 t) (after3 a b c t)
+after2-cons a b c t = choice (utf8-3 a b c) (utf8 t) (after3 a b c t)
 
-pub after3-cons : (a b c d : ℕ) (t : List ℕ) → after3 a b c (d ∷ t) ≡ cond (four a b c d) (utf8 t) false
-after3-cons a b c d t = choice (four a b c d) (utf8 t) false
+pub after3-cons : (a b c d : ℕ) (t : List ℕ) → after3 a b c (d ∷ t) ≡ cond (utf8-4 a b c d) (utf8 t) false
+after3-cons a b c d t = choice (utf8-4 a b c d) (utf8 t) false
 
-no-two : (a b : ℕ) → 0xDF < a → two a b ≡ false
+no-two : (a b : ℕ) → 0xDF < a → utf8-2 a b ≡ false
 no-two a b h = simp (above 0xC2 0xDF a h)
 
-three-low : (a b c : ℕ) → a ≤ 0xDF → three a b c ≡ false
+three-low : (a b c : ℕ) → a ≤ 0xDF → utf8-3 a b c ≡ false
 three-low a b c h = simp (ne-eqb a 0xE0 (λ e. omega arith), below 0xE1 0xEC a (omega arith), ne-eqb a 0xED (λ e. omega arith), below 0xEE 0xEF a (omega arith))
 
-three-high : (a b c : ℕ) → 0xEF < a → three a b c ≡ false
+three-high : (a b c : ℕ) → 0xEF < a → utf8-3 a b c ≡ false
 three-high a b c h = simp (ne-eqb a 0xE0 (λ e. omega arith), above 0xE1 0xEC a (omega arith), ne-eqb a 0xED (λ e. omega arith), above 0xEE 0xEF a (omega arith))
 
-four-low : (a b c d : ℕ) → a ≤ 0xEF → four a b c d ≡ false
+four-low : (a b c d : ℕ) → a ≤ 0xEF → utf8-4 a b c d ≡ false
 four-low a b c d h = simp (ne-eqb a 0xF0 (λ e. omega arith), below 0xF1 0xF3 a (omega arith), ne-eqb a 0xF4 (λ e. omega arith))
 
 -- after the bytes of a character that is none nothing is UTF-8
@@ -55,13 +55,13 @@ lead3 a b c t h = rw (lead2 a b (c ∷ t) (omega arith), after2-cons a b c t, th
 pub one-is : (a : ℕ) (t : List ℕ) → a ≤ 0x7F → utf8 (a ∷ t) ≡ utf8 t
 one-is a t h = rw (utf8-cons a t, le-leb a 0x7F h)
 
-pub two-is : (a b : ℕ) (t : List ℕ) → 0x7F < a → a ≤ 0xDF → utf8 (a ∷ b ∷ t) ≡ cond (two a b) (utf8 t) false
-two-is a b t g h = lead a (b ∷ t) g ∙ after-cons a b t ∙ ap (cond (two a b) (utf8 t)) (after2-low a b t h)
+pub two-is : (a b : ℕ) (t : List ℕ) → 0x7F < a → a ≤ 0xDF → utf8 (a ∷ b ∷ t) ≡ cond (utf8-2 a b) (utf8 t) false
+two-is a b t g h = lead a (b ∷ t) g ∙ after-cons a b t ∙ ap (cond (utf8-2 a b) (utf8 t)) (after2-low a b t h)
 
-pub three-is : (a b c : ℕ) (t : List ℕ) → 0xDF < a → a ≤ 0xEF → utf8 (a ∷ b ∷ c ∷ t) ≡ cond (three a b c) (utf8 t) false
-three-is a b c t g h = lead2 a b (c ∷ t) g ∙ after2-cons a b c t ∙ ap (cond (three a b c) (utf8 t)) (after3-low a b c t h)
+pub three-is : (a b c : ℕ) (t : List ℕ) → 0xDF < a → a ≤ 0xEF → utf8 (a ∷ b ∷ c ∷ t) ≡ cond (utf8-3 a b c) (utf8 t) false
+three-is a b c t g h = lead2 a b (c ∷ t) g ∙ after2-cons a b c t ∙ ap (cond (utf8-3 a b c) (utf8 t)) (after3-low a b c t h)
 
-pub four-is : (a b c d : ℕ) (t : List ℕ) → 0xEF < a → utf8 (a ∷ b ∷ c ∷ d ∷ t) ≡ cond (four a b c d) (utf8 t) false
+pub four-is : (a b c d : ℕ) (t : List ℕ) → 0xEF < a → utf8 (a ∷ b ∷ c ∷ d ∷ t) ≡ cond (utf8-4 a b c d) (utf8 t) false
 four-is a b c d t h = lead3 a b c (d ∷ t) h ∙ after3-cons a b c d t
 
 -- a text that ends within its first character

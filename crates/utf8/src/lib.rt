@@ -8,7 +8,7 @@ ghost use mathlib.Core.Bool.{true, false, cond};
 ghost use Prim.Native.Nat.{_+_, _≤_, _<_};
 ghost use lib.ListN.{length, getD};
 ghost use Rattle.base.specs.Code.Skips.{SkipsTo, AllFrom};
-ghost use Rattle.utf8.specs.Utf8.{utf8, tail, two, three, four};
+ghost use Rattle.utf8.specs.Utf8.{utf8, utf8-tail, utf8-2, utf8-3, utf8-4};
 ghost use Rattle.utf8.specs.Code.From.{utf8From, CharactersAt};
 ghost use Rattle.utf8.specs.Code.Windows.{opened, follows, Follow};
 
@@ -253,13 +253,13 @@ fn step4(s: &[u8], at: usize) -> usize
 }
 
 fn is_tail(a: u8) -> bool
-    ensures { λ r. ⌜ r ≡ tail a ⌝ }
+    ensures { λ r. ⌜ r ≡ utf8-tail a ⌝ }
 {
     in_range(0x80, 0xBF, a)
 }
 
 fn is_two(a: u8, b: u8) -> bool
-    ensures { λ r. ⌜ r ≡ two a b ⌝ }
+    ensures { λ r. ⌜ r ≡ utf8-2 a b ⌝ }
 {
     both(in_range(0xC2, 0xDF, a), is_tail(b))
 }
@@ -267,17 +267,17 @@ fn is_two(a: u8, b: u8) -> bool
 // Of the first bytes of three-byte characters E0 and ED alone narrow the second byte.
 fn is_three(a: u8, b: u8, c: u8) -> bool
     requires { ⌜ (0xDF < a) × (a ≤ 0xEF) ⌝ }
-    ensures { λ r. ⌜ r ≡ three a b c ⌝ }
+    ensures { λ r. ⌜ r ≡ utf8-3 a b c ⌝ }
 {
     let lo = pick(a == 0xE0, 0xA0, 0x80);
     let hi = pick(a == 0xED, 0x9F, 0xBF);
     both(in_range(lo, hi, b), is_tail(c))
 }
 
-// Of those of four-byte characters F0 and F4 do.
+// Of the first bytes of four-byte characters F0 and F4 narrow the range of the second.
 fn is_four(a: u8, b: u8, c: u8, d: u8) -> bool
     requires { ⌜ 0xEF < a ⌝ }
-    ensures { λ r. ⌜ r ≡ four a b c d ⌝ }
+    ensures { λ r. ⌜ r ≡ utf8-4 a b c d ⌝ }
 {
     let lo = pick(a == 0xF0, 0x90, 0x80);
     let hi = pick(a == 0xF4, 0x8F, 0xBF);

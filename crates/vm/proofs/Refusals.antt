@@ -12,9 +12,9 @@ use Rattle.context.specs.declared.ContextError.the-variants.{InvalidChainId, In
 use Rattle.context.specs.declared.Gate.{Gate}
 use Rattle.context.specs.declared.Gate.the-variants as gate
 use Rattle.machine.specs.Machine.{Fault, outOfGas, stackUnderflow, stackLimitExceeded, divisionByZero, storageLimitExceeded, outsideStorage}
-use Rattle.machine.proofs.Stops.{Short}
-use Rattle.checks.specs.declared.Refusal.{Refusal}
-use Rattle.checks.specs.declared.Refusal.the-variants.{BufferLengths, EmptyProgram, ProgramTooLarge, StorageTooLarge, UnknownKind, JumpOutOfRange, OutOfGas, StackUnderflow, StackLimitExceeded, DivisionByZero, StorageLimitExceeded, OutsideStorage}
+use Rattle.machine.proofs.Faults.{Short}
+use Rattle.checks.specs.declared.VmError.{VmError}
+use Rattle.checks.specs.declared.VmError.the-variants.{BufferLengths, EmptyProgram, ProgramTooLarge, StorageTooLarge, UnknownKind, JumpOutOfRange, OutOfGas, StackUnderflow, StackLimitExceeded, DivisionByZero, StorageLimitExceeded, OutsideStorage}
 use Rattle.checks.specs.declared.Check.{Check}
 use Rattle.checks.specs.declared.Check.the-variants as check
 use Rattle.checks.specs.Verify.{thenCheck, buffersFit, gateCheck, targetFits, operationCheck, operationsCheck, verifyOf}
@@ -28,7 +28,7 @@ abbrev pub Tested : Check → Type 0
 Tested check.Passed = Unit {0}
 Tested (check.Refused f) = (34 ≤ refusalNumber f) × (refusalNumber f ≤ 45)
 
-need-tested : (b : Bool) (f : Refusal) (c : Check) → Tested (check.Refused f) → Tested c → Tested (need b (check.Refused f) c)
+need-tested : (b : Bool) (f : VmError) (c : Check) → Tested (check.Refused f) → Tested c → Tested (need b (check.Refused f) c)
 need-tested true f c p q = q
 need-tested false f c p q = p
 
@@ -69,7 +69,7 @@ checks-tested before behind x p q =
     (then-tested before _ p (then-tested (verifyOf (x .kinds) (x .operands) (x .state .used)) behind (verify-tested (x .kinds) (x .operands) (x .state .used)) q))
 
 -- a run refuses with 46 to 51
-pub record FromRun (f : Refusal) : Type 0 where
+pub record FromRun (f : VmError) : Type 0 where
   pub least : 46 ≤ refusalNumber f
   pub most : refusalNumber f ≤ 51
 
@@ -81,7 +81,7 @@ from-run divisionByZero = record { least = omega arith; most = omega arith }
 from-run (storageLimitExceeded slots) = record { least = omega arith; most = omega arith }
 from-run outsideStorage = record { least = omega arith; most = omega arith }
 
-other : (f : Refusal) (g price left : ℕ) → 47 ≤ refusalNumber f → f ≡ OutOfGas price left → (left < price) × (left ≤ g)
+other : (f : VmError) (g price left : ℕ) → 47 ≤ refusalNumber f → f ≡ OutOfGas price left → (left < price) × (left ≤ g)
 other f g price left h e = absurd (let n : refusalNumber f ≡ 46 = ap refusalNumber e in omega arith)
 
 pub short-of : (g : ℕ) (f : Fault) → Short g f → (price left : ℕ) → refusalOf f ≡ OutOfGas price left → (left < price) × (left ≤ g)

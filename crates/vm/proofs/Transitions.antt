@@ -4,39 +4,39 @@ use native.Mathlib.Omega.{arith}
 use mathlib.Core.Path.{_≡_, refl, ap}
 use lib.ListN.{length, take}
 use Rattle.context.specs.declared.Gate.{Gate}
-use Rattle.machine.specs.Machine.{Progress, next, done, stop, decode, whole}
+use Rattle.machine.specs.Machine.{Progress, next, done, stop, decode, runToEnd}
 use Rattle.machine.proofs.Runs.{Counted, whole-counted, Ended, whole-ends}
-use Rattle.machine.proofs.Stops.{Stops, whole-stops}
-use Rattle.checks.specs.declared.Refusal.{Refusal}
+use Rattle.machine.proofs.Faults.{Stops, whole-stops}
+use Rattle.checks.specs.declared.VmError.{VmError}
 use Rattle.checks.specs.declared.Check.{Check}
 use Rattle.checks.specs.declared.Check.the-variants as check
 use Rattle.checks.specs.Verify.{gateCheck}
 use Rattle.perform.specs.declared.State.{State}
-use Rattle.perform.specs.declared.Answer.the-variants.{Success, Refused}
+use Rattle.perform.specs.declared.RunAnswer.the-variants.{Success, Refused}
 use Rattle.perform.specs.Call.{Call}
-use Rattle.perform.specs.Run.{Result, refusalOf, undone, ofRun}
+use Rattle.perform.specs.Run.{RunResult, refusalOf, undone, ofRun}
 use Rattle.vm.specs.Transition.{afterCheck, checksOf, runUnder, meteredOf, transitionOf}
 use Rattle.vm.specs.Refusals.{refusalNumber, Leaves}
 use Rattle.vm.proofs.Refusals.{Tested, gate-tested, checks-tested, FromRun, from-run, short-of}
 
-not-success : {A : Type 0} {spent operations items : ℕ} {after : State} (f : Refusal) → Refused f ≡ Success spent operations items after → A
+not-success : {A : Type 0} {spent operations items : ℕ} {after : State} (f : VmError) → Refused f ≡ Success spent operations items after → A
 not-success f e = let z : _≡_ {A = ℕ} 0 1 = cc in absurd (omega arith)
 
 -- what a call books leaves a refused run as it is, and of a success the counts
-pub record Books (book : Result → Result) : Type 0 where
-  pub refused : (f : Refusal) (x : Call) → book (undone f x) ≡ undone f x
-  pub succeeded : (t : Result) {spent operations items : ℕ} {after : State} → t .answer ≡ Success spent operations items after
+pub record Books (book : RunResult → RunResult) : Type 0 where
+  pub refused : (f : VmError) (x : Call) → book (undone f x) ≡ undone f x
+  pub succeeded : (t : RunResult) {spent operations items : ℕ} {after : State} → t .answer ≡ Success spent operations items after
       → (later : State) × (book t .answer ≡ Success spent operations items later)
 
 -- a call with its own tests before and behind the verifier, which give only 34 to 45, and with what it books
-module _ (before behind : Check) (book : Result → Result) (books : Books book) (x : Call) where
+module _ (before behind : Check) (book : RunResult → RunResult) (books : Books book) (x : Call) where
   abbrev ran : Progress
-  ran = whole (decode (x .kinds) (x .operands)) (x .caller) (length (x .storage)) (x .limit) (take (x .state .used) (x .storage))
+  ran = runToEnd (decode (x .kinds) (x .operands)) (x .caller) (length (x .storage)) (x .limit) (take (x .state .used) (x .storage))
 
-  abbrev result : Check → Progress → Result
+  abbrev result : Check → Progress → RunResult
   result c o = afterCheck c x (book (ofRun x o))
 
-  pub leaves : Tested before → Tested behind → (f : Refusal) → runUnder before behind book x .answer ≡ Refused f → Leaves f x (runUnder before behind book x)
+  pub leaves : Tested before → Tested behind → (f : VmError) → runUnder before behind book x .answer ≡ Refused f → Leaves f x (runUnder before behind book x)
   leaves p q f =
       go (checksOf before behind x) ran (checks-tested before behind x p q) (whole-stops (x .limit) (decode (x .kinds) (x .operands)) (x .caller) (length (x .storage)) (take (x .state .used) (x .storage))) (whole-ends (decode (x .kinds) (x .operands)) (x .caller) (length (x .storage)) (x .limit) (take (x .state .used) (x .storage)))
     where
@@ -73,8 +73,8 @@ nothing : Books (λ r. r)
 nothing = record { refused = λ f x. refl; succeeded = λ t e. (_, e) }
 
 -- a metered run and a transition
-pub metered-leaves : (x : Call) (f : Refusal) → meteredOf x .answer ≡ Refused f → Leaves f x (meteredOf x)
+pub metered-leaves : (x : Call) (f : VmError) → meteredOf x .answer ≡ Refused f → Leaves f x (meteredOf x)
 metered-leaves x = leaves check.Passed check.Passed (λ r. r) nothing x tt tt
 
-pub transition-leaves : (gate : Gate) (x : Call) (f : Refusal) → transitionOf gate x .answer ≡ Refused f → Leaves f x (transitionOf gate x)
+pub transition-leaves : (gate : Gate) (x : Call) (f : VmError) → transitionOf gate x .answer ≡ Refused f → Leaves f x (transitionOf gate x)
 transition-leaves gate x = leaves (gateCheck gate) check.Passed (λ r. r) nothing x (gate-tested gate) tt

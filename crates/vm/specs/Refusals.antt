@@ -2,17 +2,17 @@
 use Prim.Native.Nat.{ℕ, _≤_, _<_}
 use mathlib.Core.Path.{_≡_}
 use lib.ListN.{length, replicate}
-use Rattle.checks.specs.declared.Refusal.{Refusal}
-use Rattle.checks.specs.declared.Refusal.the-variants.{OutOfGas}
-use Rattle.checks.specs.Numbers.{refusalNumbered}
+use Rattle.checks.specs.declared.VmError.{VmError}
+use Rattle.checks.specs.declared.VmError.the-variants.{OutOfGas}
+use Rattle.checks.specs.Numbers.{vmErrorNumbered}
 use Rattle.perform.specs.Call.{Call}
-use Rattle.perform.specs.Run.{Result}
+use Rattle.perform.specs.Run.{RunResult}
 
-abbrev pub refusalNumber : Refusal → ℕ
-refusalNumber f = refusalNumbered f .number
+abbrev pub refusalNumber : VmError → ℕ
+refusalNumber f = vmErrorNumbered f .number
 
 -- the refusal f of the call x, whose result is t
-pub record Leaves (f : Refusal) (x : Call) (t : Result) : Type 0 where
+pub record Leaves (f : VmError) (x : Call) (t : RunResult) : Type 0 where
   -- its number is 34 to 51, and no other
   pub least : 34 ≤ refusalNumber f
   pub most : refusalNumber f ≤ 51

@@ -5,9 +5,9 @@ ghost use Rattle.perform.specs.Run.{Meets};
 ghost use Rattle.vm.specs.Transition.{meteredOf, transitionOf};
 ghost use Rattle.vm.specs.Code.Verified.{verified};
 use checks::Check;
-use checks::Refusal;
+use checks::VmError;
 use context::Gate;
-use perform::Answer;
+use perform::RunAnswer;
 use perform::State;
 
 // Runs a program under a gas limit, on the used slots of the storage and without the chain gate. It refuses with 34, then 41 to 45 of
@@ -23,7 +23,7 @@ pub fn run_with_gas(
     work: &mut [u64],
     storage: &mut [u64],
     state: State,
-) -> Answer
+) -> RunAnswer
     ensures { λ a. ⌜ Meets (meteredOf (record {
       kinds = now (kinds .entry);
       operands = now (operands .entry);
@@ -44,7 +44,7 @@ pub fn run_with_gas(
         storage.len(),
         state.used,
     ) {
-        return Answer::Refused(Refusal::BufferLengths);
+        return RunAnswer::Refused(VmError::BufferLengths);
     }
     verified_run(
         kinds,
@@ -77,7 +77,7 @@ pub fn execute_state_transition_with_gas(
     work: &mut [u64],
     storage: &mut [u64],
     state: State,
-) -> Answer
+) -> RunAnswer
     ensures { λ a. ⌜ Meets (transitionOf (gateOf (now («chain_id» .entry)) (now («network_id» .entry)) (now («genesis_id» .entry))
         (now («protocol_version» .entry)) (now («vm_version» .entry)) (now («computed_genesis_id» .entry))
         (now («expected_protocol» .entry)) (now («expected_vm» .entry))) (record {
@@ -100,7 +100,7 @@ pub fn execute_state_transition_with_gas(
         storage.len(),
         state.used,
     ) {
-        return Answer::Refused(Refusal::BufferLengths);
+        return RunAnswer::Refused(VmError::BufferLengths);
     }
     let gate = context::execution_gate(
         chain_id,
@@ -113,7 +113,7 @@ pub fn execute_state_transition_with_gas(
         expected_vm,
     );
     match gate {
-        Gate::Refused(e) => Answer::Refused(Refusal::Context(e)),
+        Gate::Refused(e) => RunAnswer::Refused(VmError::Context(e)),
         Gate::Passed => verified_run(
             kinds,
             operands,
@@ -144,7 +144,7 @@ pub fn execute_state_transition(
     work: &mut [u64],
     storage: &mut [u64],
     state: State,
-) -> Answer
+) -> RunAnswer
     ensures { λ a. ⌜ Meets (transitionOf (gateOf (now («chain_id» .entry)) (now («network_id» .entry)) (now («genesis_id» .entry))
         (now («protocol_version» .entry)) (now («vm_version» .entry)) (now («computed_genesis_id» .entry))
         (now («expected_protocol» .entry)) (now («expected_vm» .entry))) (record {
@@ -189,7 +189,7 @@ fn verified_run(
     work: &mut [u64],
     storage: &mut [u64],
     state: State,
-) -> Answer
+) -> RunAnswer
     requires { ⌜ Lent (now kinds) (now operands) (now stack) (now work) (now storage) (state .used) ⌝ }
     ensures { λ a. ⌜ Meets (verified (record {
       kinds = now (kinds .entry);
@@ -204,7 +204,7 @@ fn verified_run(
         state a (now (stack .exit)) (now (work .exit)) (now (storage .exit)) ⌝ }
 {
     match checks::verify(kinds, operands, state.used) {
-        Check::Refused(f) => Answer::Refused(f),
+        Check::Refused(f) => RunAnswer::Refused(f),
         Check::Passed => perform::run(
             kinds,
             operands,

@@ -1,4 +1,4 @@
-// Pieces of ops text, written one after the other into a lent buffer. Each call has room for its piece and returns the place behind it.
+// Pieces of ops text, written one after the other into a lent buffer. Each call has room for its piece and returns the offset behind it.
 ghost use mathlib.Core.Path.{_≡_};
 ghost use mathlib.Core.List.{[], _∷_, _++_};
 ghost use Prim.Native.Nat.{_+_, _≤_};

@@ -2,7 +2,7 @@
 -- Assumes nothing.
 use mathlib.Core.Path.{sym}
 use lib.Seq.{length-take-le}
-use Rattle.assemble.proofs.Saying.{counted}
+use Rattle.assemble.proofs.Streams.{counted}
 use borrow.Author.Needs.{needs}
 use Rattle.assemble.proofs.assemble_into.Statement.{statement}
 use Rattle.assemble.proofs.assemble_into.Tie as tie

@@ -1,6 +1,6 @@
 -- `atc_vm::atc_assemble` meets its contract: what the call gives is told.
 use Rattle.numbered.specs.declared.Numbered.{Numbered}
-use Rattle.atc_vm.proofs.Telling.{told}
+use Rattle.atc_vm.proofs.Words.{told}
 use borrow.Author.Needs.{needs}
 use Rattle.atc_vm.proofs.atc_assemble.Statement.{statement}
 use Rattle.atc_vm.proofs.atc_assemble.Tie as tie

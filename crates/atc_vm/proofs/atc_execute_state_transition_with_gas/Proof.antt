@@ -1,6 +1,6 @@
 -- `atc_vm::atc_execute_state_transition_with_gas` meets its contract: what the call gives is told.
-use Rattle.perform.specs.Numbers.{answerNumbered}
-use Rattle.atc_vm.proofs.Telling.{told}
+use Rattle.perform.specs.Numbers.{runAnswerNumbered}
+use Rattle.atc_vm.proofs.Words.{told}
 use borrow.Author.Needs.{needs}
 use Rattle.atc_vm.proofs.atc_execute_state_transition_with_gas.Statement.{statement}
 use Rattle.atc_vm.proofs.atc_execute_state_transition_with_gas.Tie as tie
@@ -26,7 +26,7 @@ same-length-3 c = search needs
 returns : tie.Need-returns
 returns c =
     let p = c .before .before .before .before .before .before .before .before .before .execute-state-transition-with-gas .ensures in
-    record { tells = told answerNumbered (p .answer) (c .before .numbered .ensures) (c .tell .ensures); stackLeft = p .stack; workLeft = p .work; storageLeft = p .storage }
+    record { tells = told runAnswerNumbered (p .answer) (c .before .numbered .ensures) (c .tell .ensures); stackLeft = p .stack; workLeft = p .work; storageLeft = p .storage }
 
 pub atc-execute-state-transition-with-gas-spec : {M : Type 1} → statement M
 atc-execute-state-transition-with-gas-spec =

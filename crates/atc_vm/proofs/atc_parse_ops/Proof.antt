@@ -1,6 +1,6 @@
 -- `atc_vm::atc_parse_ops` meets its contract: what the call gives is told.
 use Rattle.ops.specs.Numbers.{parsedOpsNumbered}
-use Rattle.atc_vm.proofs.Telling.{told}
+use Rattle.atc_vm.proofs.Words.{told}
 use borrow.Author.Needs.{needs}
 use Rattle.atc_vm.proofs.atc_parse_ops.Statement.{statement}
 use Rattle.atc_vm.proofs.atc_parse_ops.Tie as tie

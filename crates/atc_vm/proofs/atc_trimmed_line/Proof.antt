@@ -5,8 +5,8 @@ use native.Mathlib.Omega.{arith}
 use lib.ListN.{take, drop, length-drop}
 use lib.Seq.{length-take-le}
 use denote.Ref.{now}
-use Rattle.ops.proofs.Reached.{numbered-line}
-use Rattle.atc_vm.proofs.Telling.{none-told, line-told, span-inside}
+use Rattle.ops.proofs.LineStarts.{numbered-line}
+use Rattle.atc_vm.proofs.Words.{none-told, line-told, span-inside}
 use borrow.Author.Needs.{needs}
 use Rattle.atc_vm.proofs.atc_trimmed_line.Statement.{statement}
 use Rattle.atc_vm.proofs.atc_trimmed_line.Tie as tie

@@ -1,6 +1,6 @@
 -- `atc_vm::atc_verify` meets its contract: what the call gives is told.
 use Rattle.checks.specs.Numbers.{checkNumbered}
-use Rattle.atc_vm.proofs.Telling.{told}
+use Rattle.atc_vm.proofs.Words.{told}
 use borrow.Author.Needs.{needs}
 use Rattle.atc_vm.proofs.atc_verify.Statement.{statement}
 use Rattle.atc_vm.proofs.atc_verify.Tie as tie

@@ -3,7 +3,7 @@ use mathlib.Core.Path.{sym}
 use denote.Ref.{now}
 use lib.Seq.{length-take-le}
 use Rattle.compile.proofs.Assembled.{within}
-use Rattle.compile.proofs.Composing.{is-written, not-assembled, not-read, has-run}
+use Rattle.compile.proofs.Composition.{is-written, not-assembled, not-read, has-run}
 use Rattle.compile.proofs.Delivery.{delivers}
 use borrow.Author.Needs.{needs}
 use Rattle.compile.proofs.compile.Statement.{statement}

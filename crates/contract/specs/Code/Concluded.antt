@@ -10,54 +10,54 @@ use Rattle.source.specs.Function.{functionOf}
 use Rattle.expression.specs.Tree.{Tree}
 use Rattle.numbered.specs.declared.Numbered.{Numbered}
 use Rattle.base.specs.Outcome.{Outcome, is, refused, andThen}
-use Rattle.contract.specs.declared.assembly.Assembly.{Assembly}
-use Rattle.contract.specs.declared.refusal.Refusal.{Refusal}
+use Rattle.contract.specs.declared.check.CheckedContract.{CheckedContract}
+use Rattle.contract.specs.declared.refusal.AssembleError.{AssembleError}
 use Rattle.contract.specs.declared.state.Status.{Status}
 use Rattle.contract.specs.declared.state.Status.the-variants.{Going, Refused}
-use Rattle.contract.specs.declared.state.State as Code
-use Rattle.contract.specs.State.{State}
-use Rattle.contract.specs.Numbers.{refusalNumbered}
+use Rattle.contract.specs.declared.state.TableState as Code
+use Rattle.contract.specs.Scope.{Scope}
+use Rattle.contract.specs.Numbers.{assembleErrorNumbered}
 use Rattle.contract.specs.Code.Stored.{refusedAs, nothingYet}
 use Rattle.contract.specs.Code.LastReturn.{lastReturn, placeOf, Standing}
-use Rattle.contract.specs.Code.Held.{LastIs, Represents, Leads}
+use Rattle.contract.specs.Code.Held.{LastIs, Represents, Simulates}
 use Rattle.contract.specs.Assembled.{bodyRead, returned}
 
 -- the contract's body was read, and a is what it has come to
-pub record Reached (s vector : List ℕ) (a : Code.State) : Type 0 where
+pub record BodyReached (s vector : List ℕ) (a : Code.TableState) : Type 0 where
   pub places : Places
   pub found : functionOf s ≡ Found places
-  pub st : State
+  pub st : Scope
   pub read : bodyRead s vector places ≡ is st
   pub represents : Represents s a st
   pub place : placeOf (a .last) ≡ lastReturn s places
 
 -- the state's last return means the tree t, which is accepted
-pub record Accepts (s vector : List ℕ) (o : Outcome Numbered (ℕ × Tree)) (r : Assembly) : Type 0 where
-  pub reached : Reached s vector (r .state)
+pub record Accepts (s vector : List ℕ) (o : Outcome Numbered (ℕ × Tree)) (r : CheckedContract) : Type 0 where
+  pub reached : BodyReached s vector (r .state)
   pub t : Tree
   pub last : reached .st .last ≡ some t
   pub returned : LastIs s (r .state .table) (r .state .values) (r .state .last) (some t)
   pub accepts : o ≡ is (r .expected, t)
 
 -- an assembly that is refused
-abbrev pub rejectedFor : Refusal → Assembly
+abbrev pub rejectedFor : AssembleError → CheckedContract
 rejectedFor why = record { state = refusedAs nothingYet why; expected = 0 }
 
-abbrev pub ConcludesBy : Status → List ℕ → List ℕ → Outcome Numbered (ℕ × Tree) → Assembly → Type 0
+abbrev pub ConcludesBy : Status → List ℕ → List ℕ → Outcome Numbered (ℕ × Tree) → CheckedContract → Type 0
 ConcludesBy Going s vector o r = Accepts s vector o r
-ConcludesBy (Refused why) s vector o r = (o ≡ refused (refusalNumbered why)) × (r ≡ rejectedFor why)
+ConcludesBy (Refused why) s vector o r = (o ≡ refused (assembleErrorNumbered why)) × (r ≡ rejectedFor why)
 
 -- the answer r says o of the contract s and its vector: its state holds the tree that is accepted, or the refusal
-pub record Concludes (s vector : List ℕ) (o : Outcome Numbered (ℕ × Tree)) (r : Assembly) : Type 0 where
+pub record Concludes (s vector : List ℕ) (o : Outcome Numbered (ℕ × Tree)) (r : CheckedContract) : Type 0 where
   pub by : ConcludesBy (r .state .status) s vector o r
 
 -- what the body's last return makes of it
-abbrev pub concluded : ℕ → Outcome Numbered State → Outcome Numbered (ℕ × Tree)
+abbrev pub concluded : ℕ → Outcome Numbered Scope → Outcome Numbered (ℕ × Tree)
 concluded expected o = andThen o (λ st. returned expected (st .last))
 
 -- what is made of a state and the expected value, wherever the state was read
-pub record ConcludesAll (a : Code.State) (expected : ℕ) (r : Assembly) : Type 0 where
-  pub is : (s vector : List ℕ) (p : Places) → functionOf s ≡ Found p → Leads s a (bodyRead s vector p) is → Standing s p a → Concludes s vector (concluded expected (bodyRead s vector p)) r
+pub record ConcludesAll (a : Code.TableState) (expected : ℕ) (r : CheckedContract) : Type 0 where
+  pub is : (s vector : List ℕ) (p : Places) → functionOf s ≡ Found p → Simulates s a (bodyRead s vector p) is → Standing s p a → Concludes s vector (concluded expected (bodyRead s vector p)) r
 
 -- where the contract's function stands
 pub record Located (s : List ℕ) (p : Places) : Type 0 where

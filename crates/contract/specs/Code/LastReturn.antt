@@ -9,14 +9,14 @@ use Rattle.lines.specs.Cursor.{lineFrom}
 use Rattle.source.specs.declared.function.Places.{Places}
 use Rattle.source.specs.Parameters.{parameters}
 use Rattle.token.specs.Code.Places.{lastEnd}
-use Rattle.contract.specs.declared.body.Checked.{Checked}
-use Rattle.contract.specs.declared.body.Checked.the-variants as Checked
-use Rattle.contract.specs.declared.statement.Statement.{Statement}
-use Rattle.contract.specs.declared.statement.Statement.the-variants.{Skipped, NoEquals, Let, Return}
-use Rattle.contract.specs.declared.state.Last.{Last}
-use Rattle.contract.specs.declared.state.Last.the-variants as Last
+use Rattle.contract.specs.declared.body.CheckedExpression.{CheckedExpression}
+use Rattle.contract.specs.declared.body.CheckedExpression.the-variants as Checked
+use Rattle.contract.specs.declared.statement.StatementSpans.{StatementSpans}
+use Rattle.contract.specs.declared.statement.StatementSpans.the-variants.{Skipped, NoEquals, Let, Return}
+use Rattle.contract.specs.declared.state.LastReturned.{LastReturned}
+use Rattle.contract.specs.declared.state.LastReturned.the-variants as Last
 use Rattle.contract.specs.declared.state.Status.the-variants.{Going}
-use Rattle.contract.specs.declared.state.State.{State}
+use Rattle.contract.specs.declared.state.TableState.{TableState}
 use Rattle.contract.specs.Part.{part}
 use Rattle.contract.specs.Code.Places.{statementAt}
 
@@ -31,13 +31,13 @@ pub record Met : Type 0 where
   pub count : ℕ
   pub last : Option Place
 
-abbrev pub meeting : List ℕ → Met → Statement → Met
+abbrev pub meeting : List ℕ → Met → StatementSpans → Met
 meeting s m Skipped = m
 meeting s m NoEquals = m
 meeting s m (Let name expr) = record { count = m .count + 1; last = m .last }
 meeting s m (Return expr) = record { count = m .count; last = some (record { start = expr .start; end = expr .end; count = m .count; next = lastEnd (take (expr .end) s) }) }
 
--- the lines of the text before `end`, the first of which starts at a place
+-- the lines of the text before `end`, the first of which starts at an offset
 unfoldable pub linesMet : List ℕ → ℕ → Met → ℕ → List (List ℕ) → Met
 linesMet s end m at [] = m
 linesMet s end m at (t ∷ rest) = linesMet s end (meeting s m (statementAt s at (lineFrom (take end s) at .end))) (lineFrom (take end s) at .next) rest
@@ -50,22 +50,22 @@ abbrev pub lastReturn : List ℕ → Places → Option Place
 lastReturn s p = bodyMet s (p .«body_start») (p .«body_end») (record { count = length (parameters (part s (p .«params_start») (p .«params_end»))); last = none }) .last
 
 -- what the code's state says of it
-abbrev pub placeOf : Last → Option Place
-placeOf Last.Nothing = none
-placeOf (Last.Is l) = some (record { start = l .start; end = l .end; count = l .count; next = l .read .next })
+abbrev pub placeOf : LastReturned → Option Place
+placeOf LastReturned.Nothing = none
+placeOf (LastReturned.Is l) = some (record { start = l .start; end = l .end; count = l .count; next = l .read .next })
 
-abbrev pub metOf : State → Met
+abbrev pub metOf : TableState → Met
 metOf a = record { count = a .table .count; last = placeOf (a .last) }
 
 -- an expression of a text is read up to the end of the text's last token
-abbrev pub ReadToLast : List ℕ → Checked → Type 0
-ReadToLast s (Checked.Is v) = v .next ≡ lastEnd s
-ReadToLast s (Checked.Refused why) = Unit {0}
+abbrev pub ReadToLast : List ℕ → CheckedExpression → Type 0
+ReadToLast s (CheckedExpression.Is v) = v .next ≡ lastEnd s
+ReadToLast s (CheckedExpression.Refused why) = Unit {0}
 
 -- r is what the body makes of a, unless it is refused
-pub record Meets (s : List ℕ) (start end : ℕ) (a r : State) : Type 0 where
+pub record ReadsBody (s : List ℕ) (start end : ℕ) (a r : TableState) : Type 0 where
   pub is : r .status ≡ Going → metOf r ≡ bodyMet s start end (metOf a)
 
 -- the last return stands where the contract's does, unless a is refused
-pub record Standing (s : List ℕ) (p : Places) (a : State) : Type 0 where
+pub record Standing (s : List ℕ) (p : Places) (a : TableState) : Type 0 where
   pub is : a .status ≡ Going → placeOf (a .last) ≡ lastReturn s p

@@ -1,4 +1,4 @@
--- How a state is stored: what a binding more changes in the table and beside it.
+-- How a state is stored: what one more binding changes in the table and beside it.
 use Prim.Native.Nat.{ℕ, _+_, _-_, _^_, _<_, _≤_}
 use mathlib.Core.Path.{_≡_}
 use mathlib.Core.List.{List}
@@ -7,15 +7,15 @@ use lib.ListN.{getD, replicate}
 use Rattle.source.specs.declared.parameters.Span.{Span}
 use Rattle.expression.specs.declared.Bindings.{Bindings}
 use Rattle.expression.specs.declared.Values.{Values}
-use Rattle.expression.specs.declared.figures.Read.{Read}
-use Rattle.expression.specs.declared.figures.Value.{Value}
-use Rattle.expression.specs.declared.figures.Value.the-variants.{Is, None}
+use Rattle.expression.specs.declared.figures.Figures.{Figures}
+use Rattle.expression.specs.declared.figures.TreeValue.{TreeValue}
+use Rattle.expression.specs.declared.figures.TreeValue.the-variants.{Is, None}
 use Rattle.expression.specs.Code.Table.{tagOf}
-use Rattle.contract.specs.declared.refusal.Refusal.{Refusal}
-use Rattle.contract.specs.declared.refusal.Refusal.the-variants.{TooManyBindings}
-use Rattle.contract.specs.declared.state.State.{State}
+use Rattle.contract.specs.declared.refusal.AssembleError.{AssembleError}
+use Rattle.contract.specs.declared.refusal.AssembleError.the-variants.{TooManyBindings}
+use Rattle.contract.specs.declared.state.TableState.{TableState}
 use Rattle.contract.specs.declared.state.Status.the-variants as Status
-use Rattle.contract.specs.declared.state.Last.the-variants as Last
+use Rattle.contract.specs.declared.state.LastReturned.the-variants as Last
 use Rattle.contract.specs.declared.table.Row.{Row}
 
 -- no binding, no return; every array is zero
@@ -25,21 +25,21 @@ noBindings = record { «name_start» = replicate 256 0; «name_len» = replicate
 abbrev pub noValues : Values
 noValues = record { value = replicate 256 0; none = replicate 256 false; len = replicate 256 0; tag = replicate 256 0 }
 
-abbrev pub nothingYet : State
+abbrev pub nothingYet : TableState
 nothingYet = record { table = noBindings; values = noValues; last = Last.Nothing; status = Status.Going }
 
-abbrev pub refusedAs : State → Refusal → State
+abbrev pub refusedAs : TableState → AssembleError → TableState
 refusedAs a why = record { table = a .table; values = a .values; last = a .last; status = Status.Refused why }
 
-abbrev pub returning : State → Span → Read → State
+abbrev pub returning : TableState → Span → Figures → TableState
 returning a expr v = record { table = a .table; values = a .values; last = Last.Is (record { start = expr .start; end = expr .end; count = a .table .count; read = v }); status = a .status }
 
--- places and figures that fit the table's types
-pub record Placed (p : Span) : Type 0 where
+-- offsets and figures that fit the table's types
+pub record SpanFits (p : Span) : Type 0 where
   pub ordered : p .start ≤ p .end
   pub fits : p .end < 65536
 
-pub record Small (v : Read) : Type 0 where
+pub record FiguresFit (v : Figures) : Type 0 where
   pub k : v .k < 65536
   pub p : v .p < 65536
   pub len : v .len < 2 ^ 32
@@ -58,16 +58,16 @@ pub record Put (t : Bindings) (name expr : Span) (k p : ℕ) (r : Bindings) : Ty
   pub ks : Set 0 (t .k) (t .count) k (r .k)
   pub ps : Set 0 (t .p) (t .count) p (r .p)
 
-abbrev pub numberIn : Value → ℕ
+abbrev pub numberIn : TreeValue → ℕ
 numberIn (Is n) = n
 numberIn None = 0
 
-abbrev pub isNone : Value → Bool
+abbrev pub isNone : TreeValue → Bool
 isNone (Is n) = false
 isNone None = true
 
 -- one binding, with the name w, as the arrays hold it
-abbrev pub rowOf : Span → Span → Read → List ℕ → Row
+abbrev pub rowOf : Span → Span → Figures → List ℕ → Row
 rowOf name expr v w = record {
   «name_start» = name .start;
   «name_len» = name .end - name .start;
@@ -82,19 +82,19 @@ rowOf name expr v w = record {
 }
 
 -- of a binding with the name w
-pub record PutValue (t : Values) (i : ℕ) (v : Read) (w : List ℕ) (r : Values) : Type 0 where
+pub record PutValue (t : Values) (i : ℕ) (v : Figures) (w : List ℕ) (r : Values) : Type 0 where
   pub value : Set 0 (t .value) i (numberIn (v .value)) (r .value)
   pub none : Set false (t .none) i (isNone (v .value)) (r .none)
   pub len : Set 0 (t .len) i (v .len) (r .len)
   pub tag : Set 0 (t .tag) i (tagOf w) (r .tag)
 
--- one binding more than a has, with the name w
-pub record More (a : State) (name expr : Span) (v : Read) (w : List ℕ) (r : State) : Type 0 where
+-- one more binding than a has, with the name w
+pub record More (a : TableState) (name expr : Span) (v : Figures) (w : List ℕ) (r : TableState) : Type 0 where
   pub table : Put (a .table) name expr (v .k) (v .p) (r .table)
   pub values : PutValue (a .values) (a .table .count) v w (r .values)
   pub last : r .last ≡ a .last
   pub status : r .status ≡ a .status
 
-pub record Bound (a : State) (name expr : Span) (v : Read) (w : List ℕ) (r : State) : Type 0 where
+pub record Bound (a : TableState) (name expr : Span) (v : Figures) (w : List ℕ) (r : TableState) : Type 0 where
   pub full : 256 ≤ a .table .count → r ≡ refusedAs a TooManyBindings
   pub more : a .table .count < 256 → More a name expr v w r

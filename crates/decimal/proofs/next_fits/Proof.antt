@@ -4,7 +4,7 @@ use mathlib.Core.Path.{sym, _∙_}
 use borrow.Author.Tests.{lt-ltb, le-ltb, leb-true, leb-false}
 use lib.Dec.{ltb}
 use native.Mathlib.Omega.{arith}
-use Rattle.base.proofs.Tests.{never, by-bool, same}
+use Rattle.base.proofs.Tests.{false-true, by-bool, bool-ext}
 use Rattle.decimal.proofs.next_fits.Statement.{statement}
 use Rattle.decimal.proofs.next_fits.Tie as tie
 
@@ -17,9 +17,9 @@ returns-2 c = let a = c .before .before .args in sym (le-ltb (a .acc * 10 + a .d
 returns-3 : tie.Need-returns-3
 returns-3 c =
     let a = c .before .before .args in
-    same _ (ltb (a .acc * 10 + a .d) (2 ^ 64))
+    bool-ext _ (ltb (a .acc * 10 + a .d) (2 ^ 64))
     (λ t. lt-ltb (a .acc * 10 + a .d) (2 ^ 64) (omega (arith, leb-true)))
-    (λ t. by-bool _ (λ y. y) (λ n. never (sym (le-ltb (a .acc * 10 + a .d) (2 ^ 64) (omega (arith, leb-false))) ∙ t)))
+    (λ t. by-bool _ (λ y. y) (λ n. false-true (sym (le-ltb (a .acc * 10 + a .d) (2 ^ 64) (omega (arith, leb-false))) ∙ t)))
 
 pub next-fits-spec : {M : Type 1} → statement M
 next-fits-spec = tie.close (tie.spec returns returns-2 returns-3)

@@ -1,17 +1,17 @@
 -- `decimal::zeros_at` meets its contract: a block that doesn't fit is none.
-use Rattle.base.proofs.Tests.{never}
+use Rattle.base.proofs.Tests.{false-true}
 use borrow.Author.Needs.{needs}
 use Rattle.decimal.proofs.zeros_at.Statement.{statement}
 use Rattle.decimal.proofs.zeros_at.Tie as tie
 
 returns : tie.Need-returns
-returns c = record { fits = λ e. never e; zeros = λ e. never e }
+returns c = record { fits = λ e. false-true e; zeros = λ e. false-true e }
 
 sub-if2 : tie.Need-sub-if2
 sub-if2 c = search needs
 
 returns-2 : tie.Need-returns-2
-returns-2 c = record { fits = λ e. never e; zeros = λ e. never e }
+returns-2 c = record { fits = λ e. false-true e; zeros = λ e. false-true e }
 
 all-zeros-requires : tie.Need-all-zeros-requires
 all-zeros-requires c κs = search needs

@@ -1,4 +1,4 @@
--- Digits at a place of a text, and a decimal written into a buffer.
+-- Digits at an offset of a text, and a decimal written into a buffer.
 use Prim.Native.Nat.{ℕ, _+_, _^_}
 use mathlib.Core.List.{List}
 use mathlib.Core.Bool.{Bool, cond}
@@ -17,11 +17,11 @@ use Rattle.decimal.specs.Decimal.{digit, decimal, value}
 abbrev pub capped : ℕ → Value
 capped n = cond (ltb n (2 ^ 64)) (Value.Is n) Value.TooLarge
 
--- the digits from a place on; where none stands, they write 0
+-- the digits starting at an offset; where none stands, they write 0
 abbrev pub digitsAt : List ℕ → ℕ → Digits
 digitsAt s at = record { len = length (takeWhile digit (drop at s)); value = capped (value (takeWhile digit (drop at s))) }
 
--- whether a number written at a place ends within a buffer's length
+-- whether a number written at an offset ends within a buffer's length
 abbrev pub fitsAt : ℕ → ℕ → ℕ → Bool
 fitsAt n at room = leb (at + length (decimal n)) room
 

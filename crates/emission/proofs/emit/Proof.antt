@@ -1,6 +1,6 @@
 -- `emission::emit` meets its contract: nothing is marked at first.
 use mathlib.Core.Path.{refl}
-use Rattle.emission.proofs.Keeping.{kept-none}
+use Rattle.emission.proofs.WrittenBindings.{kept-none}
 use borrow.Author.Needs.{needs}
 use Rattle.emission.proofs.emit.Statement.{statement}
 use Rattle.emission.proofs.emit.Tie as tie

@@ -7,23 +7,23 @@ use lib.Seq.{slice}
 use Rattle.base.specs.Outcome.{is}
 use Rattle.expression.specs.Tree.{Tree}
 use Rattle.expression.specs.Parse.{meaning}
-use Rattle.expression.specs.Code.Source.{Sources, treeIn, envOf, treeOf, AllStand}
+use Rattle.expression.specs.Code.Source.{Sources, treeOr0, envOf, treeOf, AllInText}
 use Rattle.expression.specs.Code.Texts.{textOf}
 
 -- from start to end of the text s, among the first count bindings
 module _ (s : List ℕ) (c : Sources) (count start end : ℕ) where
   abbrev pub treeBetween : Tree
-  treeBetween = treeIn (meaning (envOf s c count) (drop start (take end s)))
+  treeBetween = treeOr0 (meaning (envOf s c count) (drop start (take end s)))
 
   -- the expression means a tree, and so do the bindings'
-  pub record Means : Type 0 where
+  pub record MeansTree : Type 0 where
     pub few : count ≤ 256
-    pub stand : AllStand s c count
+    pub stand : AllInText s c count
     pub inside : end ≤ length s
     pub is : meaning (envOf s c count) (drop start (take end s)) ≡ is treeBetween
 
--- what is marked as written, with a place and a length for each binding, stands before a place of the output
-pub record Kept (s : List ℕ) (c : Sources) (out : List ℕ) (to : ℕ) (places lengths : List ℕ) : Type 0 where
+-- what is marked as written, with an offset and a length for each binding, stands before an offset of the output
+pub record KeepsWritten (s : List ℕ) (c : Sources) (out : List ℕ) (to : ℕ) (places lengths : List ℕ) : Type 0 where
   pub places-full : length places ≡ 256
   pub lengths-full : length lengths ≡ 256
   pub before : (i : ℕ) → 0 < getD lengths i 0 → getD places i 0 + getD lengths i 0 ≤ to

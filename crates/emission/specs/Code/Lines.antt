@@ -4,7 +4,7 @@ use mathlib.Core.List.{List, [], _∷_, _++_}
 use Rattle.kinds.specs.Kinds.{operation}
 use Rattle.ops.specs.Written.{written}
 use Rattle.expression.specs.Parse.{operator}
-use Rattle.expression.specs.Written.{operatorOf}
+use Rattle.expression.specs.Code.Operator.{operatorOf}
 
 abbrev pub pushText : ℕ → List ℕ
 pushText n = written (operation 0 n)

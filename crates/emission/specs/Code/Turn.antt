@@ -9,15 +9,15 @@ use Rattle.base.specs.Code.Stack.{stackOf}
 use Rattle.token.specs.Token.{tokens}
 use Rattle.token.specs.Code.Places.{tokenAt, first}
 use Rattle.expression.specs.Grammar.{levels}
-use Rattle.expression.specs.Parse.{lone}
+use Rattle.expression.specs.Parse.{symbol}
 use Rattle.writer.specs.Code.Overwrites.{Overwrites}
 use Rattle.emission.specs.Code.Lines.{operatorsText}
 use Rattle.emission.specs.declared.operator.Turn.{Turn}
 use Rattle.emission.specs.Code.Waiting.{levelOf, most, popped, left}
 
--- the sign from a place on, in an expression that ends at a place of the text; 0 where no token is left
+-- the sign at or after an offset, in an expression that ends at an offset of the text; 0 where no token is left
 abbrev pub signAt : List ℕ → ℕ → ℕ → ℕ
-signAt s end at = lone (first (tokens (drop at (take end s))))
+signAt s end at = symbol (first (tokens (drop at (take end s))))
 
 -- the level down to which a sign writes what waits
 abbrev pub downTo : ℕ → ℕ
@@ -27,8 +27,8 @@ downTo sign = min (levelOf sign) levels
 abbrev pub stackAfter : ℕ → List ℕ → List ℕ
 stackAfter sign st = cond (leb (levelOf sign) levels) (sign ∷ st) (cond (eqb sign 41) (drop 1 st) st)
 
--- there is room for what is written and for one operator more, and a closing parenthesis has its mark
-pub record Ready (s : List ℕ) (end at : ℕ) (out : List ℕ) (to : ℕ) (waiting : List ℕ) (n : ℕ) : Type 0 where
+-- there is room for what is written and for one more operator, and a closing parenthesis has its mark
+pub record CanTurn (s : List ℕ) (end at : ℕ) (out : List ℕ) (to : ℕ) (waiting : List ℕ) (n : ℕ) : Type 0 where
   pub inside : end ≤ length s
   pub few : n ≤ most
   pub full : length waiting ≡ most

@@ -6,14 +6,14 @@ use mathlib.Core.Bool.{true, false, cond}
 use lib.Dec.{leb}
 use Rattle.base.specs.Code.Stack.{stackOf}
 use Rattle.expression.specs.Grammar.{levels, term, expression, depth}
-use Rattle.expression.specs.Parse.{joins}
+use Rattle.expression.specs.Parse.{isOperatorAt}
 use Rattle.writer.specs.Code.Overwrites.{Overwrites}
 use Rattle.emission.specs.Code.Lines.{operatorsText}
 use Rattle.emission.specs.declared.waiting.Popped.{Popped}
 
 -- the level that an operator joins to; for every other byte, the mark among them, one above all levels
 abbrev pub levelOf : ℕ → ℕ
-levelOf a = cond (joins term a) term (cond (joins expression a) expression (levels + 1))
+levelOf a = cond (isOperatorAt term a) term (cond (isOperatorAt expression a) expression (levels + 1))
 
 -- the most that can wait: an operator of each level, and for each open parenthesis its mark and an operator of each level
 abbrev pub most : ℕ

@@ -1,6 +1,6 @@
 -- `e1` is safe: the text lies within the buffer.
 use native.Mathlib.Omega.{arith}
-use Rattle.examples.proofs.Assembling.{sized}
+use Rattle.examples.proofs.Assembly.{sized}
 use borrow.Author.Needs.{needs}
 use Rattle.examples.proofs.e1.Statement.{statement}
 use Rattle.examples.proofs.e1.Tie as tie

@@ -3,7 +3,7 @@ use Prim.Native.Nat.{ℕ, suc, _+_, _-_, _*_, _<_}
 use mathlib.Core.Path.{_≡_, refl, sym, ap, subst, _∙_}
 use native.Mathlib.Omega.{arith}
 use lib.ListN.{length}
-use Rattle.expression.specs.Parse.{lone}
+use Rattle.expression.specs.Parse.{symbol}
 use Rattle.expression.specs.Code.Table.{columnsOf}
 use Rattle.expression.specs.Code.Parts.{signAt, AllFit}
 use Rattle.token.proofs.Tokens.{Next, tokenFrom}
@@ -27,7 +27,7 @@ use Rattle.expression.proofs.joining.join.Reads as join-reads
 use Rattle.expression.proofs.parts.is_product.Reads as is-product-reads
 use Rattle.expression.proofs.parts.is_sum.Reads as is-sum-reads
 use Rattle.expression.proofs.operands.literal.Reads as literal-reads
-use Rattle.expression.proofs.parts.lone_byte.Reads as lone-byte-reads
+use Rattle.expression.proofs.parts.symbol_byte.Reads as symbol-byte-reads
 use Rattle.expression.proofs.operands.name.Reads as name-reads
 use Rattle.expression.proofs.parts.sign_at.Reads as sign-at-reads
 use Rattle.token.proofs.is_digit.Reads as is-digit-reads
@@ -68,7 +68,7 @@ abbrev E : ℕ → expression-lts.Claims
 E t = (term-below t, term.Post, sign-at-reads.Asked, sign-at-reads.Learnt, is-sum-reads.Asked, is-sum-reads.Learnt, join-reads.Asked, join-reads.Learnt)
 
 abbrev F : ℕ → factor-lts.Claims
-F t = (token-at-reads.Asked, token-at-reads.Learnt, lone-byte-reads.Asked, lone-byte-reads.Learnt, expression-below t, expression.Post, close-reads.Asked, close-reads.Learnt, is-digit-reads.Asked, is-digit-reads.Learnt, literal-reads.Asked, literal-reads.Learnt, name-reads.Asked, name-reads.Learnt)
+F t = (token-at-reads.Asked, token-at-reads.Learnt, symbol-byte-reads.Asked, symbol-byte-reads.Learnt, expression-below t, expression.Post, close-reads.Asked, close-reads.Learnt, is-digit-reads.Asked, is-digit-reads.Learnt, literal-reads.Asked, literal-reads.Learnt, name-reads.Asked, name-reads.Learnt)
 
 abbrev T : ℕ → term-lts.Claims
 T t = (factor-below t, factor.Post, sign-at-reads.Asked, sign-at-reads.Learnt, is-product-reads.Asked, is-product-reads.Learnt, join-reads.Asked, join-reads.Learnt)
@@ -134,12 +134,12 @@ factor-token : (t : ℕ) (c : factor-lts.Else1 (F t) (factor-at t) factor.Post) 
 factor-token t c = let a = c .before .before .before .args in next-of (a .text .now) (a .at) (c .before .token-at .result) (c .before .token-at .ensures) (c .if1 .left)
 
 factor-opens : (t : ℕ) (c : factor-lts.Then2 (F t) (factor-at t) factor.Post) →
-    lone (tokenFrom (c .before .before .before .before .before .args .text .now) (c .before .before .before .token-at .result .start)) ≡ 40
-factor-opens t c = sym (ap lone (factor-token t (c .before .before) .bytes)) ∙ sym (c .before .lone-byte .ensures) ∙ c .if2 .taken
+    symbol (tokenFrom (c .before .before .before .before .before .args .text .now) (c .before .before .before .token-at .result .start)) ≡ 40
+factor-opens t c = sym (ap symbol (factor-token t (c .before .before) .bytes)) ∙ sym (c .before .symbol-byte .ensures) ∙ c .if2 .taken
 
 factor-no-opens : (t : ℕ) (c : factor-lts.Else2 (F t) (factor-at t) factor.Post) →
-    lone (tokenFrom (c .before .before .before .before .before .args .text .now) (c .before .before .before .token-at .result .start)) ≡ 40 → ⊥
-factor-no-opens t c e = c .if2 .left (c .before .lone-byte .ensures ∙ ap lone (factor-token t (c .before .before) .bytes) ∙ e)
+    symbol (tokenFrom (c .before .before .before .before .before .args .text .now) (c .before .before .before .token-at .result .start)) ≡ 40 → ⊥
+factor-no-opens t c e = c .if2 .left (c .before .symbol-byte .ensures ∙ ap symbol (factor-token t (c .before .before) .bytes) ∙ e)
 
 less-one : (n : ℕ) → (n ≡ 0 → ⊥) → n ≡ suc (n - 1)
 less-one n h = omega arith
@@ -150,8 +150,8 @@ factor-token-at-requires t c κs = search needs
 factor-returns : (t : ℕ) → factor-lts.Need-returns (F t) (factor-at t) factor.Post
 factor-returns t c = let a = c .before .before .before .args in none-meets (a .text .now) (a .at) _ (a .room) (none-of (a .text .now) (a .at) (c .before .token-at .result) (c .before .token-at .ensures) (c .if1 .taken))
 
-factor-lone-byte-requires : (t : ℕ) → factor-lts.Need-lone-byte-requires (F t) (factor-at t) factor.Post
-factor-lone-byte-requires t c κs = let n = factor-token t c in (n .some, n .inside)
+factor-symbol-byte-requires : (t : ℕ) → factor-lts.Need-symbol-byte-requires (F t) (factor-at t) factor.Post
+factor-symbol-byte-requires t c κs = let n = factor-token t c in (n .some, n .inside)
 
 factor-returns-2 : (t : ℕ) → factor-lts.Need-returns-2 (F t) (factor-at t) factor.Post
 factor-returns-2 t c = deep-meets _ (factor-token t (c .before .before .before)) (c .if3 .taken) (factor-opens t (c .before))
@@ -276,7 +276,7 @@ pub +expression+factor+term-spec : {M : Type 1} → statement M
     factor.Post
     (factor-token-at-requires t)
     (factor-returns t)
-    (factor-lone-byte-requires t)
+    (factor-symbol-byte-requires t)
     (factor-returns-2 t)
     (factor-sub-expression t)
     (factor-expression-requires t)

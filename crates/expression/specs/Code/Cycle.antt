@@ -1,4 +1,4 @@
--- What expression, term and factor promise: at level l, from a place of a text on, with d parentheses more that may be open.
+-- What expression, term and factor promise: at level l, starting at an offset of a text, with d more parentheses that may be open.
 use Prim.Native.Nat.{ℕ, _-_, _*_, _^_, _<_, _≤_}
 use mathlib.Core.Path.{_≡_}
 use mathlib.Core.List.{List}
@@ -7,14 +7,14 @@ use lib.ListN.{length, getD, drop}
 use Rattle.base.specs.Outcome.{is, refused}
 use Rattle.numbered.specs.declared.Numbered.{Numbered}
 use Rattle.token.specs.Token.{space, tokens}
-use Rattle.expression.specs.declared.figures.Read.{Read}
-use Rattle.expression.specs.declared.Parsed.{Parsed}
-use Rattle.expression.specs.declared.Parsed.the-variants.{Done, Refused}
+use Rattle.expression.specs.declared.figures.Figures.{Figures}
+use Rattle.expression.specs.declared.ParseResult.{ParseResult}
+use Rattle.expression.specs.declared.ParseResult.the-variants.{Done, Refused}
 use Rattle.expression.specs.Tree.{Tree}
 use Rattle.expression.specs.Parse.{Env, parseF, enough}
 use Rattle.expression.specs.Answer.{exprErrorNumbered}
-use Rattle.expression.specs.Code.Table.{Columns, Holds}
-use Rattle.expression.specs.Code.Figures.{Figures}
+use Rattle.expression.specs.Code.Table.{Columns, TableFor}
+use Rattle.expression.specs.Code.Figures.{FiguresOf}
 
 module _ (env : Env) (l d : ℕ) (ts : List (List ℕ)) where
   -- the parser reads the tree t and leaves rest, with every fuel that is enough
@@ -26,7 +26,7 @@ module _ (env : Env) (l d : ℕ) (ts : List (List ℕ)) where
     pub same : (f : ℕ) → enough l ts ≤ f → parseF f l env d ts ≡ refused r
 
 -- what is read ends within the text, with a byte of a token; the bounds exclude that a sum overflows
-pub record Placed (s : List ℕ) (at : ℕ) (v : Read) : Type 0 where
+pub record ReadWithin (s : List ℕ) (at : ℕ) (v : Figures) : Type 0 where
   pub past : at < v .next
   pub within : v .next ≤ length s
   pub last : space (getD s (v .next - 1) 0) ≡ false
@@ -34,19 +34,19 @@ pub record Placed (s : List ℕ) (at : ℕ) (v : Read) : Type 0 where
   pub p : v .p ≤ 65535 * (v .next - at)
   pub len : v .len ≤ 2 ^ 32 * (v .next - at)
 
-abbrev pub Fine : List ℕ → ℕ → Parsed → Type 0
-Fine s at (Done v) = Placed s at v
+abbrev pub Fine : List ℕ → ℕ → ParseResult → Type 0
+Fine s at (Done v) = ReadWithin s at v
 Fine s at (Refused e) = Unit {0}
 
-abbrev pub Means : List ℕ → ℕ → Env → ℕ → ℕ → Parsed → Type 0
-Means s at env l d (Done v) = (t : Tree) × (Reads env l d (tokens (drop at s)) t (tokens (drop (v .next) s)) × Figures t v)
-Means s at env l d (Refused e) = Refuses env l d (tokens (drop at s)) (exprErrorNumbered e)
+abbrev pub MeansAt : List ℕ → ℕ → Env → ℕ → ℕ → ParseResult → Type 0
+MeansAt s at env l d (Done v) = (t : Tree) × (Reads env l d (tokens (drop at s)) t (tokens (drop (v .next) s)) × FiguresOf t v)
+MeansAt s at env l d (Refused e) = Refuses env l d (tokens (drop at s)) (exprErrorNumbered e)
 
 -- in every environment that the table holds
-pub record Meets (s : List ℕ) (at : ℕ) (c : Columns) (l d : ℕ) (r : Parsed) : Type 0 where
+pub record ParsesAs (s : List ℕ) (at : ℕ) (c : Columns) (l d : ℕ) (r : ParseResult) : Type 0 where
   pub fine : Fine s at r
-  pub means : (env : Env) → Holds s c env → Means s at env l d r
+  pub means : (env : Env) → TableFor s c env → MeansAt s at env l d r
 
-pub record Ready (s : List ℕ) (count : ℕ) : Type 0 where
+pub record CanParse (s : List ℕ) (count : ℕ) : Type 0 where
   pub short : length s ≤ 65536
   pub room : count ≤ 256

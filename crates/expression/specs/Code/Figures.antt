@@ -2,19 +2,19 @@
 use Prim.Native.Nat.{ℕ, _+_, _*_, _^_, _<_, _≤_, max}
 use mathlib.Core.Path.{_≡_}
 use mathlib.Core.Option.{Option, some, none}
-use Rattle.expression.specs.declared.figures.Value.{Value}
-use Rattle.expression.specs.declared.figures.Value.the-variants as Value
-use Rattle.expression.specs.declared.figures.Read.{Read}
+use Rattle.expression.specs.declared.figures.TreeValue.{TreeValue}
+use Rattle.expression.specs.declared.figures.TreeValue.the-variants as Value
+use Rattle.expression.specs.declared.figures.Figures.{Figures}
 use Rattle.expression.specs.Tree.{Tree, applied, valueOf, kOf, pOf}
-use Rattle.expression.specs.Code.Lengths.{lineOf, lenOf}
+use Rattle.expression.specs.Code.Lengths.{operatorLength, lenOf}
 use Rattle.expression.specs.Parse.{operator}
 
-abbrev pub optionOf : Value → Option ℕ
-optionOf (Value.Is n) = some n
-optionOf Value.None = none
+abbrev pub optionOf : TreeValue → Option ℕ
+optionOf (TreeValue.Is n) = some n
+optionOf TreeValue.None = none
 
 -- they are those of the tree t; a line of text has at most 26 bytes, and an operator's at most 4
-pub record Figures (t : Tree) (v : Read) : Type 0 where
+pub record FiguresOf (t : Tree) (v : Figures) : Type 0 where
   pub k : v .k ≡ kOf t
   pub p : v .p ≡ pOf t
   pub value : optionOf (v .value) ≡ valueOf t
@@ -22,15 +22,15 @@ pub record Figures (t : Tree) (v : Read) : Type 0 where
   pub short : lenOf t + 4 ≤ 30 * kOf t
 
 -- sums of two such figures fit
-pub record Small (v : Read) : Type 0 where
+pub record SumsFit (v : Figures) : Type 0 where
   pub k : v .k < 2 ^ 62
   pub p : v .p < 2 ^ 62
   pub len : v .len < 2 ^ 62
 
 -- r is what the operator a joins v and w to
-pub record Joined (a : ℕ) (v w r : Read) : Type 0 where
+pub record Joined (a : ℕ) (v w r : Figures) : Type 0 where
   pub next : r .next ≡ w .next
   pub k : r .k ≡ v .k + w .k
   pub p : r .p ≡ max (v .p) (w .p + 1)
   pub value : optionOf (r .value) ≡ applied (operator a) (optionOf (v .value)) (optionOf (w .value))
-  pub len : r .len ≡ v .len + w .len + lineOf (operator a)
+  pub len : r .len ≡ v .len + w .len + operatorLength (operator a)

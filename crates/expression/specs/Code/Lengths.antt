@@ -5,13 +5,13 @@ use Rattle.word.specs.Apply.{Binary}
 use Rattle.decimal.specs.Decimal.{decimal}
 use Rattle.ops.specs.Written.{written}
 use Rattle.expression.specs.Tree.{Tree, bin, num}
-use Rattle.expression.specs.Written.{operatorOf}
+use Rattle.expression.specs.Code.Operator.{operatorOf}
 
 -- the length of the line that an operator is written as
-abbrev pub lineOf : Binary → ℕ
-lineOf op = length (written (operatorOf op))
+abbrev pub operatorLength : Binary → ℕ
+operatorLength op = length (written (operatorOf op))
 
 -- the length of the text that a tree is written as: `Push`, a space, the decimal and a line feed for a number
 abbrev pub lenOf : Tree → ℕ
 lenOf (num n) = 6 + length (decimal n)
-lenOf (bin op l r) = lenOf l + lenOf r + lineOf op
+lenOf (bin op l r) = lenOf l + lenOf r + operatorLength op

@@ -7,54 +7,54 @@ use lib.ListN.{length, drop}
 use Rattle.decimal.specs.Decimal.{value, decimal}
 use Rattle.token.specs.Token.{tokens}
 use Rattle.token.specs.Code.Places.{first, tokenAt}
-use Rattle.expression.specs.declared.figures.Read.{Read}
-use Rattle.expression.specs.declared.figures.Value.{Value}
-use Rattle.expression.specs.declared.figures.Value.the-variants.{Is, None}
-use Rattle.expression.specs.declared.names.Found.{Found}
-use Rattle.expression.specs.declared.names.Found.the-variants.{At, Nothing}
+use Rattle.expression.specs.declared.figures.Figures.{Figures}
+use Rattle.expression.specs.declared.figures.TreeValue.{TreeValue}
+use Rattle.expression.specs.declared.figures.TreeValue.the-variants.{Is, None}
+use Rattle.expression.specs.declared.names.BoundName.{BoundName}
+use Rattle.expression.specs.declared.names.BoundName.the-variants.{At, Nothing}
 use Rattle.expression.specs.declared.parts.Sign.{Sign}
 use Rattle.expression.specs.declared.ExprError.the-variants.{UnexpectedEnd, UnbalancedParenthesis, InvalidLiteral, UnknownIdentifier, UnconsumedTokens}
-use Rattle.expression.specs.declared.Parsed.{Parsed}
-use Rattle.expression.specs.declared.Parsed.the-variants.{Done, Refused}
-use Rattle.expression.specs.Parse.{lone}
+use Rattle.expression.specs.declared.ParseResult.{ParseResult}
+use Rattle.expression.specs.declared.ParseResult.the-variants.{Done, Refused}
+use Rattle.expression.specs.Parse.{symbol}
 use Rattle.expression.specs.Code.Table.{Columns, Entry, entryAt}
 
--- the token from a place on as a sign
+-- the token at or after an offset as a sign
 abbrev pub signAt : List ℕ → ℕ → Sign
-signAt s at = record { byte = lone (first (tokens (drop at s))); end = tokenAt s at .end }
+signAt s at = record { byte = symbol (first (tokens (drop at s))); end = tokenAt s at .end }
 
 -- a literal, read from its digits
-abbrev pub literalRead : List ℕ → ℕ → Parsed
+abbrev pub literalRead : List ℕ → ℕ → ParseResult
 literalRead w at = cond (ltb (value w) (2 ^ 64)) (Done (record { next = at + length w; k = 1; p = 1; len = 6 + length (decimal (value w)); value = Is (value w) })) (Refused InvalidLiteral)
 
-abbrev pub boundValue : Bool → ℕ → Value
+abbrev pub boundValue : Bool → ℕ → TreeValue
 boundValue true n = None
 boundValue false n = Is n
 
--- a name that ends at a place, read from its binding's entry, and that the figures fit their types
-abbrev pub boundRead : Entry → ℕ → Read
+-- a name that ends at an offset, read from its binding's entry, and that the figures fit their types
+abbrev pub boundRead : Entry → ℕ → Figures
 boundRead e end = record { next = end; k = e .k; p = e .p; len = e .size; value = boundValue (e .none) (e .value) }
 
-pub record Fits (v : Read) : Type 0 where
+pub record Fits (v : Figures) : Type 0 where
   pub k : v .k ≤ 65535
   pub p : v .p ≤ 65535
   pub len : v .len < 2 ^ 32
 
--- a name that ends at a place, by what is found in the table
-abbrev pub nameRead : Columns → ℕ → Found → Parsed
+-- a name that ends at an offset, by what is found in the table
+abbrev pub nameRead : Columns → ℕ → BoundName → ParseResult
 nameRead c end Nothing = Refused UnknownIdentifier
 nameRead c end (At i) = Done (boundRead (entryAt c i) end)
 
-abbrev pub AllFit : Parsed → Type 0
+abbrev pub AllFit : ParseResult → Type 0
 AllFit (Done v) = Fits v
 AllFit (Refused e) = Unit {0}
 
--- what was read in parentheses, by the tokens that follow it, the first of which ends at a place
-abbrev pub closedRead : List (List ℕ) → ℕ → Read → Parsed
+-- what was read in parentheses, by the tokens that follow it, the first of which ends at an offset
+abbrev pub closedRead : List (List ℕ) → ℕ → Figures → ParseResult
 closedRead [] end v = Refused UnexpectedEnd
-closedRead (w ∷ ts) end v = cond (eqb (lone w) 41) (Done (record { next = end; k = v .k; p = v .p; len = v .len; value = v .value })) (Refused UnbalancedParenthesis)
+closedRead (w ∷ ts) end v = cond (eqb (symbol w) 41) (Done (record { next = end; k = v .k; p = v .p; len = v .len; value = v .value })) (Refused UnbalancedParenthesis)
 
 -- what was read, where no token follows it
-abbrev pub wholeRead : List (List ℕ) → Read → Parsed
+abbrev pub wholeRead : List (List ℕ) → Figures → ParseResult
 wholeRead [] v = Done v
 wholeRead (w ∷ ts) v = Refused UnconsumedTokens

@@ -28,10 +28,10 @@ sourcesOf names lens tags starts sizes values = record { names = names; lens = l
 abbrev pub sources : Bindings → Values → Sources
 sources b v = sourcesOf (b .«name_start») (b .«name_len») (v .tag) (b .«expr_start») (b .«expr_len») (v .value)
 
--- the tree of what means one
-abbrev pub treeIn : Outcome Numbered Tree → Tree
-treeIn (is t) = t
-treeIn (refused r) = num 0
+-- the tree that is meant, or that of 0 for a refusal
+abbrev pub treeOr0 : Outcome Numbered Tree → Tree
+treeOr0 (is t) = t
+treeOr0 (refused r) = num 0
 
 module _ (s : List ℕ) (c : Sources) where
   abbrev pub nameOf : ℕ → List ℕ
@@ -42,7 +42,7 @@ module _ (s : List ℕ) (c : Sources) where
 
   -- the tree of binding i, among the bindings before it
   abbrev pub treeAmong : Env → ℕ → Tree
-  treeAmong env i = cond (eqb (getD (c .sizes) i 0) 0) (num (getD (c .values) i 0)) (treeIn (meaning env (expressionOf i)))
+  treeAmong env i = cond (eqb (getD (c .sizes) i 0) 0) (num (getD (c .values) i 0)) (treeOr0 (meaning env (expressionOf i)))
 
   -- the first n bindings, newest first
   unfoldable pub envOf : ℕ → Env
@@ -53,12 +53,12 @@ module _ (s : List ℕ) (c : Sources) where
   treeOf i = treeAmong (envOf i) i
 
   -- binding i stands in the text, and its expression, if it has one, means a tree
-  pub record Stands (i : ℕ) : Type 0 where
+  pub record InText (i : ℕ) : Type 0 where
     pub name : getD (c .names) i 0 + getD (c .lens) i 0 ≤ length s
     pub tag : getD (c .tags) i 0 ≡ tagOf (nameOf i)
     pub inside : getD (c .starts) i 0 + getD (c .sizes) i 0 ≤ length s
     pub means : 0 < getD (c .sizes) i 0 → meaning (envOf i) (expressionOf i) ≡ is (treeOf i)
 
   -- so do the first n
-  abbrev pub AllStand : ℕ → Type 0
-  AllStand n = (i : ℕ) → i < n → Stands i
+  abbrev pub AllInText : ℕ → Type 0
+  AllInText n = (i : ℕ) → i < n → InText i

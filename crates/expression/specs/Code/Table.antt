@@ -9,8 +9,8 @@ use lib.ListN.{length, getD, take, drop}
 use Rattle.base.specs.Equal.{equal}
 use Rattle.expression.specs.declared.Bindings.{Bindings}
 use Rattle.expression.specs.declared.Values.{Values}
-use Rattle.expression.specs.declared.names.Found.{Found}
-use Rattle.expression.specs.declared.names.Found.the-variants.{At, Nothing}
+use Rattle.expression.specs.declared.names.BoundName.{BoundName}
+use Rattle.expression.specs.declared.names.BoundName.the-variants.{At, Nothing}
 use Rattle.expression.specs.Tree.{valueOf, kOf, pOf}
 use Rattle.expression.specs.Code.Lengths.{lenOf}
 use Rattle.expression.specs.Parse.{Binding, Env}
@@ -40,9 +40,9 @@ columnsOf n names lens tags ks ps values nones sizes = record { count = n; names
 abbrev pub columns : Bindings → Values → Columns
 columns b v = columnsOf (b .count) (b .«name_start») (b .«name_len») (v .tag) (b .k) (b .p) (v .value) (v .none) (v .len)
 
-abbrev pub unless : Bool → ℕ → Option ℕ
-unless true n = none
-unless false n = some n
+abbrev pub valueUnlessNone : Bool → ℕ → Option ℕ
+valueUnlessNone true n = none
+valueUnlessNone false n = some n
 
 -- what is told of one binding: where its name starts, its length and its tag, k, p, value, whether that is none, the length of its text
 pub record Entry : Type 0 where
@@ -59,39 +59,39 @@ abbrev pub entryAt : Columns → ℕ → Entry
 entryAt c i = record { start = getD (c .names) i 0; len = getD (c .lens) i 0; tag = getD (c .tags) i 0; k = getD (c .ks) i 0; p = getD (c .ps) i 0; value = getD (c .values) i 0; none = getD (c .nones) i false; size = getD (c .sizes) i 0 }
 
 -- an entry tells the binding b: its name stands in the text s, and its figures are those of its tree
-pub record Tells (s : List ℕ) (e : Entry) (b : Binding) : Type 0 where
+pub record RowFor (s : List ℕ) (e : Entry) (b : Binding) : Type 0 where
   pub inside : e .start + e .len ≤ length s
   pub name : b .name ≡ take (e .len) (drop (e .start) s)
   pub tag : e .tag ≡ tagOf (b .name)
   pub k : e .k ≡ kOf (b .tree)
   pub p : e .p ≡ pOf (b .tree)
-  pub value : unless (e .none) (e .value) ≡ valueOf (b .tree)
+  pub value : valueUnlessNone (e .none) (e .value) ≡ valueOf (b .tree)
   pub len : e .size ≡ lenOf (b .tree)
   pub short : lenOf (b .tree) + 4 ≤ 30 * kOf (b .tree)
 
 -- the first n bindings, the last of them being the newest
-abbrev pub Told : List ℕ → Columns → ℕ → Env → Type 0
-Told s c zero [] = Unit {0}
-Told s c zero (b ∷ env) = ⊥
-Told s c (suc n) [] = ⊥
-Told s c (suc n) (b ∷ env) = Tells s (entryAt c n) b × Told s c n env
+abbrev pub RowsFor : List ℕ → Columns → ℕ → Env → Type 0
+RowsFor s c zero [] = Unit {0}
+RowsFor s c zero (b ∷ env) = ⊥
+RowsFor s c (suc n) [] = ⊥
+RowsFor s c (suc n) (b ∷ env) = RowFor s (entryAt c n) b × RowsFor s c n env
 
 -- a count above 256 is taken as 256
-abbrev pub few : ℕ → ℕ
-few n = min n 256
+abbrev pub atMost256 : ℕ → ℕ
+atMost256 n = min n 256
 
-pub record Holds (s : List ℕ) (c : Columns) (env : Env) : Type 0 where
+pub record TableFor (s : List ℕ) (c : Columns) (env : Env) : Type 0 where
   pub room : c .count ≤ 256
-  pub told : Told s c (c .count) env
+  pub told : RowsFor s c (c .count) env
 
 -- whether binding i has the name w
-abbrev pub called : List ℕ → List ℕ → List ℕ → List ℕ → ℕ → List ℕ → Bool
-called s names lens tags i w = eqb (getD tags i 0) (tagOf w) && (leb (getD names i 0 + getD lens i 0) (length s) && equal w (take (getD lens i 0) (drop (getD names i 0) s)))
+abbrev pub hasName : List ℕ → List ℕ → List ℕ → List ℕ → ℕ → List ℕ → Bool
+hasName s names lens tags i w = eqb (getD tags i 0) (tagOf w) && (leb (getD names i 0 + getD lens i 0) (length s) && equal w (take (getD lens i 0) (drop (getD names i 0) s)))
 
 -- the newest of the first n bindings that has the name w
-unfoldable pub found : ℕ → List ℕ → List ℕ → List ℕ → List ℕ → List ℕ → Found
+unfoldable pub found : ℕ → List ℕ → List ℕ → List ℕ → List ℕ → List ℕ → BoundName
 found zero s names lens tags w = Nothing
-found (suc n) s names lens tags w = elim (called s names lens tags n w) [ true ↦ At n | false ↦ found n s names lens tags w ]
+found (suc n) s names lens tags w = elim (hasName s names lens tags n w) [ true ↦ At n | false ↦ found n s names lens tags w ]
 
 -- whether one of the n bindings from a place on has a tag
 unfoldable pub hasTag : List ℕ → ℕ → ℕ → ℕ → Bool

@@ -3,7 +3,7 @@ use Prim.Native.Nat.{ℕ}
 use mathlib.Core.List.{List}
 use Rattle.ops.specs.Written.{writtenAll}
 use Rattle.expression.specs.Tree.{Tree}
-use Rattle.expression.specs.Written.{opsOf}
+use Rattle.expression.specs.Written.{treeOps}
 
 abbrev pub textOf : Tree → List ℕ
-textOf t = writtenAll (opsOf t)
+textOf t = writtenAll (treeOps t)

@@ -6,7 +6,7 @@ use mathlib.Core.List.{List}
 use native.Mathlib.Omega.{arith}
 use lib.ListN.{length, take, drop, length-drop}
 use lib.Seq.{length-take-le}
-use Rattle.base.proofs.Parts.{rest}
+use Rattle.base.proofs.Parts.{take-length-drop}
 use Rattle.files.specs.declared.Contents.{Contents}
 use Rattle.files.specs.declared.Contents.the-variants.{Read}
 use Rattle.files.specs.Code.Held.{Held}
@@ -20,7 +20,7 @@ more : (buf part : List ℕ) (done n : ℕ) (r : Contents) → done ≤ length b
     → Held r part → r ≡ Read n → done + n ≤ length buf
 more buf part done n r h l k e =
     let j = counted part n r k e .0 in
-    let i = ap length (rest buf done) ∙ length-drop done buf in
+    let i = ap length (take-length-drop buf done) ∙ length-drop done buf in
     omega arith
 
 abbrev Inv-loop : tie.InvT-loop

@@ -8,7 +8,7 @@ use lib.ListN.{length, getD}
 abbrev pub Agrees : List ℕ → List ℕ → ℕ → ℕ → Type 0
 Agrees p s c n = (k : ℕ) → c + k < n → getD s (c + k) 0 ≡ getD p k 0
 
--- e is the least place but 0 from which on p agrees with its own first j bytes
+-- e is the shortest period of the first j bytes of p
 pub record Shift (p : List ℕ) (j e : ℕ) : Type 0 where
   pub some : 0 < e
   pub most : e ≤ j

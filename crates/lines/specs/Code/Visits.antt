@@ -17,7 +17,7 @@ abbrev pub placeOr : ℕ → Found → ℕ
 placeOr n (At i) = i
 placeOr n Nothing = n
 
--- the place of the first line feed at or after a place, or the text's end where there is none
+-- the offset of the first line feed at or after an offset, or the text's end where there is none
 abbrev pub feedFrom : List ℕ → ℕ → ℕ
 feedFrom s at = placeOr (length s) (firstAt (10 ∷ []) s at)
 
@@ -25,7 +25,7 @@ feedFrom s at = placeOr (length s) (firstAt (10 ∷ []) s at)
 abbrev pub headOf : List (List ℕ) → List ℕ
 headOf ls = getD ls 0 []
 
--- what a cursor visits at a place: the line there, and then the next place
+-- what a cursor visits at an offset: the line there, and then the next place
 abbrev pub visitOfLine : List ℕ → Step → Visit (List ℕ)
 visitOfLine s (Next l) = piece (take (l .end - l .start) (drop (l .start) s)) (l .next)
 visitOfLine s Done = noPiece
@@ -33,7 +33,7 @@ visitOfLine s Done = noPiece
 abbrev pub visitLine : List ℕ → ℕ → Visit (List ℕ)
 visitLine s at = visitOfLine s (lineAt s at)
 
--- the line at a place lies within the text, and the lines from that place on are it and the lines from the next place on
+-- the line at an offset lies within the text, and the lines starting at that offset are it and the lines starting at the next offset
 pub record IsLine (s : List ℕ) (at : ℕ) (l : Line) : Type 0 where
   pub starts : l .start ≡ at
   pub ends : at ≤ l .end

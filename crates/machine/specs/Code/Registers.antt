@@ -43,21 +43,21 @@ paid r p = record { pos = r .pos; gas = r .gas - p; items = r .items; used = r .
 
 -- bounds that every operation keeps. A jump costs 2, so the operations counted stay below the position or the gas spent,
 -- and the count fits a word under every limit
-pub record Held (room : ℕ) (r : Regs) : Type 0 where
+pub record Bounds (room : ℕ) (r : Regs) : Type 0 where
   pub items : r .items ≤ 4096
   pub used : r .used ≤ room
   pub spent : r .ops + r .gas < 2 ^ 64 + r .code
   pub count : r .ops < max (r .pos + 1) (2 ^ 64 - 1 - r .gas) + r .code
 
 -- what an operation asks of the registers and of the stack buffer's length
-pub record Ready (r : Regs) (n : ℕ) : Type 0 where
+pub record CanStep (r : Regs) (n : ℕ) : Type 0 where
   pub room : 4096 ≤ n
   pub items : r .items ≤ 4096
   pub pos : r .pos < 2 ^ 63
   pub ops : r .ops + 1 < 2 ^ 64
 
 -- what an operation that is paid for leaves of r's bounds; where it goes on, its position is lo or more
-pub record Kept (lo room : ℕ) (r q : Regs) : Type 0 where
+pub record KeepsBounds (lo room : ℕ) (r q : Regs) : Type 0 where
   pub items : q .items ≤ 4096
   pub used : q .used ≤ room
   pub gas : q .gas ≡ r .gas
@@ -67,35 +67,35 @@ pub record Kept (lo room : ℕ) (r q : Regs) : Type 0 where
 
 -- an operation's effect on the buffers s and w, which it leaves as s′ and w′.
 -- Free are the stack buffer above the items and the work buffer past the used slots, and the note where the code is 0 or 1.
--- After a refusal both buffers are free; items, used, position and count are so within `Kept`, and of code and note what `faultOf` leaves
-pub record Did (lo : ℕ) (effect : List ℕ → List ℕ → Effect) (r q : Regs) (s w s′ w′ : List ℕ) : Type 0 where
+-- After a refusal both buffers are free; items, used, position and count are so within `KeepsBounds`, and of code and note what `faultOf` leaves
+pub record RefinesEffect (lo : ℕ) (effect : List ℕ → List ℕ → Effect) (r q : Regs) (s w s′ w′ : List ℕ) : Type 0 where
   pub progress : progressOf s′ w′ q ≡ settle (r .gas) (frameOf s w r) (effect (stackOf s (r .items)) (take (r .used) w))
-  pub kept : Kept lo (length w) r q
+  pub kept : KeepsBounds lo (length w) r q
 
 -- the same where the work buffer is neither read nor written
-abbrev pub DidAny : ℕ → (List ℕ → List ℕ → Effect) → Regs → Regs → List ℕ → List ℕ → Type 0
-DidAny lo effect r q s s′ = (w : List ℕ) → r .used ≤ length w → Did lo effect r q s w s′ w
+abbrev pub RefinesOnStack : ℕ → (List ℕ → List ℕ → Effect) → Regs → Regs → List ℕ → List ℕ → Type 0
+RefinesOnStack lo effect r q s s′ = (w : List ℕ) → r .used ≤ length w → RefinesEffect lo effect r q s w s′ w
 
 -- registers that run, and the lengths of the buffers
 pub record Running (r : Regs) (stack work : ℕ) : Type 0 where
-  pub held : Held work r
+  pub held : Bounds work r
   pub code : r .code ≡ 0
   pub room : 4096 ≤ stack
 
--- one operation, paid for and done; what `Did` leaves free is free here, within `Held`
-pub record Stepped (c : ℕ) (op : Operation) (r q : Regs) (s w s′ w′ : List ℕ) : Type 0 where
+-- one operation, paid for and done; what `RefinesEffect` leaves free is free here, within `Bounds`
+pub record RefinesStep (c : ℕ) (op : Operation) (r q : Regs) (s w s′ w′ : List ℕ) : Type 0 where
   pub progress : progressOf s′ w′ q ≡ pay (r .gas) (frameOf s w r) (actOf c (length w) op (frameOf s w r))
-  pub held : Held (length w) q
+  pub held : Bounds (length w) q
   pub gas : q .gas ≤ r .gas
   pub falls : q .gas + 1 ≤ r .gas + q .code
 
 -- the two-sided operation of kind 1, 2, 3, 4 or 9; any other kind is taken for Lt
-abbrev pub binaryOf : ℕ → Binary
-binaryOf k = getD (lt ∷ add ∷ sub ∷ mul ∷ div ∷ lt ∷ lt ∷ lt ∷ lt ∷ eq ∷ []) k lt
+abbrev pub binopOfKind : ℕ → Binary
+binopOfKind k = getD (lt ∷ add ∷ sub ∷ mul ∷ div ∷ lt ∷ lt ∷ lt ∷ lt ∷ eq ∷ []) k lt
 
--- a run to its end: with more operations than gas it is the machine's; what `Did` leaves free is free here, within `Held`
-pub record Ran (program : List Operation) (c : ℕ) (r q : Regs) (s w s′ w′ : List ℕ) : Type 0 where
+-- a run to its end: with more operations than gas it is the machine's; what `RefinesEffect` leaves free is free here, within `Bounds`
+pub record RefinesRun (program : List Operation) (c : ℕ) (r q : Regs) (s w s′ w′ : List ℕ) : Type 0 where
   pub progress : (n : ℕ) → r .gas < n → progressOf s′ w′ q ≡ runOf (machine program c (length w)) n (r .gas) (frameOf s w r)
-  pub held : Held (length w) q
+  pub held : Bounds (length w) q
   pub over : 1 ≤ q .code
   pub gas : q .gas ≤ r .gas

@@ -7,7 +7,7 @@ use lib.ListN.{length}
 use Rattle.machine.specs.Machine.{decode, done, machine, pay}
 use Rattle.machine.specs.Code.Registers.{frameOf, progressOf, Running}
 use Rattle.base.proofs.Tests.{positive}
-use Rattle.metered.proofs.Turns.{act-over, Leads, goes-on, ends-with, turn}
+use Rattle.metered.proofs.Loop.{act-over, Leads, goes-on, ends-with, turn}
 use borrow.Author.Needs.{needs}
 use Rattle.metered.proofs.run.Statement.{statement}
 use Rattle.metered.proofs.run.Tie as tie

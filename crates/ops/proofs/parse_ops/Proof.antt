@@ -3,8 +3,8 @@
 use mathlib.Core.Path.{sym, _∙_}
 use borrow.Author.Tests.{not-true, not-false}
 use denote.Ref.{now}
-use Rattle.base.proofs.Tests.{never}
-use Rattle.ops.proofs.Parsing.{not-utf8, is-refused, is-good, is-read}
+use Rattle.base.proofs.Tests.{false-true}
+use Rattle.ops.proofs.WholeText.{not-utf8, is-refused, is-good, is-read}
 use borrow.Author.Needs.{needs}
 use Rattle.ops.proofs.parse_ops.Statement.{statement}
 use Rattle.ops.proofs.parse_ops.Tie as tie
@@ -18,7 +18,7 @@ returns c =
     not-utf8 (now (a .text)) (now (a .kinds)) (now (a .operands)) (sym (c .before .is-utf8 .ensures) ∙ not-true _ (c .if1 .taken))
 
 pass-requires : tie.Need-pass-requires
-pass-requires c κs = λ e. never e
+pass-requires c κs = λ e. false-true e
 
 enum-told : tie.Need-enum-told
 enum-told c = search needs

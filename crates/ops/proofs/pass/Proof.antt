@@ -5,9 +5,9 @@ use native.Mathlib.Omega.{arith}
 use lib.ListN.{length}
 use denote.Ref.{now}
 use Rattle.ops.specs.Line.{fromStr}
-use Rattle.ops.proofs.Reading.{onwards, moved}
-use Rattle.ops.proofs.Filling.{room-kinds, room-operands}
-use Rattle.ops.proofs.Passing.{Passing, pass-first, pass-empty, pass-some, pass-skip, pass-bad, pass-full, pass-left, pass-written}
+use Rattle.ops.proofs.FirstPass.{onwards, moved}
+use Rattle.ops.proofs.SecondPass.{room-kinds, room-operands}
+use Rattle.ops.proofs.PassLine.{Passing, pass-first, pass-empty, pass-some, pass-skip, pass-bad, pass-full, pass-left, pass-written}
 use borrow.Author.Needs.{needs}
 use Rattle.ops.proofs.pass.Statement.{statement}
 use Rattle.ops.proofs.pass.Tie as tie

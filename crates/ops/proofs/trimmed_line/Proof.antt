@@ -3,7 +3,7 @@
 use mathlib.Core.Path.{refl, sym, _∙_}
 use native.Mathlib.Omega.{arith}
 use denote.Ref.{now}
-use Rattle.ops.proofs.Reached.{numbered-line, numbered-text, numbered-place, numbered-none, none-place}
+use Rattle.ops.proofs.LineStarts.{numbered-line, numbered-text, numbered-place, numbered-none, none-place}
 use borrow.Author.Needs.{needs}
 use Rattle.ops.proofs.trimmed_line.Statement.{statement}
 use Rattle.ops.proofs.trimmed_line.Tie as tie

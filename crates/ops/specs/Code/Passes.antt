@@ -19,32 +19,32 @@ use Rattle.ops.specs.Line.{Rule, ReadsDigits, lineOf}
 use Rattle.ops.specs.Ops.{Reading, readLines, answerOf, opsOf, kindsOf, operandsOf, notEmpty}
 use Rattle.ops.specs.declared.ParsedOps.{ParsedOps}
 use Rattle.ops.specs.declared.line.LineRead.the-variants as LineRead
-use Rattle.ops.specs.declared.line.Reached.{Reached}
-use Rattle.ops.specs.declared.line.Known.{Known}
-use Rattle.ops.specs.declared.line.Known.the-variants as Known
+use Rattle.ops.specs.declared.line.ReadLine.{ReadLine}
+use Rattle.ops.specs.declared.line.FastLine.{FastLine}
+use Rattle.ops.specs.declared.line.FastLine.the-variants as Known
 use Rattle.ops.specs.declared.plain.Plain.{Plain}
 use Rattle.ops.specs.declared.plain.Plain.the-variants as Plain
 
--- the line that starts at a place, its number being line
-abbrev pub lineReadAt : Rule → List ℕ → ℕ → ℕ → Reached
+-- the line that starts at an offset, its number being line
+abbrev pub lineReadAt : Rule → List ℕ → ℕ → ℕ → ReadLine
 lineReadAt rule text at line = record { read = lineOf rule line at (firstLine (drop at text)); next = at + span (drop at text) }
 
--- the line at a place says the same by every rule that reads digits as document 01's does
-abbrev pub LineSays : List ℕ → ℕ → Reached → Type 0
+-- the line at an offset says the same by every rule that reads digits as document 01's does
+abbrev pub LineSays : List ℕ → ℕ → ReadLine → Type 0
 LineSays text at reached = (rule : Rule) → ReadsDigits rule → (line : ℕ) → lineReadAt rule text at line ≡ reached
 
--- where it is said what that line says, it does
-abbrev pub KnownRead : List ℕ → ℕ → Known → Type 0
-KnownRead text at (Known.Op k v next) = LineSays text at (record { read = LineRead.Op k v; next = next })
-KnownRead text at (Known.Skip next) = LineSays text at (record { read = LineRead.Skip; next = next })
-KnownRead text at Known.Unknown = Unit
+-- an answer of the fast way that is not Unknown is what the line says
+abbrev pub FastRead : List ℕ → ℕ → FastLine → Type 0
+FastRead text at (FastLine.Op k v next) = LineSays text at (record { read = LineRead.Op k v; next = next })
+FastRead text at (FastLine.Skip next) = LineSays text at (record { read = LineRead.Skip; next = next })
+FastRead text at FastLine.Unknown = Unit
 
--- a line starts at a place, and the White_Space that it starts with ends at another
+-- a line starts at an offset, and the White_Space that it starts with ends at another
 pub record Indented (text : List ℕ) (at first : ℕ) : Type 0 where
   pub within : at < length text
   pub is : first ≡ blanksEnd text at
 
--- an operation stands from a place to another: its word, and behind it a space and the digits of its operand where one follows
+-- an operation stands from an offset to another: its word, and behind it a space and the digits of its operand where one follows
 pub record OperationAt (text : List ℕ) (at k v end : ℕ) : Type 0 where
   pub digits : List ℕ
   pub number : ℕ
@@ -56,12 +56,12 @@ pub record OperationAt (text : List ℕ) (at k v end : ℕ) : Type 0 where
   pub stands : drop at text ≡ lineWith k digits ++ drop end text
   pub place : end ≡ at + length (lineWith k digits)
 
--- where an operation is said to stand at a place, it does
+-- an answer that is not Other is an operation that stands there
 abbrev pub PlainRead : List ℕ → ℕ → Plain → Type 0
 PlainRead text at (Plain.Op k v end) = OperationAt text at k v end
 PlainRead text at Plain.Other = Unit
 
--- the word of a kind with an operand stands at a place, with a space, and what follows starts at another
+-- the word of a kind with an operand stands at an offset, with a space, and what follows starts at another
 pub record WordAt (text : List ℕ) (at k digits : ℕ) : Type 0 where
   pub below : k < 16
   pub followed : follows (kindOf k .operand) ≡ true
@@ -73,7 +73,7 @@ abbrev pub readInto : Rule → List ℕ → List ℕ → List ℕ → Reading
 readInto rule text kinds operands = readLines rule text 0 (lines text) (min (length kinds) (length operands))
 
 -- no line is refused
-pub record Good (rule : Rule) (text kinds operands : List ℕ) : Type 0 where
+pub record NoneRefused (rule : Rule) (text kinds operands : List ℕ) : Type 0 where
   pub read : List Operation
   pub is : readInto rule text kinds operands ≡ is read
 
@@ -83,7 +83,7 @@ pub record Filled (rule : Rule) (text kinds operands kindsAfter operandsAfter : 
   pub inOperands : operandsAfter ≡ overwrite 0 (operandsOf (opsOf (readInto rule text kinds operands))) operands
 
 -- one pass: the answer, and the buffers by whether it writes
-pub record Passed (rule : Rule) (text kinds operands kindsAfter operandsAfter : List ℕ) (writing : Bool) (r : ParsedOps) : Type 0 where
+pub record PassOver (rule : Rule) (text kinds operands kindsAfter operandsAfter : List ℕ) (writing : Bool) (r : ParsedOps) : Type 0 where
   pub answer : r ≡ answerOf (andThen (readInto rule text kinds operands) notEmpty)
   pub keptKinds : writing ≡ false → kindsAfter ≡ kinds
   pub keptOperands : writing ≡ false → operandsAfter ≡ operands

@@ -8,7 +8,7 @@ use Rattle.search.specs.declared.Found.{Found}
 use Rattle.search.specs.declared.Found.the-variants.{At, Nothing}
 use Rattle.path.specs.Stem.{has, ignored, component}
 
--- b stands at a place of s and at none behind it
+-- b stands at an offset of s and at none behind it
 pub record Last (b : ℕ) (s : List ℕ) (i : ℕ) : Type 0 where
   pub inside : i < length s
   pub here : getD s i 0 ≡ b

@@ -2,7 +2,7 @@
 use Prim.Native.Nat.{ℕ, _≤_}
 use mathlib.Core.Path.{_≡_}
 use native.Mathlib.Omega.{arith}
-use Rattle.perform.proofs.Ends.{succeeded, undone-by}
+use Rattle.perform.proofs.Results.{succeeded, undone-by}
 use borrow.Author.Needs.{needs}
 use Rattle.perform.proofs.finish.Statement.{statement}
 use Rattle.perform.proofs.finish.Tie as tie

@@ -2,10 +2,10 @@
 use mathlib.Core.Path.{_∙_}
 use native.Mathlib.Omega.{arith}
 use lib.ListN.{length, take}
-use Rattle.machine.specs.Machine.{decode, whole}
+use Rattle.machine.specs.Machine.{decode, runToEnd}
 use Rattle.perform.specs.Call.{Call}
 use Rattle.perform.proofs.Needed.{all-needed, named-needed}
-use Rattle.perform.proofs.Ends.{on-work, carried}
+use Rattle.perform.proofs.Results.{on-work, carried}
 use borrow.Author.Needs.{needs}
 use Rattle.perform.proofs.run.Statement.{statement}
 use Rattle.perform.proofs.run.Tie as tie
@@ -49,7 +49,7 @@ returns c =
     let x : Call = record { kinds = a .kinds .now; operands = a .operands .now; caller = a .caller; limit = a .gas-limit; state = a .state; stack = a .stack .now; work = a .work .now; storage = a .storage .now } in
     let copied = all-needed (a .kinds .now) (a .operands .now) (a .state .used) (c .before .before .before .before .before .before .before .before .before .before .before .before .before .before .before .before .before .before .before .before .before .before .before .if1 .taken) (f .ensures) in
     let like = on-work x (f .last .0) (r .last .1 .1 .1 .0) (r .last .1 .1 .1 .1 .0) (c .before .before .before .before .before .before .before .before .before .before .before .before .before .before .before .start .result) (r .result) (c .before .before .before .before .before .before .before .before .before .before .before .before .before .before .before .before .before .before .before .before .before .before .before .before .before .before .before .before .before .pre) (f .kept .0) copied (c .before .before .before .before .before .before .before .before .before .before .before .before .before .before .before .start .ensures) (r .ensures) in
-    carried x (r .last .1 .1 .1 .0) (r .last .1 .1 .1 .1 .0) (whole (decode (a .kinds .now) (a .operands .now)) (a .caller) (length (a .storage .now)) (a .gas-limit) (take (a .state .used) (a .storage .now))) (r .kept .1 .1 .1 .0) (r .kept .1 .1 .1 .1 .0 ∙ f .kept .0) (c .before .before .before .before .before .before .finish .ensures (a .caller) _ like)
+    carried x (r .last .1 .1 .1 .0) (r .last .1 .1 .1 .1 .0) (runToEnd (decode (a .kinds .now) (a .operands .now)) (a .caller) (length (a .storage .now)) (a .gas-limit) (take (a .state .used) (a .storage .now))) (r .kept .1 .1 .1 .0) (r .kept .1 .1 .1 .1 .0 ∙ f .kept .0) (c .before .before .before .before .before .before .finish .ensures (a .caller) _ like)
 
 copy-named-requires : tie.Need-copy-named-requires
 copy-named-requires c κs = search needs
@@ -90,7 +90,7 @@ returns-2 c =
     let x : Call = record { kinds = a .kinds .now; operands = a .operands .now; caller = a .caller; limit = a .gas-limit; state = a .state; stack = a .stack .now; work = a .work .now; storage = a .storage .now } in
     let copied = named-needed (a .kinds .now) (a .operands .now) (a .state .used) (c .before .before .before .before .before .before .before .before .before .before .before .before .before .before .before .before .before .before .before .before .before .before .before .if1 .left) (f .ensures) in
     let like = on-work x (f .last .0) (r .last .1 .1 .1 .0) (r .last .1 .1 .1 .1 .0) (c .before .before .before .before .before .before .before .before .before .before .before .before .before .before .before .start2 .result) (r .result) (c .before .before .before .before .before .before .before .before .before .before .before .before .before .before .before .before .before .before .before .before .before .before .before .before .before .before .before .before .before .pre) (f .kept .0) copied (c .before .before .before .before .before .before .before .before .before .before .before .before .before .before .before .start2 .ensures) (r .ensures) in
-    carried x (r .last .1 .1 .1 .0) (r .last .1 .1 .1 .1 .0) (whole (decode (a .kinds .now) (a .operands .now)) (a .caller) (length (a .storage .now)) (a .gas-limit) (take (a .state .used) (a .storage .now))) (r .kept .1 .1 .1 .0) (r .kept .1 .1 .1 .1 .0 ∙ f .kept .0) (c .before .before .before .before .before .before .finish2 .ensures (a .caller) _ like)
+    carried x (r .last .1 .1 .1 .0) (r .last .1 .1 .1 .1 .0) (runToEnd (decode (a .kinds .now) (a .operands .now)) (a .caller) (length (a .storage .now)) (a .gas-limit) (take (a .state .used) (a .storage .now))) (r .kept .1 .1 .1 .0) (r .kept .1 .1 .1 .1 .0 ∙ f .kept .0) (c .before .before .before .before .before .before .finish2 .ensures (a .caller) _ like)
 
 pub run-spec : {M : Type 1} → statement M
 run-spec =

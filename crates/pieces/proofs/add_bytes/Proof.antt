@@ -6,7 +6,7 @@ use native.Mathlib.Omega.{arith}
 use lib.ListN.{length}
 use lib.Seq.{length-take-le}
 use denote.Ref.{now}
-use Rattle.pieces.proofs.Adding.{add-none, add-all, add-some}
+use Rattle.pieces.proofs.Laws.{add-none, add-all, add-some}
 use borrow.Author.Needs.{needs}
 use Rattle.pieces.proofs.add_bytes.Statement.{statement}
 use Rattle.pieces.proofs.add_bytes.Tie as tie

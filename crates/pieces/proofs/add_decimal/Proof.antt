@@ -4,7 +4,7 @@ use mathlib.Core.Path.{sym}
 use native.Mathlib.Omega.{arith}
 use lib.Seq.{length-take-le}
 use Rattle.decimal.proofs.Laws.{length-word}
-use Rattle.pieces.proofs.Adding.{added-same, digits-fit, digits-are}
+use Rattle.pieces.proofs.Laws.{added-same, digits-fit, digits-are}
 use borrow.Author.Needs.{needs}
 use Rattle.pieces.proofs.add_decimal.Statement.{statement}
 use Rattle.pieces.proofs.add_decimal.Tie as tie

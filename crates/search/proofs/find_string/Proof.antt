@@ -4,14 +4,14 @@ use mathlib.Core.Path.{refl, sym, _∙_}
 use native.Mathlib.Omega.{arith}
 use Rattle.base.specs.Code.Skips.{Skips}
 use Rattle.search.specs.First.{firstAt}
-use Rattle.search.specs.Code.Scan.{Places}
+use Rattle.search.specs.Code.Scan.{RoomAtEach}
 use Rattle.search.proofs.Laws.{no-room}
 use borrow.Author.Needs.{needs}
 use Rattle.search.proofs.find_string.Statement.{statement}
 use Rattle.search.proofs.find_string.Tie as tie
 
 abbrev Inv-loop : tie.InvT-loop
-Inv-loop s p at stop i₀ i = Places p s i stop × Skips (firstAt p s) at i
+Inv-loop s p at stop i₀ i = RoomAtEach p s i stop × Skips (firstAt p s) at i
 
 abbrev μ-loop : tie.MeasureT-loop
 μ-loop s p at stop i₀ i = stop - i

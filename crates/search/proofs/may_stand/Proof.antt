@@ -2,7 +2,7 @@
 use Prim.Native.Nat.{_+_}
 use mathlib.Core.Path.{_≡_, sym}
 use native.Mathlib.Omega.{arith}
-use Rattle.base.proofs.Tests.{never}
+use Rattle.base.proofs.Tests.{false-true}
 use borrow.Author.Needs.{needs}
 use Rattle.search.proofs.may_stand.Statement.{statement}
 use Rattle.search.proofs.may_stand.Tie as tie
@@ -11,7 +11,7 @@ sub-if1 : tie.Need-sub-if1
 sub-if1 c = search needs
 
 returns : tie.Need-returns
-returns c = λ e. never (sym e)
+returns c = λ e. false-true (sym e)
 
 any-agrees-requires : tie.Need-any-agrees-requires
 any-agrees-requires c κs = search needs

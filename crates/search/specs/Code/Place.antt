@@ -1,4 +1,4 @@
--- The first place, as a relation.
+-- The first offset, as a relation.
 use Prim.Native.Nat.{ℕ, _+_, _<_, _≤_}
 use mathlib.Core.Path.{_≡_}
 use mathlib.Core.List.{List}
@@ -6,7 +6,7 @@ use mathlib.Core.Bool.{true, false}
 use lib.ListN.{length, drop}
 use Rattle.search.specs.First.{prefixOf}
 
--- what makes i the first place at or after `at`
+-- what makes i the first offset at or after `at`
 pub record First (p s : List ℕ) (at i : ℕ) : Type 0 where
   pub after : at ≤ i
   pub fits : i + length p ≤ length s

@@ -5,7 +5,7 @@ use mathlib.Core.List.{List, [], _∷_}
 use lib.ListN.{length, take, drop}
 use Rattle.base.specs.Code.Cursor.{Visit, piece, noPiece}
 use Rattle.base.specs.Lists.{isNot, takeWhile}
-use Rattle.trim.specs.Trim.{trimmed, passed}
+use Rattle.trim.specs.Trim.{trimmed, leadingBlanks}
 use Rattle.source.specs.Parameters.{pieces, name, parameters}
 use Rattle.source.specs.declared.parameters.Span.{Span}
 use Rattle.source.specs.declared.parameters.Parameter.{Parameter}
@@ -18,13 +18,13 @@ before b s = takeWhile (isNot b) s
 
 -- where the trimmed text stands in a text
 abbrev pub trimmedSpan : List ℕ → Span
-trimmedSpan s = record { start = passed s; end = passed s + length (trimmed s) }
+trimmedSpan s = record { start = leadingBlanks s; end = leadingBlanks s + length (trimmed s) }
 
 -- where the name stands in a piece
 abbrev pub nameSpan : List ℕ → Span
 nameSpan p =
     let cut = trimmedSpan (before 0x3A (trimmed p)) in
-    record { start = passed p + cut .start; end = passed p + cut .end }
+    record { start = leadingBlanks p + cut .start; end = leadingBlanks p + cut .end }
 
 -- the comma behind a piece that others follow
 abbrev pub comma : List (List ℕ) → ℕ

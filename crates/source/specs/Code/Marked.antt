@@ -10,12 +10,12 @@ use Rattle.search.specs.Code.Scan.{orElse}
 use Rattle.source.specs.Vector.{quoted}
 use Rattle.source.specs.declared.key.Mark.{Mark}
 
--- there is room at each place from `at` up to end
+-- there is room at each offset from `at` up to end
 pub record Room (s key : List ℕ) (at end : ℕ) : Type 0 where
   pub ordered : at ≤ end
   pub room : end + length key < length s
 
--- r is the first place from `at` on and before end, where there is one
+-- r is the first offset from `at` on and before end, where there is one
 abbrev pub FirstBefore : List ℕ → List ℕ → ℕ → ℕ → Found → Type 0
 FirstBefore s key at end r = firstAt (quoted key) s at ≡ orElse r (firstAt (quoted key) s end)
 
@@ -29,7 +29,7 @@ pub record Marks (key : List ℕ) (m : Mark) : Type 0 where
   pub is : getD (quoted key) (m .place) 0 ≡ m .byte
   pub quotes : m .place ≡ 0 → Quotes (quoted key) 0 (length key + 2)
 
--- a place from `from` on and before end at which no quote stands, or nothing where quotes alone do
+-- an offset from `from` on and before end at which no quote stands, or nothing where quotes alone do
 abbrev pub Other : List ℕ → ℕ → ℕ → Found → Type 0
 Other s from end (At j) = (from ≤ j) × (j < end) × (getD s j 0 ≡ 0x22 → ⊥)
 Other s from end Nothing = Quotes s from end

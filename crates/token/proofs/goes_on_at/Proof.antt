@@ -2,7 +2,7 @@
 use Prim.Native.Nat.{ℕ}
 use mathlib.Core.Path.{sym, ap, _∙_}
 use lib.ListN.{List·getD-eq-default}
-use Rattle.token.specs.Token.{goesOn}
+use Rattle.token.specs.Code.Bytes.{goesOn}
 use Rattle.token.proofs.Classes.{goesOn-end}
 use borrow.Author.Needs.{needs}
 use Rattle.token.proofs.goes_on_at.Statement.{statement}

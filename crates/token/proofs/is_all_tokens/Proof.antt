@@ -6,7 +6,8 @@ use mathlib.Core.Path.{_≡_, sym, _∙_}
 use mathlib.Core.List.{List}
 use lib.ListN.{length, getD, drop}
 use Rattle.base.proofs.Lists.{all-more, all-end}
-use Rattle.token.specs.Token.{allowedByte, allowed}
+use Rattle.token.specs.Token.{allowed}
+use Rattle.token.specs.Code.Bytes.{allowedByte}
 use borrow.Author.Needs.{needs}
 use Rattle.token.proofs.is_all_tokens.Statement.{statement}
 use Rattle.token.proofs.is_all_tokens.Tie as tie

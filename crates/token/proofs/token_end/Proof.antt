@@ -4,7 +4,7 @@ use mathlib.Core.Path.{_≡_, sym, _∙_}
 use native.Mathlib.Omega.{arith}
 use lib.ListN.{length, getD}
 use Rattle.base.proofs.Lists.{endFrom, passes-inside, end-more, end-none}
-use Rattle.token.specs.Token.{goesOn}
+use Rattle.token.specs.Code.Bytes.{goesOn}
 use Rattle.token.proofs.Classes.{goesOn-end}
 use borrow.Author.Needs.{needs}
 use Rattle.token.proofs.token_end.Statement.{statement}

@@ -1,4 +1,4 @@
--- Tokens by their places in a text.
+-- Tokens by their offsets in a text.
 use Prim.Native.Nat.{ℕ, suc, _+_}
 use mathlib.Core.List.{List, [], _∷_}
 use mathlib.Core.Bool.{cond, _&&_}
@@ -13,11 +13,11 @@ abbrev pub first : List (List ℕ) → List ℕ
 first [] = []
 first (w ∷ ts) = w
 
--- where the first token from a place on starts
+-- where the first token at or after an offset starts
 abbrev pub startAt : List ℕ → ℕ → ℕ
 startAt s at = at + length (takeWhile space (drop at s))
 
--- the first token from a place on; start and end are the text's end where there is none
+-- the first token at or after an offset; start and end are the text's end where there is none
 abbrev pub tokenAt : List ℕ → ℕ → Token
 tokenAt s at = record { start = startAt s at; end = startAt s at + length (first (tokens (drop at s))) }
 

@@ -7,7 +7,7 @@ use mathlib.Core.Logic.{⊎-elim}
 use native.Mathlib.Omega.{arith}
 use lib.ListN.{length, drop, drop-of-length-le, length-drop}
 use denote.Ref.{now}
-use Rattle.base.proofs.Parts.{rest}
+use Rattle.base.proofs.Parts.{take-length-drop}
 use Rattle.trim.specs.Trim.{startTrimmed}
 use borrow.Author.Needs.{needs}
 use Rattle.trim.proofs.trim_start.Statement.{statement}
@@ -54,7 +54,7 @@ returns c =
     let e : startTrimmed (drop i s) ≡ drop i s = ⊎-elim (λ w. ended s i (w .left)) (λ w. w .1 .ensures .none (w .2 .taken)) (c .before .loop-test .came) in
     let q : startTrimmed s ≡ drop i s = l .loop .inv .1 ∙ e in
     let h = l .loop .inv .0 in
-    record { text = rest s i ∙ sym q; block = refl; offset = omega (arith, ap length q, length-drop i s) }
+    record { text = take-length-drop s i ∙ sym q; block = refl; offset = omega (arith, ap length q, length-drop i s) }
 
 pub trim-start-spec : {M : Type 1} → statement M
 trim-start-spec =

@@ -5,7 +5,7 @@ use mathlib.Core.Path.{sym, _∙_}
 use native.Mathlib.Omega.{arith}
 use lib.ListN.{getD, drop}
 use denote.Ref.{now}
-use Rattle.base.proofs.Tests.{between, inside, never}
+use Rattle.base.proofs.Tests.{between, inside, false-true}
 use Rattle.base.proofs.Bytes.{at1}
 use Rattle.trim.specs.Trim.{white2, white3}
 use Rattle.trim.proofs.White.{not1}
@@ -63,7 +63,7 @@ returns-5 c =
     let x = getD s (a .at) 0 in
     stays (at1 s (a .at) (omega arith))
     (start-stays x (drop (a .at + 1) s) (not1 x (omega arith)) (c .before .before .if3 .left)
-    (λ p q. never (sym (c .if4 .left) ∙ c .before .in-range .ensures ∙ inside 0xE1 0xE3 x p q)))
+    (λ p q. false-true (sym (c .if4 .left) ∙ c .before .in-range .ensures ∙ inside 0xE1 0xE3 x p q)))
 
 pub white-at-spec : {M : Type 1} → statement M
 white-at-spec =

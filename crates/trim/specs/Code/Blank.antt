@@ -24,11 +24,11 @@ abbrev mutual
   blanks2 a b [] = 0
   blanks2 a b (c ∷ s) = elim (white3 a b c) [ true ↦ suc (suc (suc (blanksLen s))) | false ↦ 0 ]
 
--- where it ends that stands from a place on
+-- where the White_Space that starts at an offset ends
 abbrev pub blanksEnd : List ℕ → ℕ → ℕ
 blanksEnd s at = at + blanksLen (drop at s)
 
--- n bytes of it stand at a place, and n is 0 only where none does
+-- n bytes of it stand at an offset, and n is 0 only where none does
 pub record BlankAt (s : List ℕ) (at n : ℕ) : Type 0 where
   pub fits : n ≤ length s - at
   pub on : blanksLen (drop at s) ≡ n + blanksLen (drop (at + n) s)

@@ -4,7 +4,7 @@ use borrow.Author.Tests.{leb-true}
 use native.Mathlib.Nat.{le-trans}
 use native.Mathlib.Omega.{arith}
 use denote.Ref.{now}
-use Rattle.base.proofs.Tests.{never}
+use Rattle.base.proofs.Tests.{false-true}
 use Rattle.utf8.proofs.Laws.{ascii}
 use borrow.Author.Needs.{needs}
 use Rattle.utf8.proofs.is_ascii.Statement.{statement}
@@ -14,7 +14,7 @@ sub-if1 : tie.Need-sub-if1
 sub-if1 c = search needs
 
 returns : tie.Need-returns
-returns c = λ e. never e
+returns c = λ e. false-true e
 
 largest-requires : tie.Need-largest-requires
 largest-requires c κs = search needs

@@ -28,10 +28,10 @@ abbrev pub followsAt : List ℕ → ℕ → Bool
 followsAt s at = follows (getD s at 0) (getD s (at + 1) 0) (getD s (at + 2) 0) (getD s (at + 3) 0)
 
 -- n bytes follow so behind three others, and the last character is complete
-abbrev pub whole : ℕ → ℕ → ℕ → ℕ → List ℕ → Bool
-whole a b c zero s = cond (opened a b c) false true
-whole a b c (suc n) [] = false
-whole a b c (suc n) (d ∷ s) = follows a b c d && whole b c d n s
+abbrev pub completeFrom : ℕ → ℕ → ℕ → ℕ → List ℕ → Bool
+completeFrom a b c zero s = cond (opened a b c) false true
+completeFrom a b c (suc n) [] = false
+completeFrom a b c (suc n) (d ∷ s) = follows a b c d && completeFrom b c d n s
 
 -- each of n bytes follows the three before it, of which the first stands at a position
 abbrev pub Follow : List ℕ → ℕ → ℕ → Type 0

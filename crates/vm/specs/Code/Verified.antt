@@ -2,8 +2,8 @@
 use Rattle.checks.specs.declared.Check.the-variants.{Passed}
 use Rattle.checks.specs.Verify.{thenCheck, verifyOf}
 use Rattle.perform.specs.Call.{Call}
-use Rattle.perform.specs.Run.{Result, performed}
+use Rattle.perform.specs.Run.{RunResult, performed}
 use Rattle.vm.specs.Transition.{afterCheck}
 
-abbrev pub verified : Call → Result
+abbrev pub verified : Call → RunResult
 verified x = afterCheck (thenCheck (verifyOf (x .kinds) (x .operands) (x .state .used)) Passed) x (performed x)

@@ -5,7 +5,7 @@ use mathlib.Core.List.{List}
 use lib.ListN.{length}
 use Rattle.base.specs.Overwrite.{overwrite}
 
--- the bytes were written over a buffer from a place on, and r is the place behind them
+-- the bytes were written over a buffer starting at an offset, and r is the offset behind them
 pub record Overwrites (before : List ℕ) (at : ℕ) (bytes after : List ℕ) (r : ℕ) : Type 0 where
   pub is : after ≡ overwrite at bytes before
   pub next : r ≡ at + length bytes

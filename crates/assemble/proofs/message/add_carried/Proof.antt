@@ -1,6 +1,6 @@
 -- `assemble::message::add_carried` meets its contract, by the number.
 -- Assumes nothing.
-use Rattle.pieces.proofs.Adding.{added-same, added-then}
+use Rattle.pieces.proofs.Laws.{added-same, added-then}
 use Rattle.assemble.proofs.Messages.{carried-none, carried-key, carried-line, carried-nothing}
 use borrow.Author.Needs.{needs}
 use Rattle.assemble.proofs.message.add_carried.Statement.{statement}

@@ -1,6 +1,6 @@
 -- `assemble::message::add_key` meets its contract, by whether the place is 0.
 -- Assumes nothing.
-use Rattle.pieces.proofs.Adding.{added-same}
+use Rattle.pieces.proofs.Laws.{added-same}
 use Rattle.assemble.proofs.Messages.{key-expected, key-number}
 use borrow.Author.Needs.{needs}
 use Rattle.assemble.proofs.message.add_key.Statement.{statement}

@@ -1,7 +1,7 @@
 -- `assemble::message::add_words` meets its contract: the words of a number are the line of that number.
 -- Assumes nothing.
 use mathlib.Core.Path.{_∙_}
-use Rattle.pieces.proofs.Adding.{added-same}
+use Rattle.pieces.proofs.Laws.{added-same}
 use Rattle.assemble.proofs.Messages.{words-line}
 use borrow.Author.Needs.{needs}
 use Rattle.assemble.proofs.message.add_words.Statement.{statement}

@@ -1,7 +1,7 @@
 -- `assemble::message::message` meets its contract: its six pieces.
 -- Assumes nothing.
 use native.Mathlib.Omega.{arith}
-use Rattle.pieces.proofs.Adding.{added-then}
+use Rattle.pieces.proofs.Laws.{added-then}
 use Rattle.assemble.proofs.Messages.{message-short}
 use borrow.Author.Needs.{needs}
 use Rattle.assemble.proofs.message.message.Statement.{statement}

@@ -3,7 +3,7 @@
 use mathlib.Core.Path.{ap}
 use lib.ListN.{getD}
 use Rattle.numbered.specs.declared.Numbered.{Numbered}
-use Rattle.assemble.proofs.Saying.{says-text, says-message}
+use Rattle.assemble.proofs.Streams.{says-text, says-message}
 use borrow.Author.Needs.{needs}
 use Rattle.assemble.proofs.say.say.Statement.{statement}
 use Rattle.assemble.proofs.say.say.Tie as tie

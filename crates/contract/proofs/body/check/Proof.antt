@@ -6,7 +6,7 @@ use lib.ListN.{take}
 use lib.Seq.{length-take-le}
 use denote.Ref.{now}
 use Rattle.expression.specs.Code.Answers.{EndsLast}
-use Rattle.contract.proofs.Checking.{check-refused, check-long, check-done}
+use Rattle.contract.proofs.Expressions.{check-refused, check-long, check-done}
 use borrow.Author.Needs.{needs}
 use Rattle.contract.proofs.body.check.Statement.{statement}
 use Rattle.contract.proofs.body.check.Tie as tie

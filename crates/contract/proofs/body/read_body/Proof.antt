@@ -9,10 +9,10 @@ use Rattle.lines.specs.Lines.{lines}
 use Rattle.contract.specs.Part.{part}
 use Rattle.contract.specs.Body.{lineRead}
 use Rattle.contract.proofs.Stored.{Full, full-more, row-more}
-use Rattle.contract.proofs.Coming.{turn-first, turn-done}
+use Rattle.contract.proofs.Loops.{turn-first, turn-done}
 use Rattle.contract.proofs.BodyLines.{linesFrom, all-lines, lines-done, lines-end}
-use Rattle.contract.proofs.Reading.{Lines, line-within, line-less, skipped-next, no-equals-off, let-part, let-off, let-name, let-fit, let-next, let-full, return-part, return-off, return-next}
-use Rattle.contract.proofs.Meeting.{Meeting, met-first, met-done, met-next, met-let, met-return, met-off}
+use Rattle.contract.proofs.BodyLoop.{Lines, line-within, line-less, skipped-next, no-equals-off, let-part, let-off, let-name, let-fit, let-next, let-full, return-part, return-off, return-next}
+use Rattle.contract.proofs.LastReturn.{Meeting, met-first, met-done, met-next, met-let, met-return, met-off}
 use borrow.Author.Needs.{needs}
 use Rattle.contract.proofs.body.read_body.Statement.{statement}
 use Rattle.contract.proofs.body.read_body.Tie as tie

@@ -8,8 +8,8 @@ use Rattle.source.specs.Parameters.{parameters}
 use Rattle.contract.specs.Part.{part}
 use Rattle.contract.specs.Parameters.{parameterBound}
 use Rattle.contract.proofs.Stored.{Full, full-more, row-more}
-use Rattle.contract.proofs.Coming.{Turn, turn-first, item-within, turn-done, turn-next, turn-off}
-use Rattle.contract.proofs.Naming.{namesFrom, all-names, names-done, names-end, name-item, parameter-refused, parameter-bound}
+use Rattle.contract.proofs.Loops.{Turn, turn-first, item-within, turn-done, turn-next, turn-off}
+use Rattle.contract.proofs.ParameterSteps.{namesFrom, all-names, names-done, names-end, name-item, parameter-refused, parameter-bound}
 use borrow.Author.Needs.{needs}
 use Rattle.contract.proofs.parameters.bind_parameters.Statement.{statement}
 use Rattle.contract.proofs.parameters.bind_parameters.Tie as tie

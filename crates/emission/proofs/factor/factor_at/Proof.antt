@@ -26,8 +26,8 @@ returns c =
     let q = c .before .before .before .before .pre in
     factor-none (now (a .text)) (a .end) (a .at) (a .count) (now (a .names)) (now (a .lens)) (now (a .tags)) (c .before .token-at .result) (c .before .token-at .ensures) (c .if1 .taken)
 
-lone-byte-requires : tie.Need-lone-byte-requires
-lone-byte-requires c κs =
+symbol-byte-requires : tie.Need-symbol-byte-requires
+symbol-byte-requires c κs =
     let a = c .before .before .before .before .args in
     let q = c .before .before .before .before .pre in
     let n = token (now (a .text)) (a .end) (a .at) (a .count) (now (a .names)) (now (a .lens)) (now (a .tags)) (c .before .token-at .result) (c .before .token-at .ensures) (c .if1 .left) (q .0) in
@@ -37,7 +37,7 @@ returns-2 : tie.Need-returns-2
 returns-2 c =
     let a = c .before .before .before .before .before .before .args in
     let q = c .before .before .before .before .before .before .pre in
-    factor-open (now (a .text)) (a .end) (a .at) (a .count) (now (a .names)) (now (a .lens)) (now (a .tags)) (c .before .before .before .token-at .result) (c .before .before .before .token-at .ensures) (c .before .before .if1 .left) (q .0) (c .before .lone-byte .ensures) (c .if2 .taken)
+    factor-open (now (a .text)) (a .end) (a .at) (a .count) (now (a .names)) (now (a .lens)) (now (a .tags)) (c .before .before .before .token-at .result) (c .before .before .before .token-at .ensures) (c .before .before .if1 .left) (q .0) (c .before .symbol-byte .ensures) (c .if2 .taken)
 
 shared-slice-read-is-digit : tie.Need-shared-slice-read-is-digit
 shared-slice-read-is-digit c =
@@ -57,7 +57,7 @@ returns-3 c =
     let a = c .before .before .before .before .before .before .before .before .before .before .args in
     let q = c .before .before .before .before .before .before .before .before .before .before .pre in
     let t = c .before .before .before .before .before .before .before .token-at in
-    with-factor (t .result .end) (c .literal .ensures) (factor-literal (now (a .text)) (a .end) (a .at) (a .count) (now (a .names)) (now (a .lens)) (now (a .tags)) (c .before .before .before .before .before .before .before .token-at .result) (c .before .before .before .before .before .before .before .token-at .ensures) (c .before .before .before .before .before .before .if1 .left) (q .0) (c .before .before .before .before .before .lone-byte .ensures) (c .before .before .before .before .if2 .left) (sym (c .before .before .is-digit .ensures) ∙ c .before .if3 .taken))
+    with-factor (t .result .end) (c .literal .ensures) (factor-literal (now (a .text)) (a .end) (a .at) (a .count) (now (a .names)) (now (a .lens)) (now (a .tags)) (c .before .before .before .before .before .before .before .token-at .result) (c .before .before .before .before .before .before .before .token-at .ensures) (c .before .before .before .before .before .before .if1 .left) (q .0) (c .before .before .before .before .before .symbol-byte .ensures) (c .before .before .before .before .if2 .left) (sym (c .before .before .is-digit .ensures) ∙ c .before .if3 .taken))
 
 sub-lookup : tie.Need-sub-lookup
 sub-lookup c =
@@ -81,7 +81,7 @@ returns-4 c =
     let a = c .before .before .before .before .before .before .before .before .before .before .before .args in
     let q = c .before .before .before .before .before .before .before .before .before .before .before .pre in
     let t = c .before .before .before .before .before .before .before .before .token-at in
-    with-factor (t .result .end) (c .named .ensures) (factor-name (now (a .text)) (a .end) (a .at) (a .count) (now (a .names)) (now (a .lens)) (now (a .tags)) (c .before .before .before .before .before .before .before .before .token-at .result) (c .before .before .before .before .before .before .before .before .token-at .ensures) (c .before .before .before .before .before .before .before .if1 .left) (q .0) (c .before .before .before .before .before .before .lone-byte .ensures) (c .before .before .before .before .before .if2 .left) (sym (c .before .before .before .is-digit .ensures) ∙ c .before .before .if3 .left) _ (c .before .lookup .ensures))
+    with-factor (t .result .end) (c .named .ensures) (factor-name (now (a .text)) (a .end) (a .at) (a .count) (now (a .names)) (now (a .lens)) (now (a .tags)) (c .before .before .before .before .before .before .before .before .token-at .result) (c .before .before .before .before .before .before .before .before .token-at .ensures) (c .before .before .before .before .before .before .before .if1 .left) (q .0) (c .before .before .before .before .before .before .symbol-byte .ensures) (c .before .before .before .before .before .if2 .left) (sym (c .before .before .before .is-digit .ensures) ∙ c .before .before .if3 .left) _ (c .before .lookup .ensures))
 
 pub factor-at-spec : {M : Type 1} → statement M
 factor-at-spec =
@@ -90,7 +90,7 @@ factor-at-spec =
     slice-aggregate-expression
     token-at-requires
     returns
-    lone-byte-requires
+    symbol-byte-requires
     returns-2
     shared-slice-read-is-digit
     is-digit-requires

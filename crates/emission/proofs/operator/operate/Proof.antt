@@ -3,7 +3,7 @@ use mathlib.Core.Path.{sym, ap}
 use native.Mathlib.Omega.{arith}
 use lib.Seq.{length-take-le}
 use Rattle.expression.specs.declared.parts.Sign.{Sign}
-use Rattle.emission.proofs.Turning.{operator-pops, operator-room, operator-turns, close-pops, close-mark, close-turns}
+use Rattle.emission.proofs.OperatorStep.{operator-pops, operator-room, operator-turns, close-pops, close-mark, close-turns}
 use Rattle.writer.proofs.Pieces.{overwrites-length}
 use borrow.Author.Needs.{needs}
 use Rattle.emission.proofs.operator.operate.Statement.{statement}

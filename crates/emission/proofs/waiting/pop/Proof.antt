@@ -1,6 +1,6 @@
 -- `emission::waiting::pop` meets its contract: operator by operator, the newest first.
 use native.Mathlib.Omega.{arith}
-use Rattle.emission.proofs.Popping.{Popping, popping-starts, popping-length, popping-empty, popping-shut, popping-fits, popping-more}
+use Rattle.emission.proofs.WaitingLoop.{Popping, popping-starts, popping-length, popping-empty, popping-shut, popping-fits, popping-more}
 use borrow.Author.Needs.{needs}
 use Rattle.emission.proofs.waiting.pop.Statement.{statement}
 use Rattle.emission.proofs.waiting.pop.Tie as tie

@@ -5,7 +5,7 @@ use Prim.Native.Nat.{ℕ}
 use Rattle.base.specs.Overwrite.{overwrite}
 use Rattle.examples.specs.Runs.{zeros}
 use Rattle.examples.proofs.Bench.{bench}
-use Rattle.examples.proofs.Assembling.{assembles}
+use Rattle.examples.proofs.Assembly.{assembles}
 use borrow.Author.Needs.{needs}
 use Rattle.examples.proofs.assemblies.tally.Statement.{statement}
 use Rattle.examples.proofs.assemblies.tally.Tie as tie

@@ -1,5 +1,5 @@
 -- `tally` is E1 through `compile`: what the call ensures, and the group's figures.
-use Rattle.examples.proofs.Compiling.{compiles}
+use Rattle.examples.proofs.InRow.{compiles}
 use borrow.Author.Needs.{needs}
 use Rattle.examples.proofs.in_row.tally.Statement.{statement}
 use Rattle.examples.proofs.in_row.tally.Tie as tie

@@ -1,6 +1,6 @@
 -- `div_items` is E3 with gas 2: what the call ensures, and the group's figures.
 use mathlib.Core.Path.{ap, _∙_}
-use Rattle.perform.specs.Numbers.{answerNumbered}
+use Rattle.perform.specs.Numbers.{runAnswerNumbered}
 use Rattle.examples.proofs.Bench.{bench}
 use borrow.Author.Needs.{needs}
 use Rattle.examples.proofs.runs.div_items.Statement.{statement}
@@ -13,7 +13,7 @@ plain-requires : tie.Need-plain-requires
 plain-requires c κs = search needs
 
 returns : tie.Need-returns
-returns c = ap answerNumbered (c .plain .ensures .answer) ∙ bench .e3-items
+returns c = ap runAnswerNumbered (c .plain .ensures .answer) ∙ bench .e3-items
 
 pub div-items-spec : {M : Type 1} → statement M
 div-items-spec = tie.close (tie.spec slice-aggregate-plain plain-requires returns)

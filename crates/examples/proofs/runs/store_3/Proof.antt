@@ -1,6 +1,6 @@
 -- `store_3` is `Store 3` of E6: what the call ensures, and the group's figures.
 use mathlib.Core.Path.{ap, _∙_}
-use Rattle.perform.specs.Numbers.{answerNumbered}
+use Rattle.perform.specs.Numbers.{runAnswerNumbered}
 use Rattle.examples.proofs.Bench.{bench}
 use borrow.Author.Needs.{needs}
 use Rattle.examples.proofs.runs.store_3.Statement.{statement}
@@ -13,7 +13,7 @@ on-four-requires : tie.Need-on-four-requires
 on-four-requires c κs = search needs
 
 returns : tie.Need-returns
-returns c = record { answer = ap answerNumbered (c .on-four .ensures .answer) ∙ bench .e6-three; buffer = c .on-four .ensures .storage ∙ bench .e6-storage }
+returns c = record { answer = ap runAnswerNumbered (c .on-four .ensures .answer) ∙ bench .e6-three; buffer = c .on-four .ensures .storage ∙ bench .e6-storage }
 
 pub store-3-spec : {M : Type 1} → statement M
 store-3-spec = tie.close (tie.spec slice-aggregate-on-four on-four-requires returns)

@@ -1,6 +1,6 @@
 -- `store_4` is `Store 4` of E6: what the call ensures, and the group's figures.
 use mathlib.Core.Path.{ap, _∙_}
-use Rattle.perform.specs.Numbers.{answerNumbered}
+use Rattle.perform.specs.Numbers.{runAnswerNumbered}
 use Rattle.examples.proofs.Bench.{bench}
 use borrow.Author.Needs.{needs}
 use Rattle.examples.proofs.runs.store_4.Statement.{statement}
@@ -13,7 +13,7 @@ on-four-requires : tie.Need-on-four-requires
 on-four-requires c κs = search needs
 
 returns : tie.Need-returns
-returns c = ap answerNumbered (c .on-four .ensures .answer) ∙ bench .e6-four
+returns c = ap runAnswerNumbered (c .on-four .ensures .answer) ∙ bench .e6-four
 
 pub store-4-spec : {M : Type 1} → statement M
 store-4-spec = tie.close (tie.spec slice-aggregate-on-four on-four-requires returns)

@@ -4,12 +4,12 @@ use mathlib.Core.Path.{_≡_}
 use native.Mathlib.Omega.{arith}
 use lib.Dec.{eqb}
 use Rattle.base.proofs.Tests.{by-bool}
-use Rattle.expression.specs.Code.Lengths.{lineOf}
+use Rattle.expression.specs.Code.Lengths.{operatorLength}
 use Rattle.expression.specs.Parse.{operator}
 use Rattle.expression.proofs.joining.line_len.Statement.{statement}
 use Rattle.expression.proofs.joining.line_len.Tie as tie
 
-line-four : (a : ℕ) → 4 ≡ lineOf (operator a)
+line-four : (a : ℕ) → 4 ≡ operatorLength (operator a)
 line-four a =
     by-bool (eqb a 43) (λ e. simp e)
     (λ e. by-bool (eqb a 45) (λ f. simp (e, f))

@@ -11,14 +11,14 @@ token-at-requires c κs = search needs
 returns : tie.Need-returns
 returns c = let a = c .before .before .before .args in close-end (a .text .now) (a .inner) (c .before .token-at .result) (c .before .token-at .ensures) (c .if1 .taken)
 
-lone-byte-requires : tie.Need-lone-byte-requires
-lone-byte-requires c κs = let a = c .before .before .before .args in let n = next-of (a .text .now) (a .inner .next) (c .before .token-at .result) (c .before .token-at .ensures) (c .if1 .left) in (n .some, n .inside)
+symbol-byte-requires : tie.Need-symbol-byte-requires
+symbol-byte-requires c κs = let a = c .before .before .before .args in let n = next-of (a .text .now) (a .inner .next) (c .before .token-at .result) (c .before .token-at .ensures) (c .if1 .left) in (n .some, n .inside)
 
 returns-2 : tie.Need-returns-2
-returns-2 c = let a = c .before .before .before .before .before .args in close-is (a .text .now) (a .inner) (c .before .before .before .token-at .result) (c .before .before .before .token-at .ensures) (c .before .before .if1 .left) (c .before .lone-byte .ensures) (c .if2 .taken)
+returns-2 c = let a = c .before .before .before .before .before .args in close-is (a .text .now) (a .inner) (c .before .before .before .token-at .result) (c .before .before .before .token-at .ensures) (c .before .before .if1 .left) (c .before .symbol-byte .ensures) (c .if2 .taken)
 
 returns-3 : tie.Need-returns-3
-returns-3 c = let a = c .before .before .before .before .before .args in close-other (a .text .now) (a .inner) (c .before .before .before .token-at .result) (c .before .before .before .token-at .ensures) (c .before .before .if1 .left) (c .before .lone-byte .ensures) (c .if2 .left)
+returns-3 c = let a = c .before .before .before .before .before .args in close-other (a .text .now) (a .inner) (c .before .before .before .token-at .result) (c .before .before .before .token-at .ensures) (c .before .before .if1 .left) (c .before .symbol-byte .ensures) (c .if2 .left)
 
 pub close-spec : {M : Type 1} → statement M
-close-spec = tie.close (tie.spec token-at-requires returns lone-byte-requires returns-2 returns-3)
+close-spec = tie.close (tie.spec token-at-requires returns symbol-byte-requires returns-2 returns-3)

@@ -3,7 +3,7 @@ use native.Mathlib.Omega.{arith}
 use Prim.Native.Nat.{_-_}
 use mathlib.Core.Path.{sym, ap, _∙_}
 use lib.ListN.{take, drop}
-use Rattle.expression.specs.declared.Parsed.the-variants.{Done}
+use Rattle.expression.specs.declared.ParseResult.the-variants.{Done}
 use Rattle.expression.proofs.Lookup.{found-below}
 use borrow.Author.Needs.{needs}
 use Rattle.expression.proofs.operands.name.Statement.{statement}

@@ -5,7 +5,7 @@ use Prim.Native.Nat.{ℕ, _+_, _-_, _≤_, _<_, _%_, _^_}
 use native.Mathlib.Omega.{arith}
 use borrow.Author.Tests.{lt-ltb, le-ltb, eq-eqb, ne-eqb}
 use Rattle.word.specs.Apply.{lt}
-use Rattle.machine.specs.Code.Registers.{binaryOf}
+use Rattle.machine.specs.Code.Registers.{binopOfKind}
 use Rattle.machine.proofs.Program.{other-lt}
 use borrow.Author.Needs.{needs}
 use Rattle.machine.proofs.operations.apply.Statement.{statement}
@@ -17,7 +17,7 @@ wrapped a b r ha hb hr e = omega arith
 not-zero : {b : ℕ} → 1 ≤ b → b ≡ 0 → ⊥
 not-zero h e = omega arith
 
-lt-here : (c : tie.At-match-rest) → binaryOf (c .before .args .kind) ≡ lt
+lt-here : (c : tie.At-match-rest) → binopOfKind (c .before .args .kind) ≡ lt
 lt-here c =
     let n = c .match .rest in
     other-lt (c .before .args .kind) (n .0 .0 .0 .0 .1) (n .0 .0 .0 .1) (n .0 .0 .1) (n .0 .1) (n .1)

@@ -1,6 +1,6 @@
 -- `step::step` meets its contract: at each leaf the tests leave one kind.
 use native.Mathlib.Omega.{arith}
-use Rattle.metered.proofs.Arms.{at-kind, at-halt}
+use Rattle.metered.proofs.StepArms.{at-kind, at-halt}
 use borrow.Author.Needs.{needs}
 use Rattle.metered.proofs.step.step.Statement.{statement}
 use Rattle.metered.proofs.step.step.Tie as tie

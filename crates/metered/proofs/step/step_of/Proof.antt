@@ -9,13 +9,13 @@ use Rattle.machine.specs.declared.Regs.{Regs}
 use Rattle.kinds.specs.Kinds.{operation, kindOf}
 use Rattle.kinds.proofs.ByKind.{end, _&_, past}
 use Rattle.machine.specs.Machine.{effectOf}
-use Rattle.machine.specs.Code.Registers.{Ready, Did, Stepped}
-use Rattle.metered.proofs.Arms.{ready, arm, out-of-gas, ends-by}
+use Rattle.machine.specs.Code.Registers.{CanStep, RefinesEffect, RefinesStep}
+use Rattle.metered.proofs.StepArms.{ready, arm, out-of-gas, ends-by}
 use borrow.Author.Needs.{needs}
 use Rattle.metered.proofs.step.step_of.Statement.{statement}
 use Rattle.metered.proofs.step.step_of.Tie as tie
 
-ready-here : (c : tie.After-pay) → Ready (c .pay .result) (length (c .before .before .before .before .before .args .stack .now))
+ready-here : (c : tie.After-pay) → CanStep (c .pay .result) (length (c .before .before .before .before .before .args .stack .now))
 ready-here c = ready (c .before .before .gas-cost .result) (c .pay .ensures) (c .before .before .before .before .before .pre .0) (c .before .before .before .before .before .pre .1)
 
 used-here : (c : tie.After-pay) → c .pay .result .used ≤ length (c .before .before .before .before .before .args .work .now)
@@ -23,15 +23,15 @@ used-here c = rw (c .pay .ensures) (c .before .before .before .before .before .p
 
 module _ (c : tie.After-pay) (k : ℕ) {q : Regs} {s′ w′ : List ℕ} where
   next-arm : c .before .before .before .before .before .args .kind ≡ k → 1 ≤ kindOf k .price
-      → Did (c .pay .result .pos + 1) (effectOf (c .before .before .before .before .before .args .caller) (length (c .before .before .before .before .before .args .work .now)) (operation k (c .before .before .before .before .before .args .operand))) (c .pay .result) q (c .before .before .before .before .before .args .stack .now) (c .before .before .before .before .before .args .work .now) s′ w′
-      → Stepped (c .before .before .before .before .before .args .caller) (operation (c .before .before .before .before .before .args .kind) (c .before .before .before .before .before .args .operand)) (c .before .before .before .before .before .args .r) q (c .before .before .before .before .before .args .stack .now) (c .before .before .before .before .before .args .work .now) s′ w′
+      → RefinesEffect (c .pay .result .pos + 1) (effectOf (c .before .before .before .before .before .args .caller) (length (c .before .before .before .before .before .args .work .now)) (operation k (c .before .before .before .before .before .args .operand))) (c .pay .result) q (c .before .before .before .before .before .args .stack .now) (c .before .before .before .before .before .args .work .now) s′ w′
+      → RefinesStep (c .before .before .before .before .before .args .caller) (operation (c .before .before .before .before .before .args .kind) (c .before .before .before .before .before .args .operand)) (c .before .before .before .before .before .args .r) q (c .before .before .before .before .before .args .stack .now) (c .before .before .before .before .before .args .work .now) s′ w′
   next-arm e one did =
       let a = c .before .before .before .before .before .args in
       arm k (c .pay .result .pos + 1) (c .before .before .gas-cost .result) (a .caller) (a .kind) (a .operand) e (c .pay .ensures) (c .before .before .gas-cost .ensures) (c .before .if1 .left) one (inl (omega arith)) (c .before .before .before .before .before .pre .0) did
 
   jump-arm : c .before .before .before .before .before .args .kind ≡ k → 2 ≤ kindOf k .price
-      → Did 0 (effectOf (c .before .before .before .before .before .args .caller) (length (c .before .before .before .before .before .args .work .now)) (operation k (c .before .before .before .before .before .args .operand))) (c .pay .result) q (c .before .before .before .before .before .args .stack .now) (c .before .before .before .before .before .args .work .now) s′ w′
-      → Stepped (c .before .before .before .before .before .args .caller) (operation (c .before .before .before .before .before .args .kind) (c .before .before .before .before .before .args .operand)) (c .before .before .before .before .before .args .r) q (c .before .before .before .before .before .args .stack .now) (c .before .before .before .before .before .args .work .now) s′ w′
+      → RefinesEffect 0 (effectOf (c .before .before .before .before .before .args .caller) (length (c .before .before .before .before .before .args .work .now)) (operation k (c .before .before .before .before .before .args .operand))) (c .pay .result) q (c .before .before .before .before .before .args .stack .now) (c .before .before .before .before .before .args .work .now) s′ w′
+      → RefinesStep (c .before .before .before .before .before .args .caller) (operation (c .before .before .before .before .before .args .kind) (c .before .before .before .before .before .args .operand)) (c .before .before .before .before .before .args .r) q (c .before .before .before .before .before .args .stack .now) (c .before .before .before .before .before .args .work .now) s′ w′
   jump-arm e two did =
       let a = c .before .before .before .before .before .args in
       arm k 0 (c .before .before .gas-cost .result) (a .caller) (a .kind) (a .operand) e (c .pay .ensures) (c .before .before .gas-cost .ensures) (c .before .if1 .left) (omega arith) (inr two) (c .before .before .before .before .before .pre .0) did
@@ -53,17 +53,17 @@ pay-requires c κs = c .if1 .left
 push-requires : tie.Need-push-requires
 push-requires c κs = ready-here (c .before .before)
 
-two-requires : tie.Need-two-requires
-two-requires c κs = ready-here (c .before .before)
+binop-requires : tie.Need-binop-requires
+binop-requires c κs = ready-here (c .before .before)
 
-two-requires-2 : tie.Need-two-requires-2
-two-requires-2 c κs = ready-here (c .before .before)
+binop-requires-2 : tie.Need-binop-requires-2
+binop-requires-2 c κs = ready-here (c .before .before)
 
-two-requires-3 : tie.Need-two-requires-3
-two-requires-3 c κs = ready-here (c .before .before)
+binop-requires-3 : tie.Need-binop-requires-3
+binop-requires-3 c κs = ready-here (c .before .before)
 
-two-requires-4 : tie.Need-two-requires-4
-two-requires-4 c κs = ready-here (c .before .before)
+binop-requires-4 : tie.Need-binop-requires-4
+binop-requires-4 c κs = ready-here (c .before .before)
 
 dup-requires : tie.Need-dup-requires
 dup-requires c κs = ready-here (c .before .before)
@@ -77,11 +77,11 @@ jump-requires c κs = (ready-here (c .before) .ops, ready-here (c .before) .item
 jump-if-not-zero-requires : tie.Need-jump-if-not-zero-requires
 jump-if-not-zero-requires c κs = ready-here (c .before .before)
 
-two-requires-5 : tie.Need-two-requires-5
-two-requires-5 c κs = ready-here (c .before .before)
+binop-requires-5 : tie.Need-binop-requires-5
+binop-requires-5 c κs = ready-here (c .before .before)
 
-two-requires-6 : tie.Need-two-requires-6
-two-requires-6 c κs = ready-here (c .before .before)
+binop-requires-6 : tie.Need-binop-requires-6
+binop-requires-6 c κs = ready-here (c .before .before)
 
 load-requires : tie.Need-load-requires
 load-requires c κs = (ready-here (c .before .before .before), used-here (c .before .before .before))
@@ -111,25 +111,25 @@ same-length-2 : tie.Need-same-length-2
 same-length-2 c = search needs
 
 returns-3 : tie.Need-returns-3
-returns-3 c = next-arm (c .before .before .before .before .before) 1 (c .before .before .before .before .match .keys2) (omega arith) (c .before .before .two .ensures _ (used-here (c .before .before .before .before .before)))
+returns-3 c = next-arm (c .before .before .before .before .before) 1 (c .before .before .before .before .match .keys2) (omega arith) (c .before .before .binop .ensures _ (used-here (c .before .before .before .before .before)))
 
 same-length-3 : tie.Need-same-length-3
 same-length-3 c = search needs
 
 returns-4 : tie.Need-returns-4
-returns-4 c = next-arm (c .before .before .before .before .before) 2 (c .before .before .before .before .match .keys3) (omega arith) (c .before .before .two2 .ensures _ (used-here (c .before .before .before .before .before)))
+returns-4 c = next-arm (c .before .before .before .before .before) 2 (c .before .before .before .before .match .keys3) (omega arith) (c .before .before .binop2 .ensures _ (used-here (c .before .before .before .before .before)))
 
 same-length-4 : tie.Need-same-length-4
 same-length-4 c = search needs
 
 returns-5 : tie.Need-returns-5
-returns-5 c = next-arm (c .before .before .before .before .before) 3 (c .before .before .before .before .match .keys4) (omega arith) (c .before .before .two3 .ensures _ (used-here (c .before .before .before .before .before)))
+returns-5 c = next-arm (c .before .before .before .before .before) 3 (c .before .before .before .before .match .keys4) (omega arith) (c .before .before .binop3 .ensures _ (used-here (c .before .before .before .before .before)))
 
 same-length-5 : tie.Need-same-length-5
 same-length-5 c = search needs
 
 returns-6 : tie.Need-returns-6
-returns-6 c = next-arm (c .before .before .before .before .before) 4 (c .before .before .before .before .match .keys5) (omega arith) (c .before .before .two4 .ensures _ (used-here (c .before .before .before .before .before)))
+returns-6 c = next-arm (c .before .before .before .before .before) 4 (c .before .before .before .before .match .keys5) (omega arith) (c .before .before .binop4 .ensures _ (used-here (c .before .before .before .before .before)))
 
 same-length-6 : tie.Need-same-length-6
 same-length-6 c = search needs
@@ -156,13 +156,13 @@ same-length-9 : tie.Need-same-length-9
 same-length-9 c = search needs
 
 returns-11 : tie.Need-returns-11
-returns-11 c = next-arm (c .before .before .before .before .before) 9 (c .before .before .before .before .match .keys10) (omega arith) (c .before .before .two5 .ensures _ (used-here (c .before .before .before .before .before)))
+returns-11 c = next-arm (c .before .before .before .before .before) 9 (c .before .before .before .before .match .keys10) (omega arith) (c .before .before .binop5 .ensures _ (used-here (c .before .before .before .before .before)))
 
 same-length-10 : tie.Need-same-length-10
 same-length-10 c = search needs
 
 returns-12 : tie.Need-returns-12
-returns-12 c = next-arm (c .before .before .before .before .before) 10 (c .before .before .before .before .match .keys11) (omega arith) (c .before .before .two6 .ensures _ (used-here (c .before .before .before .before .before)))
+returns-12 c = next-arm (c .before .before .before .before .before) 10 (c .before .before .before .before .match .keys11) (omega arith) (c .before .before .binop6 .ensures _ (used-here (c .before .before .before .before .before)))
 
 same-length-11 : tie.Need-same-length-11
 same-length-11 c = search needs
@@ -210,16 +210,16 @@ step-of-spec =
     returns
     pay-requires
     push-requires
-    two-requires
-    two-requires-2
-    two-requires-3
-    two-requires-4
+    binop-requires
+    binop-requires-2
+    binop-requires-3
+    binop-requires-4
     dup-requires
     swap-requires
     jump-requires
     jump-if-not-zero-requires
-    two-requires-5
-    two-requires-6
+    binop-requires-5
+    binop-requires-6
     load-requires
     store-requires
     push-requires-2

@@ -3,19 +3,19 @@
 use mathlib.Core.Path.{refl, sym, subst}
 use denote.Ref.{now}
 use Rattle.ops.specs.Line.{fromStr}
-use Rattle.ops.specs.Code.Passes.{KnownRead}
+use Rattle.ops.specs.Code.Passes.{FastRead}
 use borrow.Author.Needs.{needs}
 use Rattle.ops.proofs.line.line_read_at.Statement.{statement}
 use Rattle.ops.proofs.line.line_read_at.Tie as tie
 
-any-line-at-requires : tie.Need-any-line-at-requires
-any-line-at-requires c κs = search needs
+general-line-at-requires : tie.Need-general-line-at-requires
+general-line-at-requires c κs = search needs
 
 returns : tie.Need-returns
 returns c = search needs
 
-known-line-at-requires : tie.Need-known-line-at-requires
-known-line-at-requires c κs = search needs
+fast-line-at-requires : tie.Need-fast-line-at-requires
+fast-line-at-requires c κs = search needs
 
 enum-known-known : tie.Need-enum-known-known
 enum-known-known c = search needs
@@ -26,18 +26,18 @@ enum-known-known-2 c = search needs
 enum-told : tie.Need-enum-told
 enum-told c = search needs
 
-any-line-at-requires-2 : tie.Need-any-line-at-requires-2
-any-line-at-requires-2 c κs = search needs
+general-line-at-requires-2 : tie.Need-general-line-at-requires-2
+general-line-at-requires-2 c κs = search needs
 
 returns-2 : tie.Need-returns-2
 returns-2 c =
     let a = c .before .before .before .before .before .before .args in
-    sym (subst (KnownRead (now (a .text)) (a .at)) (c .before .known .given .1) (c .before .before .before .known-line-at .ensures) fromStr (λ operand d e. refl) (a .line))
+    sym (subst (FastRead (now (a .text)) (a .at)) (c .before .known .given .1) (c .before .before .before .fast-line-at .ensures) fromStr (λ operand d e. refl) (a .line))
 
 returns-3 : tie.Need-returns-3
 returns-3 c =
     let a = c .before .before .before .before .before .before .args in
-    sym (subst (KnownRead (now (a .text)) (a .at)) (c .before .known2 .given .1) (c .before .before .before .known-line-at .ensures) fromStr (λ operand d e. refl) (a .line))
+    sym (subst (FastRead (now (a .text)) (a .at)) (c .before .known2 .given .1) (c .before .before .before .fast-line-at .ensures) fromStr (λ operand d e. refl) (a .line))
 
 returns-4 : tie.Need-returns-4
 returns-4 c = search needs
@@ -46,13 +46,13 @@ pub line-read-at-spec : {M : Type 1} → statement M
 line-read-at-spec =
     tie.close
     (tie.spec
-    any-line-at-requires
+    general-line-at-requires
     returns
-    known-line-at-requires
+    fast-line-at-requires
     enum-known-known
     enum-known-known-2
     enum-told
-    any-line-at-requires-2
+    general-line-at-requires-2
     returns-2
     returns-3
     returns-4)

@@ -6,7 +6,7 @@ use native.Mathlib.Omega.{arith}
 use lib.ListN.{take, drop}
 use denote.Ref.{now}
 use Rattle.base.proofs.Parts.{length-part}
-use Rattle.ops.specs.Line.{ruleOf, partRead}
+use Rattle.ops.specs.Line.{ruleOf, headRead}
 use Rattle.ops.proofs.Words.{rest-within}
 use Rattle.ops.proofs.Trimmed.{start-within, end-within, skip-read, part-read}
 use borrow.Author.Needs.{needs}
@@ -50,8 +50,8 @@ sub-place c =
 add-place : tie.Need-add-place
 add-place c = search needs
 
-part-requires : tie.Need-part-requires
-part-requires c κs = search needs
+classify-requires : tie.Need-classify-requires
+classify-requires c κs = search needs
 
 enum-known-p : tie.Need-enum-known-p
 enum-known-p c = search needs
@@ -66,7 +66,7 @@ add-read-operand c =
     let first = c .before .before .before .before .before .before .before .trim-start in
     let last = c .before .before .before .before .before .before .trim-end in
     let g = c .before .p2 .given in
-    let n = rest-within (now (last .result)) _ _ (sym (c .before .before .before .part .ensures) ∙ g .1) in
+    let n = rest-within (now (last .result)) _ _ (sym (c .before .before .before .classify .ensures) ∙ g .1) in
     let h = start-within raw (now (first .result)) (now (last .result)) (first .ensures .text) (last .ensures .text) in
     let k = end-within raw (now (first .result)) (now (last .result)) (first .ensures .text) (last .ensures .text) in
     let w = length-part (now (a .text)) (a .start) (a .end) (c .before .before .before .before .before .before .before .before .before .before .pre .0) (c .before .before .before .before .before .before .before .before .before .before .pre .1) in
@@ -81,7 +81,7 @@ read-operand-requires c κs =
     let first = c .before .before .before .before .before .before .before .trim-start in
     let last = c .before .before .before .before .before .before .trim-end in
     let g = c .before .p2 .given in
-    let n = rest-within (now (last .result)) _ _ (sym (c .before .before .before .part .ensures) ∙ g .1) in
+    let n = rest-within (now (last .result)) _ _ (sym (c .before .before .before .classify .ensures) ∙ g .1) in
     let h = start-within raw (now (first .result)) (now (last .result)) (first .ensures .text) (last .ensures .text) in
     let k = end-within raw (now (first .result)) (now (last .result)) (first .ensures .text) (last .ensures .text) in
     let w = length-part (now (a .text)) (a .start) (a .end) (c .before .before .before .before .before .before .before .before .before .before .pre .0) (c .before .before .before .before .before .before .before .before .before .before .pre .1) in
@@ -98,8 +98,8 @@ returns-2 c =
     let raw = take (a .end - a .start) (drop (a .start) (now (a .text))) in
     let first = c .before .before .before .before .before .before .before .trim-start in
     let last = c .before .before .before .before .before .before .trim-end in
-    sym (part-read raw (now (first .result)) (now (last .result)) (first .ensures .text) (last .ensures .text) (ruleOf (a .rule)) (a .line) (a .start) (c .before .before .before .part .result) (sym (c .before .before .before .before .before .is-skipped .ensures) ∙ c .before .before .before .before .if1 .left) (c .before .before .before .part .ensures)
-    ∙ ap (partRead (ruleOf (a .rule)) (a .line) _ (now (last .result))) (c .before .p .given .1))
+    sym (part-read raw (now (first .result)) (now (last .result)) (first .ensures .text) (last .ensures .text) (ruleOf (a .rule)) (a .line) (a .start) (c .before .before .before .classify .result) (sym (c .before .before .before .before .before .is-skipped .ensures) ∙ c .before .before .before .before .if1 .left) (c .before .before .before .classify .ensures)
+    ∙ ap (headRead (ruleOf (a .rule)) (a .line) _ (now (last .result))) (c .before .p .given .1))
 
 returns-3 : tie.Need-returns-3
 returns-3 c =
@@ -108,8 +108,8 @@ returns-3 c =
     let first = c .before .before .before .before .before .before .before .before .trim-start in
     let last = c .before .before .before .before .before .before .before .trim-end in
     c .read-operand .ensures
-    ∙ sym (part-read raw (now (first .result)) (now (last .result)) (first .ensures .text) (last .ensures .text) (ruleOf (a .rule)) (a .line) (a .start) (c .before .before .before .before .part .result) (sym (c .before .before .before .before .before .before .is-skipped .ensures) ∙ c .before .before .before .before .before .if1 .left) (c .before .before .before .before .part .ensures)
-    ∙ ap (partRead (ruleOf (a .rule)) (a .line) _ (now (last .result))) (c .before .before .p2 .given .1))
+    ∙ sym (part-read raw (now (first .result)) (now (last .result)) (first .ensures .text) (last .ensures .text) (ruleOf (a .rule)) (a .line) (a .start) (c .before .before .before .before .classify .result) (sym (c .before .before .before .before .before .before .is-skipped .ensures) ∙ c .before .before .before .before .before .if1 .left) (c .before .before .before .before .classify .ensures)
+    ∙ ap (headRead (ruleOf (a .rule)) (a .line) _ (now (last .result))) (c .before .before .p2 .given .1))
 
 returns-4 : tie.Need-returns-4
 returns-4 c =
@@ -117,8 +117,8 @@ returns-4 c =
     let raw = take (a .end - a .start) (drop (a .start) (now (a .text))) in
     let first = c .before .before .before .before .before .before .trim-start in
     let last = c .before .before .before .before .before .trim-end in
-    sym (part-read raw (now (first .result)) (now (last .result)) (first .ensures .text) (last .ensures .text) (ruleOf (a .rule)) (a .line) (a .start) (c .before .before .part .result) (sym (c .before .before .before .before .is-skipped .ensures) ∙ c .before .before .before .if1 .left) (c .before .before .part .ensures)
-    ∙ ap (partRead (ruleOf (a .rule)) (a .line) _ (now (last .result))) (c .enum-told .given .1))
+    sym (part-read raw (now (first .result)) (now (last .result)) (first .ensures .text) (last .ensures .text) (ruleOf (a .rule)) (a .line) (a .start) (c .before .before .classify .result) (sym (c .before .before .before .before .is-skipped .ensures) ∙ c .before .before .before .if1 .left) (c .before .before .classify .ensures)
+    ∙ ap (headRead (ruleOf (a .rule)) (a .line) _ (now (last .result))) (c .enum-told .given .1))
 
 pub read-line-spec : {M : Type 1} → statement M
 read-line-spec =
@@ -133,7 +133,7 @@ read-line-spec =
     returns
     sub-place
     add-place
-    part-requires
+    classify-requires
     enum-known-p
     enum-known-p-2
     add-read-operand

@@ -5,7 +5,7 @@ use mathlib.Core.Path.{sym, ap, _∙_}
 use native.Mathlib.Omega.{arith}
 use lib.ListN.{length, take, drop}
 use denote.Ref.{now}
-use Rattle.base.proofs.Parts.{rest}
+use Rattle.base.proofs.Parts.{take-length-drop}
 use Rattle.trim.proofs.Laws.{startTrimmed-length}
 use Rattle.ops.specs.Line.{ruleOf, ofNumber}
 use Rattle.ops.specs.declared.line.LineRead.the-variants.{Bad}
@@ -58,7 +58,7 @@ returns c =
     let first = c .before .before .before .before .before .trim-start in
     let last = c .before .before .before .before .trim-end in
     sym (operand-read (take (length l - a .n) (drop (a .n) l)) (now (first .result)) (now (last .result)) (first .ensures .text) (last .ensures .text)
-    (ruleOf (a .rule)) (a .kind) (a .line) (a .place) (a .n) l (c .before .before .before .number-by .result) (rest l (a .n)) (c .before .before .before .number-by .ensures)
+    (ruleOf (a .rule)) (a .kind) (a .line) (a .place) (a .n) l (c .before .before .before .number-by .result) (take-length-drop l (a .n)) (c .before .before .before .number-by .ensures)
     ∙ ap (ofNumber (a .kind) (a .line) _ _) (c .before .v .given .1))
 
 returns-2 : tie.Need-returns-2
@@ -69,7 +69,7 @@ returns-2 c =
     let last = c .before .before .before .before .trim-end in
     ap Bad (c .bad-number .ensures)
     ∙ sym (operand-read (take (length l - a .n) (drop (a .n) l)) (now (first .result)) (now (last .result)) (first .ensures .text) (last .ensures .text)
-    (ruleOf (a .rule)) (a .kind) (a .line) (a .place) (a .n) l (c .before .before .before .number-by .result) (rest l (a .n)) (c .before .before .before .number-by .ensures)
+    (ruleOf (a .rule)) (a .kind) (a .line) (a .place) (a .n) l (c .before .before .before .number-by .result) (take-length-drop l (a .n)) (c .before .before .before .number-by .ensures)
     ∙ ap (ofNumber (a .kind) (a .line) _ _) (c .before .enum-told .given .1))
 
 pub read-operand-spec : {M : Type 1} → statement M

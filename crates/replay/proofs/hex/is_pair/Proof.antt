@@ -1,18 +1,18 @@
 -- `replay::hex::is_pair` meets its contract: two bytes are left where it looks at them.
 -- Assumes nothing.
-use Rattle.base.proofs.Tests.{never}
+use Rattle.base.proofs.Tests.{false-true}
 use borrow.Author.Needs.{needs}
 use Rattle.replay.proofs.hex.is_pair.Statement.{statement}
 use Rattle.replay.proofs.hex.is_pair.Tie as tie
 
 returns : tie.Need-returns
-returns c = λ e. never e
+returns c = λ e. false-true e
 
 sub-if2 : tie.Need-sub-if2
 sub-if2 c = search needs
 
 returns-2 : tie.Need-returns-2
-returns-2 c = λ e. never e
+returns-2 c = λ e. false-true e
 
 shared-slice-read-is-digit : tie.Need-shared-slice-read-is-digit
 shared-slice-read-is-digit c = search needs

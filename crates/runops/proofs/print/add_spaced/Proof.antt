@@ -1,6 +1,6 @@
 -- `runops::print::add_spaced` meets its contract: a space, then the number.
 -- Assumes nothing.
-use Rattle.pieces.proofs.Adding.{added-then}
+use Rattle.pieces.proofs.Laws.{added-then}
 use borrow.Author.Needs.{needs}
 use Rattle.runops.proofs.print.add_spaced.Statement.{statement}
 use Rattle.runops.proofs.print.add_spaced.Tie as tie

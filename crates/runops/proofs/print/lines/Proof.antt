@@ -1,8 +1,8 @@
 -- `runops::print::lines` meets its contract: its pieces, which have room.
 -- Assumes nothing.
 use native.Mathlib.Omega.{arith}
-use Rattle.pieces.proofs.Adding.{added-then}
-use Rattle.runops.proofs.Printing.{prints, printed-short}
+use Rattle.pieces.proofs.Laws.{added-then}
+use Rattle.runops.proofs.PrintedLines.{prints, printed-short}
 use borrow.Author.Needs.{needs}
 use Rattle.runops.proofs.print.lines.Statement.{statement}
 use Rattle.runops.proofs.print.lines.Tie as tie

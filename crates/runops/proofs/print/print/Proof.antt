@@ -2,7 +2,7 @@
 -- Assumes nothing.
 use mathlib.Core.Path.{sym}
 use lib.Seq.{length-take-le}
-use Rattle.runops.proofs.Printing.{prints-fit}
+use Rattle.runops.proofs.PrintedLines.{prints-fit}
 use borrow.Author.Needs.{needs}
 use Rattle.runops.proofs.print.print.Statement.{statement}
 use Rattle.runops.proofs.print.print.Tie as tie

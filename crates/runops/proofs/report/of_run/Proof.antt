@@ -5,7 +5,7 @@ use mathlib.Core.Path.{sym, ap}
 use lib.ListN.{length-replicate}
 use denote.Ref.{now}
 use Rattle.numbered.specs.declared.Numbered.{Numbered}
-use Rattle.runops.proofs.Running.{made, items-fit, refused-run, successful-run}
+use Rattle.runops.proofs.Reported.{made, items-fit, refused-run, successful-run}
 use borrow.Author.Needs.{needs}
 use Rattle.runops.proofs.report.of_run.Statement.{statement}
 use Rattle.runops.proofs.report.of_run.Tie as tie

@@ -1,6 +1,6 @@
 -- `runops::report::top` meets its contract: the last of the items stands before the place behind it.
 -- Assumes nothing.
-use Rattle.runops.proofs.Running.{top-item}
+use Rattle.runops.proofs.Reported.{top-item}
 use borrow.Author.Needs.{needs}
 use Rattle.runops.proofs.report.top.Statement.{statement}
 use Rattle.runops.proofs.report.top.Tie as tie

@@ -3,7 +3,7 @@ use Prim.Native.Nat.{_+_, _-_}
 use mathlib.Core.Path.{sym, _∙_}
 use native.Mathlib.Omega.{arith}
 use lib.ListN.{length}
-use Rattle.base.proofs.Tests.{by-bool, never, and-both}
+use Rattle.base.proofs.Tests.{by-bool, false-true, and-both}
 use Rattle.source.proofs.Quoted.{between, opening-here, closing-here}
 use borrow.Author.Needs.{needs}
 use Rattle.source.proofs.key.is_quoted_at.Statement.{statement}
@@ -44,7 +44,7 @@ returns c =
 returns-2 : tie.Need-returns-2
 returns-2 c =
     let a = c .before .before .before .before .before .before .args in
-    sym (by-bool _ (λ y. never (sym (c .if1 .left) ∙ c .before .both .ensures ∙ and-both _ _ (opening-here (a .key .now) (a .s .now) (a .at) y) (closing-here (a .key .now) (a .s .now) (a .at) y _ (omega arith)))) (λ n. n))
+    sym (by-bool _ (λ y. false-true (sym (c .if1 .left) ∙ c .before .both .ensures ∙ and-both _ _ (opening-here (a .key .now) (a .s .now) (a .at) y) (closing-here (a .key .now) (a .s .now) (a .at) y _ (omega arith)))) (λ n. n))
 
 pub is-quoted-at-spec : {M : Type 1} → statement M
 is-quoted-at-spec =

@@ -7,7 +7,7 @@ use lib.ListN.{length}
 use denote.Ref.{now}
 use Rattle.base.specs.Ascii.{ascii}
 use Rattle.base.specs.Lists.{takeWhile}
-use Rattle.base.proofs.Parts.{rest}
+use Rattle.base.proofs.Parts.{take-length-drop}
 use Rattle.search.specs.declared.Found.the-variants.{At}
 use Rattle.search.specs.First.{firstAt}
 use Rattle.trim.specs.Trim.{startTrimmed}
@@ -100,7 +100,7 @@ returns-3 c =
     let found = colon .before .before .before .before in
     with-number keyValueNumbered
     (c .leading-number .ensures
-    ∙ ap (λ (t : List ℕ). ofDigits (takeWhile digit t)) (c .before .trim-start .ensures .text ∙ ap startTrimmed (rest (vector found) (colon .colon .given .0 .0 + 1)))
+    ∙ ap (λ (t : List ℕ). ofDigits (takeWhile digit t)) (c .before .trim-start .ensures .text ∙ ap startTrimmed (take-length-drop (vector found) (colon .colon .given .0 .0 + 1)))
     ∙ sym (number-behind (vector found) (key found) _ (key-at found) _ (colon-at colon)))
 
 pub json-u64-for-key-spec : {M : Type 1} → statement M
