@@ -47,7 +47,8 @@ impl AssemblyAnswer {
 // expression, at the start of `out`. It refuses with the first of document 01's 1 to 26 that applies, and then leaves `out` unchanged;
 // a success leaves unchanged what lies behind the text.
 pub fn assemble(contract: &[u8], vector: &[u8], stem: &[u8], out: &mut [u8]) -> AssemblyAnswer
-    ensures { λ r. ⌜ Assembles (assembled (now (contract .entry)) (now (vector .entry)) (now (stem .entry)) (length (now (out .entry)))) (now (out .entry)) (now (out .exit)) r ⌝ }
+    ensures { λ r. ⌜ Assembles (assembled (now (contract .entry)) (now (vector .entry)) (now (stem .entry))
+        (length (now (out .entry)))) (now (out .entry)) (now (out .exit)) r ⌝ }
 {
     let assembly = check_contract(contract, vector);
     let state = assembly.state;

@@ -9,7 +9,7 @@ use contract::state::LastReturned;
 use emission::emit;
 use writer::put_bytes;
 
-// `assemble` calls it where `checked` accepts the contract and the stem fits (25).
+// `assemble` calls it where `check_contract` accepts the contract and the stem fits (25).
 pub fn write_output(
     contract: &[u8],
     stem: &[u8],

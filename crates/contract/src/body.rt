@@ -33,8 +33,8 @@ pub enum CheckedExpression {
     Refused(AssembleError),
 }
 
-// The lines from start to end of the contract. `read_places` calls it with the offsets that `find_function` found in a contract of at most
-// 65,536 bytes, and with a state that is not refused.
+// The lines from start to end of the contract. `read_parameters_and_body` calls it with the offsets that `find_function` found in a
+// contract of at most 65,536 bytes, and with a state that is not refused.
 pub fn read_body(contract: &[u8], start: usize, end: usize, a: TableState) -> TableState
     requires { ⌜ Within (now contract) start end × NotRefused (take start (now contract)) a ⌝ }
     ensures { λ r. ⌜ SimulatesStep (take start (now (contract .entry))) a

@@ -29,8 +29,8 @@ pub enum KeyNumber {
     Refused(AssembleError),
 }
 
-// The parameters from start to end of the contract. `read_places` calls it with the places that `find_function` found in a contract of at
-// most 65,536 bytes.
+// The parameters from start to end of the contract. `read_parameters_and_body` calls it with the offsets that `find_function` found in a
+// contract of at most 65,536 bytes.
 pub fn bind_parameters(
     contract: &[u8],
     vector: &[u8],

@@ -24,8 +24,8 @@ use waiting::pop;
 use writer::put_push;
 
 // Writes the expression from start to end of the text at an offset of the output, where there is room for it. Its names mean the first
-// count bindings. Returns the offset behind it. Assembly calls it with the last return of a contract that it accepts, whose expressions were
-// all parsed, and only where the output's length, added up in parsing, fits (26).
+// count bindings. Returns the offset behind it. Assembly calls it with the last return of a contract that it accepts, whose expressions
+// were all parsed, and only where the output's length, added up in parsing, fits (26).
 pub fn emit(
     text: &[u8],
     start: usize,

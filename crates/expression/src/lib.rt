@@ -83,10 +83,10 @@ pub enum ParseResult {
 // So many parentheses may be open at once.
 pub const DEPTH: usize = 64;
 
-// What the expression starting at an offset of the text means, and that it is read up to the end of the text's last token. Its names are those
-// of the first bindings, of a count above 256 the first 256. What is free: the answer where they tell no environment (a name that isn't inside
-// the text, figures of no tree). The assembler calls it with a part of a contract that has at most 65,536 bytes (1), and its table tells the
-// environment that it has read.
+// What the expression starting at an offset of the text means, and that it is read up to the end of the text's last token. Its names are
+// those of the first bindings, of a count above 256 the first 256. What is free: the answer where they tell no environment (a name that
+// isn't inside the text, figures of no tree). The assembler calls it with a part of a contract that has at most 65,536 bytes (1), and its
+// table tells the environment that it has read.
 pub fn parse(text: &[u8], at: usize, table: Bindings, values: Values) -> ParseResult
     requires { ⌜ length (now text) ≤ 65536 ⌝ }
     ensures { λ r. ⌜ Answers (now (text .entry)) at (columns table values) r ⌝ }
@@ -130,7 +130,8 @@ fn expression<'a>(
     sizes: &'a [u32; 256],
 ) -> ParseResult
     requires { ⌜ CanParse (now text) count ⌝ }
-    ensures { λ r. ⌜ ParsesAs (now (text .entry)) at (columnsOf count (now (names .entry)) (now (lens .entry)) (now (tags .entry)) (now (ks .entry)) (now (ps .entry)) (now (values .entry)) (now (nones .entry)) (now (sizes .entry))) expression room r ⌝ }
+    ensures { λ r. ⌜ ParsesAs (now (text .entry)) at (columnsOf count (now (names .entry)) (now (lens .entry)) (now (tags .entry))
+        (now (ks .entry)) (now (ps .entry)) (now (values .entry)) (now (nones .entry)) (now (sizes .entry))) expression room r ⌝ }
 {
     match term(
         text,
@@ -195,7 +196,8 @@ fn term<'a>(
     sizes: &'a [u32; 256],
 ) -> ParseResult
     requires { ⌜ CanParse (now text) count ⌝ }
-    ensures { λ r. ⌜ ParsesAs (now (text .entry)) at (columnsOf count (now (names .entry)) (now (lens .entry)) (now (tags .entry)) (now (ks .entry)) (now (ps .entry)) (now (values .entry)) (now (nones .entry)) (now (sizes .entry))) term room r ⌝ }
+    ensures { λ r. ⌜ ParsesAs (now (text .entry)) at (columnsOf count (now (names .entry)) (now (lens .entry)) (now (tags .entry))
+        (now (ks .entry)) (now (ps .entry)) (now (values .entry)) (now (nones .entry)) (now (sizes .entry))) term room r ⌝ }
 {
     match factor(
         text,
@@ -260,7 +262,8 @@ fn factor<'a>(
     sizes: &'a [u32; 256],
 ) -> ParseResult
     requires { ⌜ CanParse (now text) count ⌝ }
-    ensures { λ r. ⌜ ParsesAs (now (text .entry)) at (columnsOf count (now (names .entry)) (now (lens .entry)) (now (tags .entry)) (now (ks .entry)) (now (ps .entry)) (now (values .entry)) (now (nones .entry)) (now (sizes .entry))) factor room r ⌝ }
+    ensures { λ r. ⌜ ParsesAs (now (text .entry)) at (columnsOf count (now (names .entry)) (now (lens .entry)) (now (tags .entry))
+        (now (ks .entry)) (now (ps .entry)) (now (values .entry)) (now (nones .entry)) (now (sizes .entry))) factor room r ⌝ }
 {
     let token = token_at(text, at);
     let start = token.start;

@@ -26,7 +26,8 @@ pub fn lookup<'a>(
     tags: &'a [u8; 256],
 ) -> BoundName
     requires { ⌜ (count ≤ 256) × (start + len ≤ length (now text)) ⌝ }
-    ensures { λ r. ⌜ r ≡ found count (now (text .entry)) (now (names .entry)) (now (lens .entry)) (now (tags .entry)) (take len (drop start (now (text .entry)))) ⌝ }
+    ensures { λ r. ⌜ r ≡ found count (now (text .entry)) (now (names .entry)) (now (lens .entry)) (now (tags .entry))
+        (take len (drop start (now (text .entry)))) ⌝ }
 {
     let tag = tag_of(text, start, len);
     let mut left = count;
@@ -101,7 +102,8 @@ fn is_called<'a>(
     tags: &'a [u8; 256],
 ) -> bool
     requires { ⌜ (i < 256) × ((start + len ≤ length (now text)) × (tag ≡ tagOf (take len (drop start (now text))))) ⌝ }
-    ensures { λ r. ⌜ r ≡ hasName (now (text .entry)) (now (names .entry)) (now (lens .entry)) (now (tags .entry)) i (take len (drop start (now (text .entry)))) ⌝ }
+    ensures { λ r. ⌜ r ≡ hasName (now (text .entry)) (now (names .entry)) (now (lens .entry)) (now (tags .entry)) i
+        (take len (drop start (now (text .entry)))) ⌝ }
 {
     if tags[i] != tag {
         return false;
@@ -114,7 +116,8 @@ fn is_called<'a>(
 // Whether the size bytes from name on stand in the text and are the len bytes from start on.
 fn is_name(text: &[u8], start: usize, len: usize, name: usize, size: usize) -> bool
     requires { ⌜ (start + len ≤ length (now text)) × ((name < 65536) × (size < 65536)) ⌝ }
-    ensures { λ r. ⌜ r ≡ (leb (name + size) (length (now (text .entry))) && equal (take len (drop start (now (text .entry)))) (take size (drop name (now (text .entry))))) ⌝ }
+    ensures { λ r. ⌜ r ≡ (leb (name + size) (length (now (text .entry))) && equal (take len (drop start (now (text .entry))))
+        (take size (drop name (now (text .entry))))) ⌝ }
 {
     if name + size > text.len() {
         return false;

@@ -56,7 +56,10 @@ pub fn name<'a>(
 ) -> ParseResult
     requires { ⌜ (count ≤ 256) × ((start < end) × (end ≤ length (now text))) ⌝ }
     ensures fits { λ r. ⌜ AllFit r ⌝ }
-    ensures same { λ r. ⌜ r ≡ nameRead (columnsOf count (now (names .entry)) (now (lens .entry)) (now (tags .entry)) (now (ks .entry)) (now (ps .entry)) (now (values .entry)) (now (nones .entry)) (now (sizes .entry))) end (found count (now (text .entry)) (now (names .entry)) (now (lens .entry)) (now (tags .entry)) (take (end - start) (drop start (now (text .entry))))) ⌝ }
+    ensures same { λ r. ⌜ r ≡ nameRead (columnsOf count (now (names .entry)) (now (lens .entry)) (now (tags .entry)) (now (ks .entry))
+        (now (ps .entry)) (now (values .entry)) (now (nones .entry)) (now (sizes .entry))) end
+        (found count (now (text .entry)) (now (names .entry)) (now (lens .entry)) (now (tags .entry))
+        (take (end - start) (drop start (now (text .entry))))) ⌝ }
 {
     match lookup(text, start, end - start, count, names, lens, tags) {
         BoundName::Nothing => ParseResult::Refused(ExprError::UnknownIdentifier),
@@ -76,7 +79,8 @@ fn bound<'a>(
 ) -> Figures
     requires { ⌜ i < 256 ⌝ }
     ensures fits { λ r. ⌜ Fits r ⌝ }
-    ensures same { λ r. ⌜ r ≡ boundRead (entryAt (columnsOf 256 [] [] [] (now (ks .entry)) (now (ps .entry)) (now (values .entry)) (now (nones .entry)) (now (sizes .entry))) i) end ⌝ }
+    ensures same { λ r. ⌜ r ≡ boundRead (entryAt (columnsOf 256 [] [] [] (now (ks .entry)) (now (ps .entry)) (now (values .entry))
+        (now (nones .entry)) (now (sizes .entry))) i) end ⌝ }
 {
     Figures {
         next: end,
@@ -111,7 +115,8 @@ fn wide_len(x: u32) -> u64
 
 // The ) that is due behind an expression in parentheses.
 pub fn close(text: &[u8], inner: Figures) -> ParseResult
-    ensures { λ r. ⌜ r ≡ closedRead (tokens (drop (inner .next) (now (text .entry)))) (tokenAt (now (text .entry)) (inner .next) .end) inner ⌝ }
+    ensures { λ r. ⌜ r ≡ closedRead (tokens (drop (inner .next) (now (text .entry)))) (tokenAt (now (text .entry)) (inner .next) .end)
+        inner ⌝ }
 {
     let token = token_at(text, inner.next);
     let start = token.start;

@@ -127,7 +127,8 @@ pub fn jump_if_not_zero(stack: &[u64], r: Regs, t: u64) -> Regs
 pub fn load(stack: &mut [u64], work: &[u64], r: Regs, slot: u64) -> Regs
     requires { ⌜ CanStep r (length (now stack)) ⌝ }
     requires { ⌜ r .used ≤ length (now work) ⌝ }
-    ensures { λ q. ⌜ RefinesEffect (r .pos + 1) (loadOf slot) r q (now (stack .entry)) (now (work .entry)) (now (stack .exit)) (now (work .entry)) ⌝ }
+    ensures { λ q. ⌜ RefinesEffect (r .pos + 1) (loadOf slot) r q (now (stack .entry)) (now (work .entry)) (now (stack .exit))
+        (now (work .entry)) ⌝ }
 {
     let at = slot as usize;
     let end = r.used;
@@ -140,7 +141,8 @@ pub fn load(stack: &mut [u64], work: &[u64], r: Regs, slot: u64) -> Regs
 pub fn store(stack: &[u64], work: &mut [u64], r: Regs, slot: u64) -> Regs
     requires { ⌜ CanStep r (length (now stack)) ⌝ }
     requires { ⌜ r .used ≤ length (now work) ⌝ }
-    ensures { λ q. ⌜ RefinesEffect (r .pos + 1) (storeOf (length (now (work .entry))) slot) r q (now (stack .entry)) (now (work .entry)) (now (stack .entry)) (now (work .exit)) ⌝ }
+    ensures { λ q. ⌜ RefinesEffect (r .pos + 1) (storeOf (length (now (work .entry))) slot) r q (now (stack .entry))
+        (now (work .entry)) (now (stack .entry)) (now (work .exit)) ⌝ }
 {
     let n = r.items;
     if n < 1 {

@@ -22,7 +22,8 @@ pub fn run(
 ) -> Regs
     requires { ⌜ length (now kinds) ≡ length (now operands) ⌝ }
     requires { ⌜ Running from (length (now stack)) (length (now work)) ⌝ }
-    ensures { λ q. ⌜ RefinesRun (decode (now (kinds .entry)) (now (operands .entry))) caller from q (now (stack .entry)) (now (work .entry)) (now (stack .exit)) (now (work .exit)) ⌝ }
+    ensures { λ q. ⌜ RefinesRun (decode (now (kinds .entry)) (now (operands .entry))) caller from q (now (stack .entry))
+        (now (work .entry)) (now (stack .exit)) (now (work .exit)) ⌝ }
 {
     let mut r = from;
     while r.pos < kinds.len() {

@@ -18,7 +18,8 @@ fn step_of(
 ) -> Regs
     requires { ⌜ Running r (length (now stack)) (length (now work)) ⌝ }
     requires { ⌜ r .pos < 2 ^ 63 ⌝ }
-    ensures { λ q. ⌜ RefinesStep caller (operation kind operand) r q (now (stack .entry)) (now (work .entry)) (now (stack .exit)) (now (work .exit)) ⌝ }
+    ensures { λ q. ⌜ RefinesStep caller (operation kind operand) r q (now (stack .entry)) (now (work .entry)) (now (stack .exit))
+        (now (work .exit)) ⌝ }
 {
     let p = price::gas_cost(kind);
     let g = r.gas;
@@ -57,7 +58,8 @@ pub fn step(
 ) -> Regs
     requires { ⌜ Running r (length (now stack)) (length (now work)) ⌝ }
     requires { ⌜ r .pos < 2 ^ 63 ⌝ }
-    ensures { λ q. ⌜ RefinesStep caller (operation kind operand) r q (now (stack .entry)) (now (work .entry)) (now (stack .exit)) (now (work .exit)) ⌝ }
+    ensures { λ q. ⌜ RefinesStep caller (operation kind operand) r q (now (stack .entry)) (now (work .entry)) (now (stack .exit))
+        (now (work .exit)) ⌝ }
 {
     if kind < 3 {
         if kind < 1 {

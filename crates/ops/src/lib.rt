@@ -94,7 +94,8 @@ impl ParsedOps {
 // line by line, and then leaves both buffers unchanged; a success leaves unchanged what lies behind the operations. The text is read
 // twice: first for the answer, then, unless that is a refusal, to write.
 pub fn parse_ops(text: &[u8], kinds: &mut [u8], operands: &mut [u64]) -> ParsedOps
-    ensures { λ r. ⌜ ReadsOps (now (text .entry)) (now (kinds .entry)) (now (operands .entry)) (now (kinds .exit)) (now (operands .exit)) r ⌝ }
+    ensures { λ r. ⌜ ReadsOps (now (text .entry)) (now (kinds .entry)) (now (operands .entry)) (now (kinds .exit))
+        (now (operands .exit)) r ⌝ }
 {
     if !utf8::is_utf8(text) {
         return ParsedOps::Refused(OpsError::NotUtf8);
@@ -148,7 +149,8 @@ pub fn nth_line(text: &[u8], line: usize) -> Step
 // One pass over a text that is UTF-8. It gives the answer, and writes the operations only where it is told to.
 fn pass(text: &[u8], kinds: &mut [u8], operands: &mut [u64], writing: bool) -> ParsedOps
     requires { ⌜ (writing ≡ true → NoneRefused fromStr (now text) (now kinds) (now operands)) ⌝ }
-    ensures { λ r. ⌜ PassOver fromStr (now (text .entry)) (now (kinds .entry)) (now (operands .entry)) (now (kinds .exit)) (now (operands .exit)) writing r ⌝ }
+    ensures { λ r. ⌜ PassOver fromStr (now (text .entry)) (now (kinds .entry)) (now (operands .entry)) (now (kinds .exit))
+        (now (operands .exit)) writing r ⌝ }
 {
     let room = min(kinds.len(), operands.len());
     let mut at: usize = 0;

@@ -17,7 +17,8 @@ pub enum Plain {
     Other,
 }
 
-// The operation at an offset, if a word, or a word, a space and digits stand there. `operation_line_at` calls it behind White_Space of the text.
+// The operation at an offset, if a word, or a word, a space and digits stand there. `operation_line_at` calls it behind White_Space of
+// the text.
 pub fn plain_at(text: &[u8], at: usize) -> Plain
     requires { ⌜ at ≤ length (now text) ⌝ }
     ensures { λ r. ⌜ PlainRead (now (text .entry)) at r ⌝ }

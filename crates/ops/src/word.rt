@@ -1,4 +1,5 @@
-// Whether one, two or four bytes stand at an offset of a text. The callers' offsets lie few bytes behind one in the text, so sums fit a word.
+// Whether one, two or four bytes stand at an offset of a text. The callers' offsets lie few bytes behind one in the text, so sums fit a
+// word.
 use base::both;
 ghost use mathlib.Core.Path.{_≡_};
 ghost use mathlib.Core.List.{[], _∷_};

@@ -1,4 +1,4 @@
--- `contract::check::checked` meets its contract: the refusals 1 to 24 in their order.
+-- `contract::check::check_contract` meets its contract: the refusals 1 to 24 in their order.
 -- Assumes nothing.
 use Prim.Native.Nat.{ℕ}
 use mathlib.Core.Path.{sym, ap, subst, _∙_}

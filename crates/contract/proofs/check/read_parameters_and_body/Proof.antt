@@ -1,4 +1,4 @@
--- `contract::check::read_places` meets its contract: the body follows the parameters, unless one is refused.
+-- `contract::check::read_parameters_and_body` meets its contract: the body follows the parameters, unless one is refused.
 -- Assumes nothing.
 use mathlib.Core.Path.{sym, _∙_}
 use denote.Ref.{now}

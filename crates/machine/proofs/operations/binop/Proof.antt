@@ -1,4 +1,4 @@
--- `operations::two` meets its contract: too few items, a divisor of 0, and the value in the place of two items.
+-- `operations::binop` meets its contract: too few items, a divisor of 0, and the value in the place of two items.
 use Prim.Native.Nat.{ℕ, _-_, _≤_}
 use mathlib.Core.Path.{refl}
 use mathlib.Core.Logic.{⊎-elim}

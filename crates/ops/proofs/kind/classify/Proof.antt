@@ -1,4 +1,4 @@
--- `kind::part` meets its contract: the table of kinds by the first byte.
+-- `kind::classify` meets its contract: the table of kinds by the first byte.
 -- Assumes nothing.
 use Prim.Native.Nat.{ℕ}
 use mathlib.Core.Path.{_≡_, sym}

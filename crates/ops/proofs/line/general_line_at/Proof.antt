@@ -1,4 +1,4 @@
--- `line::any_line_at` meets its contract: by whether a line starts there.
+-- `line::general_line_at` meets its contract: by whether a line starts there.
 -- Assumes nothing.
 use mathlib.Core.Path.{sym, _∙_}
 use native.Mathlib.Nat.{le-trans}
