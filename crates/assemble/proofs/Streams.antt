@@ -9,8 +9,8 @@ use lib.ListN.{length, getD, take, drop, length-append}
 use lib.Seq.{take-at}
 use Rattle.numbered.specs.declared.Numbered.{Numbered}
 use Rattle.numbered.specs.Numbered.{carrying}
-use Rattle.contract.specs.declared.refusal.AssembleError.{AssembleError}
-use Rattle.contract.specs.Numbers.{assembleErrorNumbered}
+use Rattle.scope.specs.declared.refusal.AssembleError.{AssembleError}
+use Rattle.scope.specs.Numbers.{assembleErrorNumbered}
 use Rattle.contract.specs.Output.{Assembly, assembled}
 use Rattle.contract.proofs.Answers.{tells, never-0, no-text}
 use Rattle.assembler.specs.declared.AssemblyAnswer.{AssemblyAnswer}

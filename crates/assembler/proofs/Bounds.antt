@@ -9,7 +9,7 @@ use lib.Dec.{leb}
 use lib.ListN.{length}
 use Rattle.base.proofs.Tests.{by-bool}
 use Rattle.decimal.proofs.Laws.{length-word}
-use Rattle.expression.specs.Tree.{Tree}
+use Rattle.grammar.specs.Tree.{Tree}
 use Rattle.contract.specs.Assembled.{assembledTree}
 use Rattle.contract.specs.Output.{Assembly, stemFits, output, assembled}
 use Rattle.numbered.specs.declared.Numbered.{Numbered}

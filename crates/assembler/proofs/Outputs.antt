@@ -11,30 +11,30 @@ use Rattle.base.proofs.Parts.{take-drop-slice}
 use Rattle.decimal.specs.Decimal.{decimal}
 use Rattle.base.specs.Ascii.{ascii}
 use Rattle.base.specs.Overwrite.{overwrite}
-use Rattle.expression.specs.Tree.{Tree}
-use Rattle.expression.specs.Code.Lengths.{lenOf}
-use Rattle.expression.specs.Parse.{meaning}
-use Rattle.expression.specs.Code.Source.{sources, treeOr0, envOf}
-use Rattle.expression.specs.Written.{treeOps}
-use Rattle.expression.specs.Code.Texts.{textOf}
-use Rattle.expression.proofs.Written.{written-append, text-length}
+use Rattle.grammar.specs.Tree.{Tree}
+use Rattle.grammar.specs.Code.Lengths.{lenOf}
+use Rattle.grammar.specs.Parse.{meaning}
+use Rattle.bindings.specs.Code.Source.{sources, treeOr0, envOf}
+use Rattle.grammar.specs.Written.{treeOps}
+use Rattle.grammar.specs.Code.Texts.{textOf}
+use Rattle.grammar.proofs.Written.{written-append, text-length}
 use Rattle.writer.specs.Code.Overwrites.{Overwrites}
 use Rattle.writer.proofs.Pieces.{overwrites-then}
 use Rattle.emission.specs.Code.Emitted.{treeBetween, MeansTree}
-use Rattle.contract.specs.declared.check.CheckedContract as Code
-use Rattle.contract.specs.declared.state.LastReturned.{LastReturned}
-use Rattle.contract.specs.declared.state.LastReturned.the-variants.{Is, Nothing}
-use Rattle.contract.specs.declared.state.Returned.{Returned}
-use Rattle.contract.specs.declared.state.Status.{Status}
-use Rattle.contract.specs.declared.state.Status.the-variants as Status
-use Rattle.contract.specs.declared.state.Status.the-variants.{Going}
-use Rattle.contract.specs.declared.refusal.AssembleError.{AssembleError}
-use Rattle.contract.specs.declared.refusal.AssembleError.the-variants.{BadStem, OutputTooLong}
-use Rattle.contract.specs.Part.{part}
+use Rattle.contract.specs.declared.CheckedContract as Code
+use Rattle.scope.specs.declared.state.LastReturned.{LastReturned}
+use Rattle.scope.specs.declared.state.LastReturned.the-variants.{Is, Nothing}
+use Rattle.scope.specs.declared.state.Returned.{Returned}
+use Rattle.scope.specs.declared.state.Status.{Status}
+use Rattle.scope.specs.declared.state.Status.the-variants as Status
+use Rattle.scope.specs.declared.state.Status.the-variants.{Going}
+use Rattle.scope.specs.declared.refusal.AssembleError.{AssembleError}
+use Rattle.scope.specs.declared.refusal.AssembleError.the-variants.{BadStem, OutputTooLong}
+use Rattle.scope.specs.Part.{part}
 use Rattle.contract.specs.Assembled.{assembledTree}
 use Rattle.numbered.specs.declared.Numbered.{Numbered}
 use Rattle.base.specs.Outcome.{Outcome, is}
-use Rattle.contract.specs.Code.Held.{LastIs, ReturnIs}
+use Rattle.scope.specs.Code.Held.{LastIs, ReturnIs}
 use Rattle.contract.specs.Code.Concluded.{Accepts, ConcludesBy, Concludes}
 use Rattle.contract.specs.Output.{stemFits, header, output, withStem, assembled}
 use Rattle.assembler.specs.declared.AssemblyAnswer.{AssemblyAnswer}

@@ -5,7 +5,7 @@ use mathlib.Core.List.{List, [], _∷_}
 use Rattle.numbered.specs.declared.Numbered.{Numbered}
 use Rattle.numbered.specs.Numbered.{carrying}
 use Rattle.base.specs.Overwrite.{overwrite}
-use Rattle.contract.specs.Numbers.{assembleErrorNumbered}
+use Rattle.scope.specs.Numbers.{assembleErrorNumbered}
 use Rattle.contract.specs.Output.{Assembly}
 use Rattle.assembler.specs.declared.AssemblyAnswer.{AssemblyAnswer}
 use Rattle.assembler.specs.declared.AssemblyAnswer.the-variants.{Success, Refused}

@@ -8,12 +8,12 @@ mod header;
 mod output;
 mod stem;
 
-use contract::check::check_contract;
-use contract::refusal::AssembleError;
-use contract::state::Status;
+use contract::check_contract;
 use numbered::Numbered;
 use numbered::carrying_four;
 use output::write_output;
+use scope::refusal::AssembleError;
+use scope::state::Status;
 use stem::stem_fits;
 
 // A success has the bytes written, k, p and the value.

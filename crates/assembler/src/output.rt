@@ -3,10 +3,10 @@ ghost use Rattle.assembler.specs.Code.Ready.{Ready, Writes};
 use crate::AssemblyAnswer;
 use crate::header::header_len;
 use crate::header::put_header;
-use contract::check::CheckedContract;
-use contract::refusal::AssembleError;
-use contract::state::LastReturned;
+use contract::CheckedContract;
 use emission::emit;
+use scope::refusal::AssembleError;
+use scope::state::LastReturned;
 use writer::put_bytes;
 
 // `assemble` calls it where `check_contract` accepts the contract and the stem fits (25).

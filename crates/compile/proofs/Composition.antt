@@ -11,12 +11,12 @@ use Rattle.numbered.specs.Numbered.{carrying}
 use Rattle.base.specs.Overwrite.{overwrite}
 use Rattle.ops.specs.Ops.{Reading, answerOf, opsOf, kindsOf, operandsOf, ReadsOps}
 use Rattle.base.specs.Outcome.{is, refused}
-use Rattle.ops.specs.declared.OpsError.{OpsError}
+use Rattle.operation.specs.declared.OpsError.{OpsError}
 use Rattle.ops.specs.declared.ParsedOps.{ParsedOps}
 use Rattle.ops.specs.declared.ParsedOps.the-variants as parsed
 use Rattle.perform.specs.declared.RunAnswer.{RunAnswer}
 use Rattle.perform.specs.Run.{Meets}
-use Rattle.contract.specs.declared.refusal.AssembleError.{AssembleError}
+use Rattle.scope.specs.declared.refusal.AssembleError.{AssembleError}
 use Rattle.contract.proofs.Answers.{tells, never-0, no-text}
 use Rattle.assembler.specs.declared.AssemblyAnswer as assembly
 use Rattle.assembler.specs.declared.AssemblyAnswer.the-variants.{Success, Refused}

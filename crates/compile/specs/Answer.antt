@@ -3,9 +3,9 @@ use Prim.Native.Nat.{ℕ}
 use mathlib.Core.List.{[], _∷_}
 use Rattle.numbered.specs.declared.Numbered.{Numbered}
 use Rattle.numbered.specs.Numbered.{carrying}
-use Rattle.ops.specs.declared.OpsError.{OpsError}
+use Rattle.operation.specs.declared.OpsError.{OpsError}
 use Rattle.perform.specs.declared.RunAnswer as perform
-use Rattle.contract.specs.Numbers.{assembleErrorNumbered}
+use Rattle.scope.specs.Numbers.{assembleErrorNumbered}
 use Rattle.compile.specs.declared.Compiled.{Compiled}
 use Rattle.compile.specs.declared.Compiled.the-variants.{NotAssembled, NotRead, Ran}
 

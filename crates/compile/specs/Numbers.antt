@@ -1,6 +1,6 @@
 -- Document 01's number of each answer, with the values that it carries: those of the call that ends it.
 use Rattle.numbered.specs.declared.Numbered.{Numbered}
-use Rattle.ops.specs.Numbers.{opsErrorNumbered}
+use Rattle.operation.specs.Errors.{opsErrorNumbered}
 use Rattle.perform.specs.Numbers.{runAnswerNumbered}
 use Rattle.compile.specs.declared.Compiled.{Compiled}
 use Rattle.compile.specs.Answer.{CompileAnswer, notAssembled, notRead, ran, compileAnswerOf}

@@ -3,12 +3,12 @@ ghost use mathlib.Core.Path.{_≡_};
 ghost use Rattle.context.specs.Gate.{gateOf};
 ghost use Rattle.compile.specs.Numbers.{compiledNumbered};
 ghost use Rattle.compile.specs.Delivery.{Delivers};
-use contract::refusal::AssembleError;
 use numbered::Numbered;
-use ops::OpsError;
+use operation::OpsError;
 use ops::ParsedOps;
 use perform::RunAnswer;
 use perform::State;
+use scope::refusal::AssembleError;
 
 // A refusal of assembly or reading ends the call. Otherwise: what assembly and reading gave, and the transition's answer.
 pub enum Compiled {

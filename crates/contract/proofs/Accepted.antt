@@ -33,17 +33,18 @@ use Rattle.source.specs.declared.function.FunctionError.{FunctionError}
 use Rattle.source.specs.declared.function.FunctionError.the-variants.{NoFunction, NoParameters, UnclosedParameters, NoBody, UnclosedBody}
 use Rattle.source.specs.Function.{functionOf, functionErrorNumbered}
 use Rattle.source.specs.Parameters.{parameters}
-use Rattle.source.specs.Vector.{quoted, ofDigits, vectorNumber, keyErrorNumbered}
-use Rattle.expression.specs.Tree.{Tree, num, valueOf, kOf}
-use Rattle.expression.specs.Parse.{meaning}
-use Rattle.contract.specs.Part.{part}
+use Rattle.key.specs.Key.{quoted}
+use Rattle.source.specs.Vector.{ofDigits, vectorNumber, keyErrorNumbered}
+use Rattle.grammar.specs.Tree.{Tree, num, valueOf, kOf}
+use Rattle.grammar.specs.Parse.{meaning}
+use Rattle.scope.specs.Part.{part}
 use Rattle.numbered.specs.declared.Numbered.{Numbered}
 use Rattle.numbered.specs.Numbered.{plain}
-use Rattle.contract.specs.Scope.{Scope, started, bound, each}
+use Rattle.scope.specs.Scope.{Scope, started, bound, each}
 use Rattle.base.specs.Outcome.{Outcome, is, refused, andThen}
-use Rattle.contract.specs.Statement.{Statement, skipped, noEquals, binds, returns, statement}
-use Rattle.contract.specs.Body.{treeOr, statementRead, lineRead}
-use Rattle.contract.specs.Parameters.{keyed, parameterBound}
+use Rattle.body.specs.Statement.{Statement, skipped, noEquals, binds, returns, statement}
+use Rattle.body.specs.Body.{treeOr, statementRead, lineRead}
+use Rattle.scope.specs.Parameters.{keyed, parameterBound}
 use Rattle.contract.specs.Assembled.{readable, bodyRead, compared, returned, functionRead, placesOf, assembledTree}
 use Rattle.contract.specs.Code.Concluded.{concluded}
 use Rattle.contract.proofs.Words.{Words, WordsIn, meaning-words}

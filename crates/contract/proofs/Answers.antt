@@ -14,10 +14,10 @@ use Rattle.numbered.proofs.Told.{word-told}
 use Rattle.source.specs.declared.function.FunctionError.the-variants.{NoFunction, NoParameters, UnclosedParameters, NoBody, UnclosedBody}
 use Rattle.source.specs.declared.vector.KeyError.the-variants.{NoKey, NoColon, NoDigit, TooLarge}
 use Rattle.expression.specs.declared.ExprError.the-variants.{InvalidCharacter, UnexpectedEnd, UnbalancedParenthesis, InvalidLiteral, UnknownIdentifier, TooDeep, UnconsumedTokens}
-use Rattle.expression.specs.Tree.{Tree, kOf, pOf}
-use Rattle.contract.specs.declared.refusal.AssembleError.{AssembleError}
-use Rattle.contract.specs.declared.refusal.AssembleError.the-variants.{Contract, Vector, Function, Key, NoEquals, Expression, TooLong, TooManyBindings, NoReturn, NoValue, NotExpected, BadStem, OutputTooLong}
-use Rattle.contract.specs.Numbers.{assembleErrorNumbered}
+use Rattle.grammar.specs.Tree.{Tree, kOf, pOf}
+use Rattle.scope.specs.declared.refusal.AssembleError.{AssembleError}
+use Rattle.scope.specs.declared.refusal.AssembleError.the-variants.{Contract, Vector, Function, Key, NoEquals, Expression, TooLong, TooManyBindings, NoReturn, NoValue, NotExpected, BadStem, OutputTooLong}
+use Rattle.scope.specs.Numbers.{assembleErrorNumbered}
 use Rattle.contract.specs.Assembled.{assembledTree}
 use Rattle.contract.specs.Output.{Assembly, stemFits, output, nothing, writtenInto, withStem, assembled}
 use Rattle.contract.proofs.Accepted.{rejected-is}

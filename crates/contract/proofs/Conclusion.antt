@@ -16,36 +16,36 @@ use Rattle.source.specs.declared.function.Places.{Places}
 use Rattle.source.specs.Parameters.{parameters}
 use Rattle.source.proofs.Places.{Ordered, ordered}
 use Rattle.lines.specs.Lines.{lines}
-use Rattle.expression.specs.declared.figures.TreeValue.the-variants.{Is, None}
-use Rattle.expression.specs.Tree.{Tree, valueOf}
-use Rattle.expression.specs.Code.Figures.{optionOf}
-use Rattle.expression.specs.Code.Source.{sources}
-use Rattle.contract.specs.declared.check.CheckedContract.{CheckedContract}
-use Rattle.contract.specs.declared.refusal.AssembleError.{AssembleError}
-use Rattle.contract.specs.declared.refusal.AssembleError.the-variants.{NoReturn, NoValue, NotExpected}
-use Rattle.contract.specs.declared.state.Returned.{Returned}
-use Rattle.contract.specs.declared.state.LastReturned.{LastReturned}
-use Rattle.contract.specs.declared.state.LastReturned.the-variants as Last
-use Rattle.contract.specs.declared.state.Status.{Status}
-use Rattle.contract.specs.declared.state.Status.the-variants.{Going, Refused}
-use Rattle.contract.specs.declared.state.TableState as Code
-use Rattle.contract.specs.Part.{part}
+use Rattle.figures.specs.declared.TreeValue.the-variants.{Is, None}
+use Rattle.grammar.specs.Tree.{Tree, valueOf}
+use Rattle.figures.specs.Code.Figures.{optionOf}
+use Rattle.bindings.specs.Code.Source.{sources}
+use Rattle.contract.specs.declared.CheckedContract.{CheckedContract}
+use Rattle.scope.specs.declared.refusal.AssembleError.{AssembleError}
+use Rattle.scope.specs.declared.refusal.AssembleError.the-variants.{NoReturn, NoValue, NotExpected}
+use Rattle.scope.specs.declared.state.Returned.{Returned}
+use Rattle.scope.specs.declared.state.LastReturned.{LastReturned}
+use Rattle.scope.specs.declared.state.LastReturned.the-variants as Last
+use Rattle.scope.specs.declared.state.Status.{Status}
+use Rattle.scope.specs.declared.state.Status.the-variants.{Going, Refused}
+use Rattle.scope.specs.declared.state.TableState as Code
+use Rattle.scope.specs.Part.{part}
 use Rattle.numbered.specs.Numbered.{plain}
-use Rattle.contract.specs.Scope.{Scope, started, each}
+use Rattle.scope.specs.Scope.{Scope, started, each}
 use Rattle.numbered.specs.declared.Numbered.{Numbered}
 use Rattle.base.specs.Outcome.{Outcome, is, refused, andThen}
-use Rattle.contract.specs.Parameters.{parameterBound}
-use Rattle.contract.specs.Body.{lineRead}
-use Rattle.contract.specs.Numbers.{assembleErrorNumbered}
-use Rattle.contract.specs.Code.Stored.{noBindings, noValues, nothingYet}
-use Rattle.contract.specs.Code.LastReturn.{Place, Met, bodyMet, metOf, ReadsBody, Standing}
-use Rattle.contract.specs.Code.Held.{LastIs, Represents, NotRefused, Simulates, SimulatesStep, Within, isRefused}
+use Rattle.scope.specs.Parameters.{parameterBound}
+use Rattle.body.specs.Body.{lineRead}
+use Rattle.scope.specs.Numbers.{assembleErrorNumbered}
+use Rattle.scope.specs.Code.Stored.{noBindings, noValues, nothingYet}
+use Rattle.body.specs.Code.LastReturn.{Place, Met, bodyMet, metOf, ReadsBody, Standing}
+use Rattle.scope.specs.Code.Held.{LastIs, Represents, NotRefused, Simulates, SimulatesStep, Within, isRefused}
 use Rattle.contract.specs.Assembled.{readable, bodyRead, compared, returned, functionRead, placesOf, assembledTree}
 use Rattle.contract.specs.Code.Concluded.{BodyReached, rejectedFor, ConcludesBy, Concludes, concluded, ConcludesAll, Located}
-use Rattle.contract.proofs.Tables.{holds-length}
-use Rattle.contract.proofs.Sources.{env-none}
-use Rattle.contract.proofs.LastReturn.{all-made, no-place}
-use Rattle.contract.proofs.Simulation.{leads-off, by-leads, represents-later, leads-later}
+use Rattle.scope.proofs.Tables.{holds-length}
+use Rattle.scope.proofs.Sources.{env-none}
+use Rattle.body.proofs.LastReturn.{all-made, no-place}
+use Rattle.scope.proofs.Simulation.{leads-off, by-leads, represents-later, leads-later}
 
 -- an answer that is refused
 pub concludes-off : {s vector : List ℕ} {o : Outcome Numbered (ℕ × Tree)} {r : CheckedContract} {why : AssembleError} → r ≡ rejectedFor why → o ≡ refused (assembleErrorNumbered why) → Concludes s vector o r

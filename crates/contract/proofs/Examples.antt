@@ -6,16 +6,16 @@ use mathlib.Core.Option.{some}
 use lib.ListN.{replicate}
 use Rattle.word.specs.Apply.{add, mul}
 use Rattle.token.specs.Token.{scan}
-use Rattle.expression.specs.Tree.{Tree, num, bin, valueOf, kOf, pOf}
-use Rattle.expression.specs.Parse.{parseF, meaning}
+use Rattle.grammar.specs.Tree.{Tree, num, bin, valueOf, kOf, pOf}
+use Rattle.grammar.specs.Parse.{parseF, meaning}
 use Rattle.base.specs.Ascii.{ascii}
 use Rattle.numbered.specs.Numbered.{plain, carrying}
-use Rattle.contract.specs.Scope.{started, each}
+use Rattle.scope.specs.Scope.{started, each}
 use Rattle.base.specs.Outcome.{is, refused}
-use Rattle.contract.specs.Body.{lineRead}
+use Rattle.body.specs.Body.{lineRead}
 use Rattle.decimal.specs.Decimal.{decimal}
 use Rattle.contract.specs.Assembled.{assembledTree}
-use Rattle.contract.specs.Code.LastReturn.{linesMet, lastReturn}
+use Rattle.body.specs.Code.LastReturn.{linesMet, lastReturn}
 use Rattle.contract.specs.Output.{nothing, output, assembled}
 
 -- document 01's bench example

@@ -13,10 +13,10 @@ use Rattle.base.proofs.Tests.{by-bool}
 use Rattle.base.proofs.Outcome.{Either, then-either}
 use Rattle.decimal.specs.Decimal.{value, digit}
 use Rattle.token.specs.Token.{allowed, tokens}
-use Rattle.expression.specs.Tree.{Tree}
-use Rattle.expression.specs.Parse.{Env, lookup, Parse, symbol, expression, isOperatorAt, operator, joined, closed, nested, named, literal, atom, parseF, moreF, enough, parsed, allRead, meaning, depth}
-use Rattle.expression.proofs.Steps.{more-ends, more-joins, level-up, factor-opens, factor-atom}
-use Rattle.expression.proofs.Grammar.{meaning-whole, meaning-not-allowed}
+use Rattle.grammar.specs.Tree.{Tree}
+use Rattle.grammar.specs.Parse.{Env, lookup, Parse, symbol, expression, isOperatorAt, operator, joined, closed, nested, named, literal, atom, parseF, moreF, enough, parsed, allRead, meaning, depth}
+use Rattle.grammar.proofs.Steps.{more-ends, more-joins, level-up, factor-opens, factor-atom}
+use Rattle.grammar.proofs.Grammar.{meaning-whole, meaning-not-allowed}
 
 abbrev pub OfExpression : Numbered → Type 0
 OfExpression r = (13 ≤ r .number) × (r .number ≤ 19)

@@ -8,11 +8,11 @@ use native.Mathlib.Omega.{arith}
 use Rattle.base.specs.Outcome.{is}
 use Rattle.base.specs.Equal.{equal}
 use Rattle.decimal.proofs.Laws.{length-word}
-use Rattle.expression.specs.Tree.{Tree, num, bin, kOf}
-use Rattle.expression.specs.Code.Lengths.{lenOf}
-use Rattle.expression.specs.Parse.{Env, lookup, meaning}
-use Rattle.expression.specs.Grammar.{Derives, number, name, parentheses, alone, join}
-use Rattle.expression.proofs.Grammar.{grammar}
+use Rattle.grammar.specs.Tree.{Tree, num, bin, kOf}
+use Rattle.grammar.specs.Code.Lengths.{lenOf}
+use Rattle.grammar.specs.Parse.{Env, lookup, meaning}
+use Rattle.grammar.specs.Grammar.{Derives, number, name, parentheses, alone, join}
+use Rattle.grammar.proofs.Grammar.{grammar}
 use Rattle.expression.proofs.Reading.{line-most}
 
 abbrev pub Words : Tree → Type 0

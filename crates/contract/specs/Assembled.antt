@@ -15,14 +15,14 @@ use Rattle.source.specs.declared.function.Function.the-variants.{Found, Refused
 use Rattle.source.specs.Function.{functionOf, functionErrorNumbered}
 use Rattle.source.specs.Parameters.{parameters}
 use Rattle.source.specs.Vector.{vectorNumber}
-use Rattle.expression.specs.Tree.{Tree, valueOf}
-use Rattle.contract.specs.Part.{part}
+use Rattle.grammar.specs.Tree.{Tree, valueOf}
+use Rattle.scope.specs.Part.{part}
 use Rattle.numbered.specs.Numbered.{plain}
 use Rattle.numbered.specs.declared.Numbered.{Numbered}
 use Rattle.base.specs.Outcome.{Outcome, is, refused, andThen}
-use Rattle.contract.specs.Scope.{Scope, started, each}
-use Rattle.contract.specs.Parameters.{keyed, parameterBound}
-use Rattle.contract.specs.Body.{lineRead}
+use Rattle.scope.specs.Scope.{Scope, started, each}
+use Rattle.scope.specs.Parameters.{keyed, parameterBound}
+use Rattle.body.specs.Body.{lineRead}
 
 abbrev pub readable : List ℕ → Bool
 readable s = leb (length s) 65536 && utf8 s

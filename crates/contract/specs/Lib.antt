@@ -1,9 +1,3 @@
-pub mod Part
-pub mod Statement
-pub mod Scope
-pub mod Parameters
-pub mod Body
 pub mod Assembled
-pub mod Numbers
 pub mod Output
 pub mod Code

@@ -10,9 +10,9 @@ use Rattle.lines.specs.Lines.{feedFree}
 use Rattle.decimal.specs.Decimal.{decimal}
 use Rattle.base.specs.Ascii.{ascii}
 use Rattle.kinds.specs.Kinds.{Operation}
-use Rattle.ops.specs.Written.{writtenAll}
-use Rattle.expression.specs.Tree.{Tree, kOf, pOf}
-use Rattle.expression.specs.Written.{treeOps}
+use Rattle.operation.specs.Written.{writtenAll}
+use Rattle.grammar.specs.Tree.{Tree, kOf, pOf}
+use Rattle.grammar.specs.Written.{treeOps}
 use Rattle.numbered.specs.declared.Numbered.{Numbered}
 use Rattle.numbered.specs.Numbered.{plain, carrying}
 use Rattle.base.specs.Outcome.{Outcome, is, refused}

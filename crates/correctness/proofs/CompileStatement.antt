@@ -10,7 +10,7 @@ use Rattle.ops.specs.Ops.{Reading, readText, answerOf, opsOf, kindsOf, operands
 use Rattle.base.proofs.Overwrite.{overwrite-all}
 use Rattle.ops.specs.Numbers.{parsedOpsNumbered}
 use Rattle.checks.specs.Verify.{buffersFit}
-use Rattle.expression.specs.Tree.{kOf}
+use Rattle.grammar.specs.Tree.{kOf}
 use Rattle.numbered.specs.Numbered.{carrying}
 use Rattle.contract.specs.Output.{operationsOf}
 use Rattle.base.specs.Outcome.{Outcome, is, refused}

@@ -8,7 +8,7 @@ use mathlib.Core.Option.{some}
 use lib.ListN.{take}
 use Rattle.kinds.specs.Kinds.{Operation}
 use Rattle.machine.specs.Machine.{Fault, outOfGas, stackLimitExceeded, done, stop, runToEnd}
-use Rattle.expression.specs.Tree.{Tree, valueOf, pOf}
+use Rattle.grammar.specs.Tree.{Tree, valueOf, pOf}
 use Rattle.contract.specs.Output.{operationsOf}
 use Rattle.correctness.specs.Counting.{price, cost, opAt, costBefore, FirstUnpaid, PushWhenFull, FirstFull}
 use Rattle.correctness.specs.Statement.{gasOf}

@@ -21,9 +21,9 @@ use Rattle.perform.specs.declared.RunAnswer.the-variants.{Success}
 use Rattle.perform.specs.Numbers.{runAnswerNumbered}
 use Rattle.perform.specs.Call.{Call}
 use Rattle.perform.specs.Run.{ofRun}
-use Rattle.expression.specs.Tree.{Tree, num, bin, valueOf, kOf, pOf}
-use Rattle.expression.specs.Parse.{parseF, meaning}
-use Rattle.contract.specs.Scope.{each}
+use Rattle.grammar.specs.Tree.{Tree, num, bin, valueOf, kOf, pOf}
+use Rattle.grammar.specs.Parse.{parseF, meaning}
+use Rattle.scope.specs.Scope.{each}
 use Rattle.contract.specs.Assembled.{assembledTree}
 use Rattle.contract.specs.Output.{operationsOf, output, assembled}
 use Rattle.correctness.specs.Call.{Compilation, readingOf, transitionOn}

@@ -7,14 +7,14 @@ use lib.ListN.{length, length-append}
 use Rattle.word.specs.Apply.{Binary, add, sub, mul, div, eq, lt}
 use Rattle.kinds.specs.Kinds.{Operation, operation}
 use Rattle.ops.specs.Ops.{kindsOf, operandsOf}
-use Rattle.ops.specs.Written.{cleared, IsOperation, Each, none, one}
+use Rattle.operation.specs.Written.{cleared, IsOperation, Each, none, one}
 use Rattle.machine.specs.Machine.{halt, decode}
 use Rattle.checks.specs.declared.Check.the-variants.{Passed}
 use Rattle.checks.specs.Verify.{operationCheck, operationsCheck}
-use Rattle.expression.specs.Tree.{Tree, num, bin, kOf}
-use Rattle.expression.specs.Written.{treeOps}
-use Rattle.expression.specs.Code.Operator.{operatorOf}
-use Rattle.expression.proofs.Written.{ops-length}
+use Rattle.grammar.specs.Tree.{Tree, num, bin, kOf}
+use Rattle.grammar.specs.Written.{treeOps}
+use Rattle.grammar.specs.Code.Operator.{operatorOf}
+use Rattle.grammar.proofs.Written.{ops-length}
 use Rattle.contract.specs.Output.{operationsOf}
 use Rattle.contract.proofs.Words.{Words}
 

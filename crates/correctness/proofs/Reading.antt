@@ -18,9 +18,9 @@ use Rattle.decimal.specs.Decimal.{digit, decimal}
 use Rattle.decimal.proofs.Laws.{decimal-digits}
 use Rattle.ops.specs.Ops.{readText}
 use Rattle.base.specs.Outcome.{is}
-use Rattle.ops.specs.Written.{writtenAll, remarks, IsRemark, Each, none, one}
+use Rattle.operation.specs.Written.{writtenAll, remarks, IsRemark, Each, none, one}
 use Rattle.ops.proofs.Written.{reads-written}
-use Rattle.expression.specs.Tree.{Tree, kOf}
+use Rattle.grammar.specs.Tree.{Tree, kOf}
 use Rattle.contract.specs.Output.{stemFits, header, operationsOf, output}
 use Rattle.contract.proofs.Words.{Words}
 use Rattle.correctness.proofs.Operations.{operations-fine, k-positive, operations-length, all-writable, all-same}

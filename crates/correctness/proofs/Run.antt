@@ -14,7 +14,7 @@ use Rattle.numbered.specs.declared.Numbered.{Numbered}
 use Rattle.checks.specs.Numbers.{vmErrorNumbered}
 use Rattle.perform.specs.Call.{Call}
 use Rattle.perform.specs.Run.{refusalOf, ofRun}
-use Rattle.expression.specs.Tree.{Tree, valueOf, pOf}
+use Rattle.grammar.specs.Tree.{Tree, valueOf, pOf}
 use Rattle.contract.specs.Output.{operationsOf}
 use Rattle.correctness.specs.Counting.{FirstUnpaid, FirstFull}
 use Rattle.correctness.specs.Statement.{Ending, gasOf, outOfGasAt, stackFull, SucceedsWith, RefusedWith, TreeRun, endingOf}

@@ -15,7 +15,7 @@ use Rattle.checks.specs.declared.VmError.the-variants as refusal
 use Rattle.checks.specs.declared.Check.{Check}
 use Rattle.checks.specs.declared.Check.the-variants as check
 use Rattle.checks.specs.Verify.{gateCheck}
-use Rattle.ops.specs.declared.OpsError.the-variants as error
+use Rattle.operation.specs.declared.OpsError.the-variants as error
 use Rattle.ops.specs.declared.ParsedOps.{ParsedOps}
 use Rattle.ops.specs.declared.ParsedOps.the-variants as parsed
 use Rattle.ops.specs.Numbers.{parsedOpsNumbered}

@@ -14,7 +14,7 @@ use Rattle.checks.specs.Verify.{buffersFit, verifyOf}
 use Rattle.perform.specs.Call.{Call}
 use Rattle.perform.proofs.Laws.{lent}
 use Rattle.vm.specs.Transition.{checksOf, transitionOf}
-use Rattle.expression.specs.Tree.{Tree, valueOf, kOf}
+use Rattle.grammar.specs.Tree.{Tree, valueOf, kOf}
 use Rattle.contract.specs.Output.{operationsOf}
 use Rattle.correctness.specs.Call.{withProgram}
 use Rattle.correctness.specs.Statement.{TreeRun, endingOf}

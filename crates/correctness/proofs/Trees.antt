@@ -11,12 +11,12 @@ use borrow.Author.Tests.{le-ltb}
 use Rattle.base.specs.Outcome.{is, refused, andThen}
 use Rattle.word.specs.Apply.{Binary, add, sub, mul, div, eq, lt, apply}
 use Rattle.kinds.specs.Kinds.{Operation, operation}
-use Rattle.ops.specs.Written.{Each, none as no-more, one}
+use Rattle.operation.specs.Written.{Each, none as no-more, one}
 use Rattle.machine.specs.Machine.{outOfGas, stackLimitExceeded, Frame, moves, fails, Progress, next, done, stop, pushOf, resultOf as ofValue, binopOf, effectOf, settle, follow, halt, start, runToEnd}
-use Rattle.expression.specs.Tree.{Tree, num, bin, applied, valueOf, kOf, pOf}
-use Rattle.expression.specs.Written.{treeOps}
-use Rattle.expression.specs.Code.Operator.{operatorOf}
-use Rattle.expression.proofs.Written.{ops-length}
+use Rattle.grammar.specs.Tree.{Tree, num, bin, applied, valueOf, kOf, pOf}
+use Rattle.grammar.specs.Written.{treeOps}
+use Rattle.grammar.specs.Code.Operator.{operatorOf}
+use Rattle.grammar.proofs.Written.{ops-length}
 use Rattle.contract.specs.Output.{operationsOf}
 use Rattle.correctness.specs.Counting.{price, isPush, isOperator, cost}
 use Rattle.correctness.proofs.Trace.{Metered, onward, trace, rise, rises, rises-append, trace-append, Sound, peak}

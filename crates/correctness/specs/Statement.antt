@@ -19,7 +19,7 @@ use Rattle.context.specs.declared.Gate.the-variants as gate
 use Rattle.checks.specs.Verify.{buffersFit}
 use Rattle.perform.specs.Numbers.{runAnswerNumbered}
 use Rattle.perform.specs.Run.{RunResult}
-use Rattle.expression.specs.Tree.{Tree, valueOf, kOf, pOf}
+use Rattle.grammar.specs.Tree.{Tree, valueOf, kOf, pOf}
 use Rattle.base.specs.Outcome.{is}
 use Rattle.contract.specs.Assembled.{assembledTree}
 use Rattle.contract.specs.Output.{operationsOf}

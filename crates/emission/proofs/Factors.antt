@@ -19,9 +19,9 @@ use Rattle.token.specs.Token.{tokens}
 use Rattle.token.specs.Code.Places.{tokenAt}
 use Rattle.token.specs.declared.Token.{Token}
 use Rattle.token.proofs.Tokens.{Next, tokenFrom, digit-token}
-use Rattle.expression.specs.declared.names.BoundName.{BoundName}
-use Rattle.expression.specs.Parse.{symbol}
-use Rattle.expression.specs.Code.Table.{found}
+use Rattle.bindings.specs.declared.names.BoundName.{BoundName}
+use Rattle.grammar.specs.Parse.{symbol}
+use Rattle.bindings.specs.Code.Table.{found}
 use Rattle.expression.proofs.Signs.{next-of, none-of}
 use Rattle.emission.specs.declared.factor.Factor.{Factor}
 use Rattle.emission.specs.declared.factor.Factor.the-variants.{Open, Literal, Nothing}

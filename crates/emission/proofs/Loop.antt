@@ -13,11 +13,11 @@ use Rattle.base.proofs.Parts.{take-drop-slice}
 use Rattle.base.proofs.Stack.{length-stack, stack-push}
 use Rattle.token.specs.Token.{tokens, scan}
 use Rattle.token.specs.Code.Places.{tokenAt}
-use Rattle.expression.specs.Tree.{num}
-use Rattle.expression.specs.Grammar.{levels}
-use Rattle.expression.specs.Parse.{meaning}
-use Rattle.expression.specs.Code.Source.{Sources, treeOr0, expressionOf, envOf, treeOf, AllInText}
-use Rattle.expression.specs.Code.Texts.{textOf}
+use Rattle.grammar.specs.Tree.{num}
+use Rattle.grammar.specs.Grammar.{levels}
+use Rattle.grammar.specs.Parse.{meaning}
+use Rattle.bindings.specs.Code.Source.{Sources, treeOr0, expressionOf, envOf, treeOf, AllInText}
+use Rattle.grammar.specs.Code.Texts.{textOf}
 use Rattle.writer.specs.Code.Overwrites.{Overwrites}
 use Rattle.emission.specs.Code.Lines.{pushText, operatorsText}
 use Rattle.writer.proofs.Pieces.{overwrites-none, overwrites-then, overwrites-length}

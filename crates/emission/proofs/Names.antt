@@ -10,12 +10,12 @@ use lib.Dec.{eqb}
 use lib.ListN.{getD}
 use Rattle.base.specs.Equal.{equal}
 use Rattle.base.proofs.Tests.{by-bool}
-use Rattle.expression.specs.declared.names.BoundName.{BoundName}
-use Rattle.expression.specs.declared.names.BoundName.the-variants.{At, Nothing}
-use Rattle.expression.specs.Parse.{lookup}
-use Rattle.expression.specs.Code.Table.{tagOf, hasName, found}
-use Rattle.expression.specs.Code.Source.{Sources, nameOf, envOf, treeOf, AllInText}
-use Rattle.expression.proofs.Tags.{tag-same}
+use Rattle.bindings.specs.declared.names.BoundName.{BoundName}
+use Rattle.bindings.specs.declared.names.BoundName.the-variants.{At, Nothing}
+use Rattle.grammar.specs.Parse.{lookup}
+use Rattle.bindings.specs.Code.Table.{tagOf, hasName, found}
+use Rattle.bindings.specs.Code.Source.{Sources, nameOf, envOf, treeOf, AllInText}
+use Rattle.bindings.proofs.Tags.{tag-same}
 
 module _ (s : List ℕ) (c : Sources) (w : List ℕ) where
   abbrev pub Looked : ℕ → BoundName → Type 0

@@ -11,7 +11,7 @@ use Rattle.base.specs.Code.Stack.{stackOf}
 use Rattle.base.proofs.Tests.{by-eqb}
 use Rattle.base.proofs.Stack.{length-stack, stack-push, stack-pop}
 use Rattle.token.specs.Code.Places.{tokenAt}
-use Rattle.expression.specs.Grammar.{levels}
+use Rattle.grammar.specs.Grammar.{levels}
 use Rattle.emission.specs.Code.Lines.{operatorsText}
 use Rattle.emission.specs.declared.waiting.Popped.{Popped}
 use Rattle.emission.specs.Code.Waiting.{levelOf, most, popped, left, Pops}

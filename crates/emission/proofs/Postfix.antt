@@ -8,13 +8,13 @@ use lib.ListN.{length}
 use Rattle.base.specs.Outcome.{is}
 use Rattle.word.specs.Apply.{Binary}
 use Rattle.token.specs.Token.{tokens}
-use Rattle.expression.specs.Tree.{Tree, bin}
-use Rattle.expression.specs.Parse.{Env, symbol, operator, meaning}
-use Rattle.expression.specs.Grammar.{levels, Derives, number, name, parentheses, alone, join}
-use Rattle.expression.specs.Code.Texts.{textOf}
-use Rattle.expression.proofs.Steps.{lone-is}
-use Rattle.expression.proofs.Grammar.{operator-is, digits-no-parenthesis, meaning-derives}
-use Rattle.expression.proofs.Written.{text-bin}
+use Rattle.grammar.specs.Tree.{Tree, bin}
+use Rattle.grammar.specs.Parse.{Env, symbol, operator, meaning}
+use Rattle.grammar.specs.Grammar.{levels, Derives, number, name, parentheses, alone, join}
+use Rattle.grammar.specs.Code.Texts.{textOf}
+use Rattle.grammar.proofs.Steps.{lone-is}
+use Rattle.grammar.proofs.Grammar.{operator-is, digits-no-parenthesis, meaning-derives}
+use Rattle.grammar.proofs.Written.{text-bin}
 use Rattle.emission.specs.Code.Lines.{operatorText, operatorsText}
 use Rattle.emission.specs.Code.Waiting.{levelOf, most, popped, left}
 use Rattle.emission.proofs.Stack.{joins-level, popped-one, popped-none, left-one, left-none, operators-append}

@@ -9,10 +9,10 @@ use lib.ListN.{length, getD}
 use Rattle.base.specs.Code.Stack.{stackOf}
 use Rattle.base.proofs.Tests.{false-true, by-leb}
 use Rattle.base.proofs.Stack.{stack-pop}
-use Rattle.expression.specs.Parse.{isOperatorAt}
-use Rattle.expression.specs.Tree.{num}
-use Rattle.expression.specs.Code.Texts.{textOf}
-use Rattle.expression.proofs.Steps.{looser}
+use Rattle.grammar.specs.Parse.{isOperatorAt}
+use Rattle.grammar.specs.Tree.{num}
+use Rattle.grammar.specs.Code.Texts.{textOf}
+use Rattle.grammar.proofs.Steps.{looser}
 use Rattle.emission.specs.Code.Lines.{pushText, operatorText, operatorsText}
 use Rattle.emission.specs.Code.Waiting.{levelOf, popped, left}
 

@@ -7,10 +7,10 @@ use mathlib.Core.Option.{some}
 use lib.ListN.{length}
 use Rattle.base.specs.Lists.{all}
 use Rattle.decimal.specs.Decimal.{digit, value}
-use Rattle.expression.specs.Tree.{Tree, num}
-use Rattle.expression.specs.Grammar.{levels}
-use Rattle.expression.specs.Parse.{Env, lookup, symbol}
-use Rattle.expression.specs.Code.Texts.{textOf}
+use Rattle.grammar.specs.Tree.{Tree, num}
+use Rattle.grammar.specs.Grammar.{levels}
+use Rattle.grammar.specs.Parse.{Env, lookup, symbol}
+use Rattle.grammar.specs.Code.Texts.{textOf}
 use Rattle.emission.specs.Code.Lines.{operatorsText}
 use Rattle.emission.specs.Code.Waiting.{levelOf, most, popped, left}
 

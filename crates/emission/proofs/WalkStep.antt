@@ -13,14 +13,14 @@ use Rattle.decimal.specs.Decimal.{value}
 use Rattle.token.specs.Token.{tokens, scan}
 use Rattle.token.specs.Code.Places.{tokenAt, startAt, first}
 use Rattle.token.proofs.Tokens.{token-none, token-next, tokenFrom, next-at}
-use Rattle.expression.specs.declared.names.BoundName.{BoundName}
-use Rattle.expression.specs.declared.names.BoundName.the-variants as Found
-use Rattle.expression.specs.Tree.{Tree}
-use Rattle.expression.specs.Grammar.{levels}
-use Rattle.expression.specs.Parse.{lookup, symbol}
-use Rattle.expression.specs.Code.Source.{Sources, envOf, treeOf, AllInText}
-use Rattle.expression.specs.Code.Table.{found}
-use Rattle.expression.specs.Code.Texts.{textOf}
+use Rattle.bindings.specs.declared.names.BoundName.{BoundName}
+use Rattle.bindings.specs.declared.names.BoundName.the-variants as Found
+use Rattle.grammar.specs.Tree.{Tree}
+use Rattle.grammar.specs.Grammar.{levels}
+use Rattle.grammar.specs.Parse.{lookup, symbol}
+use Rattle.bindings.specs.Code.Source.{Sources, envOf, treeOf, AllInText}
+use Rattle.bindings.specs.Code.Table.{found}
+use Rattle.grammar.specs.Code.Texts.{textOf}
 use Rattle.emission.specs.Code.Lines.{pushText, operatorsText}
 use Rattle.emission.specs.declared.factor.Factor.{Factor}
 use Rattle.emission.specs.declared.factor.Factor.the-variants.{Open, Literal, Name, Nothing}

@@ -6,8 +6,8 @@ use native.Mathlib.Omega.{arith}
 use lib.ListN.{length, getD, set, replicate, length-set}
 use lib.Seq.{slice, length-slice, getD-set-same, getD-set-other}
 use Rattle.base.proofs.Tests.{by-eqb}
-use Rattle.expression.specs.Code.Source.{Sources, treeOf}
-use Rattle.expression.specs.Code.Texts.{textOf}
+use Rattle.bindings.specs.Code.Source.{Sources, treeOf}
+use Rattle.grammar.specs.Code.Texts.{textOf}
 use Rattle.writer.specs.Code.Overwrites.{Overwrites}
 use Rattle.writer.proofs.Pieces.{overwrites-slice, overwrites-there}
 use Rattle.emission.specs.Code.Emitted.{KeepsWritten}

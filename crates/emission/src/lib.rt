@@ -3,8 +3,8 @@
 ghost use Prim.Native.Nat.{_+_, _<_, _≤_};
 ghost use lib.ListN.{length};
 ghost use lib.Seq.{slice};
-ghost use Rattle.expression.specs.Code.Source.{sourcesOf, sources, treeOf, AllInText};
-ghost use Rattle.expression.specs.Code.Texts.{textOf};
+ghost use Rattle.bindings.specs.Code.Source.{sourcesOf, sources, treeOf, AllInText};
+ghost use Rattle.grammar.specs.Code.Texts.{textOf};
 ghost use Rattle.writer.specs.Code.Overwrites.{Overwrites};
 ghost use Rattle.emission.specs.Code.Emitted.{treeBetween, MeansTree, KeepsWritten};
 
@@ -13,8 +13,8 @@ mod operator;
 mod waiting;
 
 use base::wide;
-use expression::Bindings;
-use expression::Values;
+use bindings::Bindings;
+use bindings::Values;
 use factor::Factor;
 use factor::factor_at;
 use operator::operate;

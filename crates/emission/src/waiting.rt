@@ -2,8 +2,8 @@
 ghost use mathlib.Core.Path.{_≡_};
 ghost use Prim.Native.Nat.{_+_, _≤_};
 ghost use lib.ListN.{length};
-ghost use Rattle.expression.specs.Parse.{operator};
-ghost use Rattle.expression.specs.Written.{kindNumber};
+ghost use Rattle.grammar.specs.Parse.{operator};
+ghost use Rattle.grammar.specs.Written.{kindNumber};
 ghost use Rattle.writer.specs.Code.Overwrites.{Overwrites};
 ghost use Rattle.emission.specs.Code.Lines.{operatorText, operatorsText};
 ghost use Rattle.emission.specs.Code.Waiting.{levelOf, most, popped, Pops};

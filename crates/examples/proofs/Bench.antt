@@ -2,10 +2,10 @@
 use mathlib.Core.Path.{refl}
 use Rattle.decimal.specs.Decimal.{decimal}
 use Rattle.token.specs.Token.{scan}
-use Rattle.expression.specs.Parse.{parseF, meaning}
+use Rattle.grammar.specs.Parse.{parseF, meaning}
 use Rattle.machine.specs.Machine.{decode, runOf, runToEnd}
 use Rattle.checks.specs.Verify.{operationsCheck}
-use Rattle.contract.specs.Scope.{each}
+use Rattle.scope.specs.Scope.{each}
 use Rattle.contract.specs.Assembled.{assembledTree}
 use Rattle.contract.specs.Output.{output, assembled}
 use Rattle.compile.specs.Compile.{compileOf}

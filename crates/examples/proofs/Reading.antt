@@ -10,7 +10,8 @@ use Rattle.ops.proofs.Front.{Front, front as read}
 use Rattle.perform.specs.declared.RunAnswer.{RunAnswer}
 use Rattle.perform.specs.Run.{Meets}
 use Rattle.vm.specs.Transition.{meteredOf}
-use Rattle.examples.specs.Runs.{operations, countOf, call, ran, zeros, plainly, four, onFour, Ends, Stores, nines, Fills}
+use Rattle.examples.specs.Code.Count.{countOf}
+use Rattle.examples.specs.Runs.{operations, call, ran, zeros, plainly, four, onFour, Ends, Stores, nines, Fills}
 
 pub counted : (r : Reading) → countOf (answerOf r) ≡ length (opsOf r)
 counted (is os) = refl

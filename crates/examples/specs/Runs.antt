@@ -7,7 +7,6 @@ use Rattle.base.specs.Overwrite.{overwrite}
 use Rattle.kinds.specs.Kinds.{Operation}
 use Rattle.ops.specs.Ops.{readText, answerOf, opsOf, kindsOf, operandsOf}
 use Rattle.ops.specs.declared.ParsedOps.{ParsedOps}
-use Rattle.ops.specs.declared.ParsedOps.the-variants.{Read, Refused}
 use Rattle.perform.specs.declared.RunAnswer.{RunAnswer}
 use Rattle.perform.specs.Call.{Call}
 use Rattle.perform.specs.Run.{RunResult}
@@ -16,10 +15,6 @@ use Rattle.vm.specs.Transition.{meteredOf}
 -- a text that is refused has none
 abbrev pub operations : List ℕ → List Operation
 operations text = opsOf (readText text 4096)
-
-abbrev pub countOf : ParsedOps → ℕ
-countOf (Read n) = n
-countOf (Refused e) = 0
 
 -- a call by caller 7 with this program, limit, stack, work and storage
 abbrev pub call : (kinds operands : List ℕ) → ℕ → (s w m : List ℕ) → Call

@@ -1,7 +1,8 @@
 // Runs of ops text by caller 7 with no storage used.
 ghost use mathlib.Core.Path.{_≡_};
 ghost use Rattle.perform.specs.Run.{Meets};
-ghost use Rattle.examples.specs.Runs.{countOf, ran, zeros, plainly, four, onFour, Ends, Stores};
+ghost use Rattle.examples.specs.Code.Count.{countOf};
+ghost use Rattle.examples.specs.Runs.{ran, zeros, plainly, four, onFour, Ends, Stores};
 use ops::ParsedOps;
 use perform::RunAnswer;
 use perform::State;

@@ -2,7 +2,7 @@
 use checks::VmError;
 use compile::Compiled;
 use context::Gate;
-use ops::OpsError;
+use operation::OpsError;
 use ops::ParsedOps;
 use perform::RunAnswer;
 

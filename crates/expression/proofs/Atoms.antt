@@ -15,11 +15,11 @@ use Rattle.decimal.specs.declared.Value.the-variants as Digits
 use Rattle.token.specs.Token.{tokens}
 use Rattle.token.specs.Code.Places.{tokenAt}
 use Rattle.token.specs.declared.Token.{Token}
-use Rattle.expression.specs.declared.figures.Figures.{Figures}
-use Rattle.expression.specs.declared.figures.TreeValue.the-variants.{Is}
+use Rattle.figures.specs.declared.Figures.{Figures}
+use Rattle.figures.specs.declared.TreeValue.the-variants.{Is}
 use Rattle.expression.specs.declared.ExprError.the-variants.{UnexpectedEnd, UnbalancedParenthesis, InvalidLiteral}
 use Rattle.expression.specs.declared.ParseResult.the-variants.{Done, Refused}
-use Rattle.expression.specs.Parse.{symbol}
+use Rattle.grammar.specs.Parse.{symbol}
 use Rattle.expression.specs.Code.Parts.{literalRead, closedRead}
 use Rattle.expression.proofs.Signs.{none-of, next-of}
 

@@ -17,22 +17,23 @@ use Rattle.decimal.proofs.Laws.{length-word}
 use Rattle.token.specs.Token.{tokens}
 use Rattle.token.specs.Code.Places.{tokenAt}
 use Rattle.token.proofs.Tokens.{Next, tokenFrom, token-none, token-next, digit-token}
-use Rattle.expression.specs.declared.figures.Figures.{Figures}
-use Rattle.expression.specs.declared.figures.TreeValue.the-variants.{Is}
-use Rattle.expression.specs.declared.names.BoundName.{BoundName}
-use Rattle.expression.specs.declared.names.BoundName.the-variants.{At, Nothing}
+use Rattle.figures.specs.declared.Figures.{Figures}
+use Rattle.figures.specs.declared.TreeValue.the-variants.{Is}
+use Rattle.bindings.specs.declared.names.BoundName.{BoundName}
+use Rattle.bindings.specs.declared.names.BoundName.the-variants.{At, Nothing}
 use Rattle.expression.specs.declared.ExprError.{ExprError}
 use Rattle.expression.specs.declared.ExprError.the-variants.{UnexpectedEnd, UnbalancedParenthesis, InvalidLiteral, TooDeep}
 use Rattle.expression.specs.declared.ParseResult.{ParseResult}
 use Rattle.expression.specs.declared.ParseResult.the-variants.{Done, Refused}
-use Rattle.expression.specs.Tree.{num}
-use Rattle.expression.specs.Parse.{Binding, lookup, symbol, factor, expression}
-use Rattle.expression.specs.Code.Figures.{FiguresOf, optionOf}
-use Rattle.expression.specs.Code.Table.{Columns, Entry, entryAt, RowFor, valueUnlessNone, found}
+use Rattle.grammar.specs.Tree.{num}
+use Rattle.grammar.specs.Parse.{Binding, lookup, symbol, factor, expression}
+use Rattle.figures.specs.Code.Figures.{FiguresOf, optionOf}
+use Rattle.bindings.specs.Code.Table.{Columns, Entry, entryAt, RowFor, valueUnlessNone, found}
 use Rattle.expression.specs.Code.Parts.{literalRead, boundValue, boundRead, nameRead, AllFit, closedRead}
-use Rattle.expression.specs.Code.Cycle.{Reads, ParsesAs}
-use Rattle.expression.proofs.Steps.{ended, too-deep, opened-refused, unclosed, closes, not-closed, number-read, number-refused, name-read, name-refused}
-use Rattle.expression.proofs.Lookup.{Looked, looked}
+use Rattle.grammar.specs.Code.Reads.{Reads}
+use Rattle.expression.specs.Code.Cycle.{ParsesAs}
+use Rattle.grammar.proofs.Steps.{ended, too-deep, opened-refused, unclosed, closes, not-closed, number-read, number-refused, name-read, name-refused}
+use Rattle.bindings.proofs.Lookup.{Looked, looked}
 use Rattle.expression.proofs.Atoms.{closed-is, closed-other}
 
 pub none-meets : (s : List ℕ) (at : ℕ) (c : Columns) (d : ℕ) → tokens (drop at s) ≡ [] → ParsesAs s at c factor d (Refused UnexpectedEnd)

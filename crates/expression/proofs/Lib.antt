@@ -1,11 +1,5 @@
-pub mod Steps
-pub mod Grammar
-pub mod Tags
-pub mod Lookup
 pub mod Signs
 pub mod Atoms
 pub mod Reading
 pub mod Factors
 pub mod Meaning
-pub mod Examples
-pub mod Written

@@ -12,21 +12,22 @@ use Rattle.token.specs.Token.{allowed, scan, tokens}
 use Rattle.token.specs.Code.Places.{tokenAt, lastEnd}
 use Rattle.token.specs.declared.Token.{Token}
 use Rattle.token.proofs.LastEnd.{last-end}
-use Rattle.expression.specs.declared.figures.Figures.{Figures}
+use Rattle.figures.specs.declared.Figures.{Figures}
 use Rattle.expression.specs.declared.ExprError.{ExprError}
 use Rattle.expression.specs.declared.ExprError.the-variants.{InvalidCharacter, UnconsumedTokens}
 use Rattle.expression.specs.declared.ParseResult.{ParseResult}
 use Rattle.expression.specs.declared.ParseResult.the-variants.{Done, Refused}
-use Rattle.expression.specs.Tree.{Tree}
-use Rattle.expression.specs.Parse.{Env, Parse, enough, parseF, moreF, allRead, meaning, expression, depth}
-use Rattle.expression.specs.Code.Figures.{FiguresOf}
-use Rattle.expression.specs.Code.Table.{Columns, columnsOf, RowsFor, atMost256, TableFor}
+use Rattle.grammar.specs.Tree.{Tree}
+use Rattle.grammar.specs.Parse.{Env, Parse, enough, parseF, moreF, allRead, meaning, expression, depth}
+use Rattle.figures.specs.Code.Figures.{FiguresOf}
+use Rattle.bindings.specs.Code.Table.{Columns, columnsOf, RowsFor, atMost256, TableFor}
 use Rattle.expression.specs.Answer.{exprErrorNumbered}
-use Rattle.expression.specs.Code.Answers.{parseAnswer, meaningAnswer, ShortText, EndsLast, Answers}
+use Rattle.grammar.specs.Code.Meant.{meaningAnswer, ShortText}
+use Rattle.expression.specs.Code.Answers.{parseAnswer, EndsLast, Answers}
 use Rattle.expression.specs.Code.Parts.{wholeRead}
 use Rattle.expression.specs.Code.Cycle.{ReadWithin, ParsesAs}
 use Rattle.expression.proofs.Signs.{none-of, next-of}
-use Rattle.expression.proofs.Grammar.{meaning-whole, meaning-not-allowed}
+use Rattle.grammar.proofs.Grammar.{meaning-whole, meaning-not-allowed}
 
 -- from what a text means to what is promised of it
 means : (s : List ℕ) (at : ℕ) (c : Columns) (r : ParseResult) → EndsLast s r → ((env : Env) → RowsFor s c (atMost256 (c .count)) env → (m : Outcome Numbered Tree) × ((meaning env (drop at s) ≡ m) × ((parseAnswer r ≡ meaningAnswer m) × ShortText m))) → Answers s at c r

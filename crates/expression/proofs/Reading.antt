@@ -11,19 +11,20 @@ use Rattle.word.specs.Apply.{Binary, add, sub, mul, div, eq, lt}
 use Rattle.token.specs.Token.{tokens}
 use Rattle.token.specs.Code.Places.{first, tokenAt}
 use Rattle.token.proofs.Tokens.{tokenFrom, token-none, token-next}
-use Rattle.expression.specs.declared.figures.Figures.{Figures}
+use Rattle.figures.specs.declared.Figures.{Figures}
 use Rattle.expression.specs.declared.ExprError.{ExprError}
 use Rattle.expression.specs.declared.parts.Sign.{Sign}
 use Rattle.expression.specs.declared.ParseResult.{ParseResult}
 use Rattle.expression.specs.declared.ParseResult.the-variants.{Done, Refused}
-use Rattle.expression.specs.Tree.{Tree, bin}
-use Rattle.expression.specs.Code.Lengths.{operatorLength}
-use Rattle.expression.specs.Parse.{Env, symbol, isOperatorAt, operator}
-use Rattle.expression.specs.Code.Figures.{FiguresOf, SumsFit, Joined}
-use Rattle.expression.specs.Code.Table.{Columns, TableFor}
+use Rattle.grammar.specs.Tree.{Tree, bin}
+use Rattle.grammar.specs.Code.Lengths.{operatorLength}
+use Rattle.grammar.specs.Parse.{Env, symbol, isOperatorAt, operator}
+use Rattle.figures.specs.Code.Figures.{FiguresOf, SumsFit, Joined}
+use Rattle.bindings.specs.Code.Table.{Columns, TableFor}
 use Rattle.expression.specs.Code.Parts.{signAt}
-use Rattle.expression.specs.Code.Cycle.{Reads, ReadWithin, ParsesAs}
-use Rattle.expression.proofs.Steps.{Left, starts, starts-refused, turns, turns-refused, stops}
+use Rattle.grammar.specs.Code.Reads.{Reads}
+use Rattle.expression.specs.Code.Cycle.{ReadWithin, ParsesAs}
+use Rattle.grammar.proofs.Steps.{Left, starts, starts-refused, turns, turns-refused, stops}
 
 pub carry : {s : List ℕ} {at : ℕ} {c : Columns} {l d : ℕ} {r q : ParseResult} → r ≡ q → ParsesAs s at c l d r → ParsesAs s at c l d q
 carry {s} {at} {c} {l} {d} e m = subst (λ (x : ParseResult). ParsesAs s at c l d x) e m

@@ -10,7 +10,7 @@ use Rattle.token.specs.Code.Places.{first, tokenAt}
 use Rattle.token.specs.declared.Token.{Token}
 use Rattle.token.proofs.Tokens.{Next, token-none, token-next}
 use Rattle.expression.specs.declared.parts.Sign.{Sign}
-use Rattle.expression.specs.Parse.{symbol}
+use Rattle.grammar.specs.Parse.{symbol}
 use Rattle.expression.specs.Code.Parts.{signAt}
 
 pub lone-one : (s : List ℕ) (start end : ℕ) → start < length s → end - start ≡ 1 → getD s start 0 ≡ symbol (take (end - start) (drop start s))

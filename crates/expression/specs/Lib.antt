@@ -1,7 +1,2 @@
-pub mod Tree
-pub mod Environment
-pub mod Grammar
-pub mod Parse
 pub mod Answer
-pub mod Written
 pub mod Code

@@ -2,21 +2,20 @@
 ghost use mathlib.Core.Path.{_≡_};
 ghost use Prim.Native.Nat.{_≤_};
 ghost use lib.ListN.{length};
-ghost use Rattle.expression.specs.Parse.{factor, term, expression};
+ghost use Rattle.grammar.specs.Parse.{factor, term, expression};
 ghost use Rattle.expression.specs.Answer.{exprErrorNumbered};
 ghost use Rattle.expression.specs.Code.Answers.{Answers};
-ghost use Rattle.expression.specs.Code.Table.{columnsOf, columns};
+ghost use Rattle.bindings.specs.Code.Table.{columnsOf, columns};
 ghost use Rattle.expression.specs.Code.Cycle.{CanParse, ParsesAs};
 
-pub mod figures;
-mod joining;
-pub mod names;
 mod operands;
 pub mod parts;
 
 use base::min;
+use bindings::Bindings;
+use bindings::Values;
 use figures::Figures;
-use joining::join;
+use figures::joining::join;
 use numbered::Numbered;
 use numbered::plain;
 use operands::close;
@@ -30,24 +29,6 @@ use parts::symbol_byte;
 use token::is_all_tokens;
 use token::is_digit;
 use token::token_at;
-
-pub struct Bindings {
-    pub name_start: [u16; 256],
-    pub name_len: [u16; 256],
-    pub expr_start: [u16; 256],
-    pub expr_len: [u16; 256],
-    pub k: [u16; 256],
-    pub p: [u16; 256],
-    pub count: usize,
-}
-
-// What a binding needs beside the table.
-pub struct Values {
-    pub value: [u64; 256],
-    pub none: [bool; 256],
-    pub len: [u32; 256],
-    pub tag: [u8; 256],
-}
 
 pub enum ExprError {
     InvalidCharacter,

@@ -7,17 +7,17 @@ ghost use Rattle.base.specs.Lists.{takeWhile};
 ghost use Rattle.decimal.specs.Decimal.{digit};
 ghost use Rattle.token.specs.Token.{tokens};
 ghost use Rattle.token.specs.Code.Places.{tokenAt};
-ghost use Rattle.expression.specs.Code.Table.{columnsOf, entryAt, found};
+ghost use Rattle.bindings.specs.Code.Table.{columnsOf, entryAt, found};
 ghost use Rattle.expression.specs.Code.Parts.{literalRead, boundValue, boundRead, nameRead, closedRead, wholeRead, Fits, AllFit};
 use crate::ExprError;
 use crate::ParseResult;
-use crate::figures::Figures;
-use crate::figures::TreeValue;
-use crate::names::BoundName;
-use crate::names::lookup;
 use crate::parts::symbol_byte;
+use bindings::names::BoundName;
+use bindings::names::lookup;
 use decimal::decimal_len;
 use decimal::digits_at;
+use figures::Figures;
+use figures::TreeValue;
 use token::token_at;
 
 // The literal whose first digit stands at an offset that its caller has read.

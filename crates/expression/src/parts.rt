@@ -2,7 +2,7 @@
 ghost use mathlib.Core.Path.{_≡_};
 ghost use Prim.Native.Nat.{_-_, _≤_, _<_};
 ghost use lib.ListN.{length, take, drop};
-ghost use Rattle.expression.specs.Parse.{symbol, term, expression, isOperatorAt};
+ghost use Rattle.grammar.specs.Parse.{symbol, term, expression, isOperatorAt};
 ghost use Rattle.expression.specs.Code.Parts.{signAt};
 use base::either;
 use token::token_at;

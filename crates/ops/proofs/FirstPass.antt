@@ -12,17 +12,18 @@ use Rattle.base.specs.Outcome.{is, refused, andThen}
 use Rattle.lines.specs.Lines.{lines}
 use Rattle.lines.specs.Cursor.{span, firstLine}
 use Rattle.kinds.specs.Kinds.{Operation, operation}
-use Rattle.ops.specs.Line.{Rule, lineOf}
+use Rattle.operation.specs.Line.{Rule, lineOf}
 use Rattle.ops.specs.Ops.{Reading, startOf, thenRead, readLines, notEmpty, answerOf}
-use Rattle.ops.specs.Code.Passes.{lineReadAt}
-use Rattle.ops.specs.declared.OpsError.{OpsError}
-use Rattle.ops.specs.declared.OpsError.the-variants.{Full, Empty}
+use Rattle.operation.specs.Code.Fast.{lineReadAt}
+use Rattle.operation.specs.declared.OpsError.{OpsError}
+use Rattle.operation.specs.declared.OpsError.the-variants.{Full, Empty}
 use Rattle.ops.specs.declared.ParsedOps.{ParsedOps}
 use Rattle.ops.specs.declared.ParsedOps.the-variants.{Read, Refused}
-use Rattle.ops.specs.declared.line.LineRead.{LineRead}
-use Rattle.ops.specs.declared.line.LineRead.the-variants.{Skip, Op, Bad}
-use Rattle.ops.specs.declared.line.ReadLine.{ReadLine}
-use Rattle.ops.proofs.LineStarts.{onward, next-start, past}
+use Rattle.operation.specs.declared.line.LineRead.{LineRead}
+use Rattle.operation.specs.declared.line.LineRead.the-variants.{Skip, Op, Bad}
+use Rattle.operation.specs.declared.line.ReadLine.{ReadLine}
+use Rattle.ops.proofs.LineStarts.{next-start}
+use Rattle.lines.proofs.LineAt.{onward, past}
 
 -- where a pass is: as many lines were passed, and the next one starts here
 pub record Stands (text : List ℕ) (at line : ℕ) : Type 0 where

@@ -1,7 +1,3 @@
-pub mod Words
-pub mod PlainLines
-pub mod PlainReads
-pub mod BlankLines
 pub mod Written
 pub mod WrittenAgain
 pub mod Front
@@ -10,5 +6,4 @@ pub mod SecondPass
 pub mod PassLine
 pub mod FirstPass
 pub mod LineStarts
-pub mod Trimmed
 pub mod Examples

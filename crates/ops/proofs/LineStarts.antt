@@ -1,4 +1,4 @@
--- The line at a place of a text, and where the lines start.
+-- Where the lines of a text start, and the line of a number.
 use Prim.Native.Nat.{ℕ, zero, suc, _+_, _-_, _<_, _≤_}
 use mathlib.Core.Path.{_≡_, refl, sym, ap, ap₂, subst, _∙_}
 use mathlib.Core.List.{List, [], _∷_}
@@ -11,64 +11,15 @@ use lib.Seq.{drop-drop}
 use Rattle.base.proofs.Tests.{by-leb}
 use Rattle.utf8.specs.Utf8.{utf8}
 use Rattle.lines.specs.Lines.{lines}
-use Rattle.lines.specs.Cursor.{span, firstLine, lineFrom, lineAt}
+use Rattle.lines.specs.Cursor.{span, firstLine, lineAt}
 use Rattle.lines.specs.Code.Visits.{headOf, IsLine}
 use Rattle.lines.specs.declared.Line.{Line}
 use Rattle.lines.specs.declared.Step.the-variants.{Next, Done}
-use Rattle.lines.proofs.Cursor.{line-here, line-done, step-line}
-use Rattle.ops.specs.Line.{Rule, lineOf}
+use Rattle.lines.proofs.Cursor.{step-line}
+use Rattle.lines.proofs.LineAt.{past, is-past, first-is, onward}
 use Rattle.trim.specs.Trim.{trimmed, leadingBlanks}
 use Rattle.ops.specs.Ops.{startOf, nthLine, trimmedLine, trimmedPlace}
 use Rattle.ops.specs.Code.Numbered.{nthStep, lineNumbered}
-use Rattle.ops.specs.Code.Passes.{lineReadAt}
-use Rattle.ops.specs.declared.line.LineRead.{LineRead}
-use Rattle.ops.specs.declared.line.LineRead.the-variants.{Skip}
-use Rattle.ops.specs.declared.line.ReadLine.{ReadLine}
-
-module _ (text : List ℕ) (at : ℕ) where
-  pub is-from : (l : Line) → lineAt text at ≡ Next l → l ≡ lineFrom text at
-  is-from l e = by-leb (suc at) (length text) (λ h. here (line-here text at h)) (λ h. absurd (none (line-done text at (omega arith))))
-    where
-      here : lineAt text at ≡ Next (lineFrom text at) → l ≡ lineFrom text at
-      here p = cc
-
-      none : lineAt text at ≡ Done → ⊥
-      none p = let z : _≡_ {A = ℕ} 0 1 = cc in omega arith
-
-  pub is-past : lineAt text at ≡ Done → length text ≤ at
-  is-past e = by-leb (length text) at (λ h. h) (λ h. absurd (some (line-here text at h)))
-    where
-      some : lineAt text at ≡ Next (lineFrom text at) → ⊥
-      some p = let z : _≡_ {A = ℕ} 0 1 = cc in omega arith
-
-  pub past : length text ≤ at → drop at text ≡ []
-  past h = drop-of-length-le text {i = at} h
-
-  pub first-is : (l : Line) → lineAt text at ≡ Next l → firstLine (drop at text) ≡ take (l .end - at) (drop at text)
-  first-is l e = ap headOf (step-line text at l e .is)
-
-  pub reached-next : (rule : Rule) (line : ℕ) (l : Line) (r : LineRead) → lineAt text at ≡ Next l → r ≡ lineOf rule line at (take (l .end - at) (drop at text))
-      → _≡_ {A = ReadLine} (record { read = r; next = l .next }) (lineReadAt rule text at line)
-  reached-next rule line l r e p =
-      ap₂ (λ r n. record { read = r; next = n }) (p ∙ ap (lineOf rule line at) (sym (first-is l e))) (ap (λ (l : Line). l .next) (is-from l e))
-
-  pub reached-done : (rule : Rule) (line : ℕ) → lineAt text at ≡ Done → _≡_ {A = ReadLine} (record { read = Skip; next = at }) (lineReadAt rule text at line)
-  reached-done rule line e =
-      let z : at ≡ at + 0 = omega arith in
-      ap (λ n. record { read = Skip; next = n }) z
-      ∙ ap (λ (s : List ℕ). record { read = lineOf rule line at (firstLine s); next = at + span s }) (sym (past (is-past e)))
-
--- the lines from a place within the text on
-pub record Onward (text : List ℕ) (at : ℕ) : Type 0 where
-  pub on : at < at + span (drop at text)
-  pub fits : at + span (drop at text) ≤ length text
-  pub lines : lines (drop at text) ≡ firstLine (drop at text) ∷ lines (drop (at + span (drop at text)) text)
-
-pub onward : (text : List ℕ) (at : ℕ) → at < length text → Onward text at
-onward text at h =
-    let e = line-here text at h in
-    let i = step-line text at (lineFrom text at) e in
-    record { on = i .on; fits = i .fits; lines = i .is ∙ ap (λ (l : List ℕ). l ∷ lines (drop (at + span (drop at text)) text)) (sym (first-is text at (lineFrom text at) e)) }
 
 -- where the next line starts
 pub next-start : (n : ℕ) (text : List ℕ) → startOf (suc n) text ≡ startOf n text + span (drop (startOf n text) text)

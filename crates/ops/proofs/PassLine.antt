@@ -8,15 +8,16 @@ use lib.ListN.{length, set, length-set}
 use Rattle.base.specs.Outcome.{andThen}
 use Rattle.base.proofs.Tests.{false-true}
 use Rattle.lines.specs.Lines.{lines}
-use Rattle.ops.specs.Line.{Rule}
+use Rattle.operation.specs.Line.{Rule}
 use Rattle.ops.specs.Ops.{readLines, notEmpty, answerOf}
-use Rattle.ops.specs.Code.Passes.{lineReadAt, NoneRefused, Filled, PassOver}
-use Rattle.ops.specs.declared.OpsError.{OpsError}
-use Rattle.ops.specs.declared.OpsError.the-variants.{Full, Empty}
+use Rattle.operation.specs.Code.Fast.{lineReadAt}
+use Rattle.ops.specs.Code.Passes.{NoneRefused, Filled, PassOver}
+use Rattle.operation.specs.declared.OpsError.{OpsError}
+use Rattle.operation.specs.declared.OpsError.the-variants.{Full, Empty}
 use Rattle.ops.specs.declared.ParsedOps.{ParsedOps}
 use Rattle.ops.specs.declared.ParsedOps.the-variants.{Read, Refused}
-use Rattle.ops.specs.declared.line.LineRead.the-variants.{Skip, Op, Bad}
-use Rattle.ops.specs.declared.line.ReadLine.{ReadLine}
+use Rattle.operation.specs.declared.line.LineRead.the-variants.{Skip, Op, Bad}
+use Rattle.operation.specs.declared.line.ReadLine.{ReadLine}
 use Rattle.ops.proofs.FirstPass.{Scanned, scan-first, scan-empty, scan-some, scan-skip, scan-bad, scan-full, scan-op}
 use Rattle.ops.proofs.SecondPass.{Filling, fill-first, filled, fill-skip, fill-bad, fill-room, fill-op}
 

@@ -12,13 +12,14 @@ use Rattle.base.proofs.Overwrite.{overwrite-none, overwrite-one, overwrite-then
 use Rattle.base.proofs.Outcome.{not-is, is-same, then-is}
 use Rattle.lines.specs.Lines.{lines}
 use Rattle.kinds.specs.Kinds.{Operation, operation}
-use Rattle.ops.specs.Line.{Rule}
+use Rattle.operation.specs.Line.{Rule}
 use Rattle.ops.specs.Ops.{Reading, thenRead, readLines, opsOf, kindsOf, operandsOf}
-use Rattle.ops.specs.Code.Passes.{lineReadAt, readInto, NoneRefused, Filled}
-use Rattle.ops.specs.declared.OpsError.{OpsError}
-use Rattle.ops.specs.declared.line.LineRead.{LineRead}
-use Rattle.ops.specs.declared.line.LineRead.the-variants.{Skip, Op, Bad}
-use Rattle.ops.specs.declared.line.ReadLine.{ReadLine}
+use Rattle.operation.specs.Code.Fast.{lineReadAt}
+use Rattle.ops.specs.Code.Passes.{readInto, NoneRefused, Filled}
+use Rattle.operation.specs.declared.OpsError.{OpsError}
+use Rattle.operation.specs.declared.line.LineRead.{LineRead}
+use Rattle.operation.specs.declared.line.LineRead.the-variants.{Skip, Op, Bad}
+use Rattle.operation.specs.declared.line.ReadLine.{ReadLine}
 use Rattle.ops.proofs.FirstPass.{Stands, at-first, ended, moved, read-on}
 
 -- a buffer that holds n of what is to be written, with the rest before it

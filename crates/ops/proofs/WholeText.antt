@@ -9,12 +9,12 @@ use Rattle.base.specs.Overwrite.{overwrite}
 use Rattle.base.specs.Outcome.{is, refused, andThen}
 use Rattle.utf8.specs.Utf8.{utf8}
 use Rattle.kinds.specs.Kinds.{Operation}
-use Rattle.ops.specs.Line.{fromStr}
+use Rattle.operation.specs.Line.{fromStr}
 use Rattle.ops.specs.Ops.{Reading, readText, answerOf, opsOf, kindsOf, operandsOf, ReadsOps, notEmpty}
 use Rattle.ops.specs.Numbers.{parsedOpsNumbered}
 use Rattle.ops.specs.Code.Passes.{readInto, NoneRefused, PassOver}
-use Rattle.ops.specs.declared.OpsError.{OpsError}
-use Rattle.ops.specs.declared.OpsError.the-variants.{NotUtf8}
+use Rattle.operation.specs.declared.OpsError.{OpsError}
+use Rattle.operation.specs.declared.OpsError.the-variants.{NotUtf8}
 use Rattle.ops.specs.declared.ParsedOps.{ParsedOps}
 use Rattle.ops.specs.declared.ParsedOps.the-variants.{Read, Refused}
 

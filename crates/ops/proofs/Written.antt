@@ -15,14 +15,14 @@ use Rattle.trim.proofs.Blanks as Blank
 use Rattle.decimal.specs.Decimal.{decimal}
 use Rattle.decimal.proofs.Laws.{decimal-digits, length-positive, round-trip}
 use Rattle.kinds.specs.Kinds.{kindOf, Operation, operation}
-use Rattle.ops.specs.Kinds.{follows}
-use Rattle.ops.specs.Line.{Rule, fromStr, ReadsDigits, lineOf}
+use Rattle.operation.specs.Kinds.{follows}
+use Rattle.operation.specs.Line.{Rule, fromStr, ReadsDigits, lineOf}
 use Rattle.ops.specs.Ops.{Reading, startOf, thenRead, readLines, notEmpty, readBy, readText}
-use Rattle.ops.specs.Written.{shown, written, writtenAll, remark, remarks, cleared, IsOperation, IsRemark, Each, none, one}
-use Rattle.ops.specs.declared.line.LineRead.the-variants.{Op}
-use Rattle.ops.specs.declared.OpsError.the-variants.{NotUtf8}
-use Rattle.ops.proofs.PlainLines.{digits-graphic, Plain, Reads, reads, plain-lines}
-use Rattle.ops.proofs.BlankLines.{remark-kept, remark-skip}
+use Rattle.operation.specs.Written.{shown, written, writtenAll, remark, remarks, cleared, IsOperation, IsRemark, Each, none, one}
+use Rattle.operation.specs.declared.line.LineRead.the-variants.{Op}
+use Rattle.operation.specs.declared.OpsError.the-variants.{NotUtf8}
+use Rattle.operation.proofs.PlainLines.{digits-graphic, Plain, Reads, reads, plain-lines}
+use Rattle.operation.proofs.BlankLines.{remark-kept, remark-skip}
 
 -- an operation's line
 module _ (rule : Rule) (plain : ReadsDigits rule) where

@@ -1,6 +1,3 @@
-pub mod Kinds
-pub mod Line
 pub mod Ops
-pub mod Written
 pub mod Numbers
 pub mod Code

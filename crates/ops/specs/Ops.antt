@@ -13,14 +13,14 @@ use Rattle.lines.specs.Lines.{lines}
 use Rattle.lines.specs.Cursor.{span}
 use Rattle.trim.specs.Trim.{trimmed, leadingBlanks}
 use Rattle.kinds.specs.Kinds.{operation}
-use Rattle.ops.specs.Line.{Rule, fromStr, lineOf}
+use Rattle.operation.specs.Line.{Rule, fromStr, lineOf}
 use Rattle.ops.specs.Numbers.{parsedOpsNumbered}
-use Rattle.ops.specs.declared.OpsError.{OpsError}
-use Rattle.ops.specs.declared.OpsError.the-variants.{NotUtf8, Full, Empty}
+use Rattle.operation.specs.declared.OpsError.{OpsError}
+use Rattle.operation.specs.declared.OpsError.the-variants.{NotUtf8, Full, Empty}
 use Rattle.ops.specs.declared.ParsedOps.{ParsedOps}
 use Rattle.ops.specs.declared.ParsedOps.the-variants.{Read, Refused}
-use Rattle.ops.specs.declared.line.LineRead.{LineRead}
-use Rattle.ops.specs.declared.line.LineRead.the-variants.{Skip, Op, Bad}
+use Rattle.operation.specs.declared.line.LineRead.{LineRead}
+use Rattle.operation.specs.declared.line.LineRead.the-variants.{Skip, Op, Bad}
 
 abbrev pub Reading : Type 0
 Reading = Outcome OpsError (List Operation)

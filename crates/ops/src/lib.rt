@@ -1,78 +1,19 @@
 // Ops text: one operation to a line, read into kinds and operands.
-mod kind;
-mod line;
-mod plain;
-mod word;
-
 use base::min;
-use line::LineRead;
-use line::line_read_at;
 use lines::Step;
 use numbered::Numbered;
 use numbered::carrying_one;
-use numbered::carrying_three;
-use numbered::plain;
+use operation::OpsError;
+use operation::line::LineRead;
+use operation::line::line_read_at;
 ghost use mathlib.Core.Path.{_≡_};
 ghost use mathlib.Core.Bool.{true};
 ghost use Rattle.base.specs.Part.{Part};
-ghost use Rattle.ops.specs.Line.{fromStr};
-ghost use Rattle.ops.specs.Numbers.{opsErrorNumbered, parsedOpsNumbered};
+ghost use Rattle.operation.specs.Line.{fromStr};
+ghost use Rattle.ops.specs.Numbers.{parsedOpsNumbered};
 ghost use Rattle.ops.specs.Ops.{ReadsOps, trimmedLine, trimmedPlace};
 ghost use Rattle.ops.specs.Code.Numbered.{lineNumbered};
 ghost use Rattle.ops.specs.Code.Passes.{NoneRefused, PassOver};
-
-// Lines are counted from 1. Offsets count bytes from 0 in the whole text.
-pub enum OpsError {
-    NotUtf8,
-    BadPush {
-        line: usize,
-        place: usize,
-        len: usize,
-    },
-    BadSlot {
-        line: usize,
-        place: usize,
-        len: usize,
-    },
-    UnknownOp {
-        line: usize,
-        place: usize,
-        len: usize,
-    },
-    BadTarget {
-        line: usize,
-        place: usize,
-        len: usize,
-    },
-    Full {
-        line: usize,
-    },
-    Empty,
-}
-
-impl OpsError {
-    pub fn numbered(self) -> Numbered
-        ensures { λ r. ⌜ r ≡ opsErrorNumbered self ⌝ }
-    {
-        match self {
-            OpsError::NotUtf8 => plain(27),
-            OpsError::BadPush { line, place, len } => {
-                carrying_three(28, line as u64, place as u64, len as u64)
-            }
-            OpsError::BadSlot { line, place, len } => {
-                carrying_three(29, line as u64, place as u64, len as u64)
-            }
-            OpsError::UnknownOp { line, place, len } => {
-                carrying_three(30, line as u64, place as u64, len as u64)
-            }
-            OpsError::BadTarget { line, place, len } => {
-                carrying_three(31, line as u64, place as u64, len as u64)
-            }
-            OpsError::Full { line } => carrying_one(32, line as u64),
-            OpsError::Empty => plain(33),
-        }
-    }
-}
 
 pub enum ParsedOps {
     Read(usize),

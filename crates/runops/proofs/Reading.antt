@@ -5,12 +5,12 @@ use mathlib.Core.Path.{_≡_, refl, sym, ap, ap₂, _∙_}
 use mathlib.Core.List.{List}
 use borrow.Author.Tests.{lt-ltb, le-ltb}
 use lib.ListN.{length, take}
-use Rattle.ops.specs.declared.OpsError.{OpsError}
+use Rattle.operation.specs.declared.OpsError.{OpsError}
 use Rattle.ops.specs.declared.ParsedOps.{ParsedOps}
 use Rattle.ops.specs.declared.ParsedOps.the-variants.{Read, Refused}
 use Rattle.base.specs.Outcome.{is, refused}
 use Rattle.ops.specs.Ops.{Reading, readText, answerOf, opsOf, ReadsOps}
-use Rattle.ops.specs.Numbers.{opsErrorNumbered}
+use Rattle.operation.specs.Errors.{opsErrorNumbered}
 use Rattle.ops.proofs.Front.{Front, read-front}
 use Rattle.runops.specs.declared.report.Report.{Report}
 use Rattle.runops.specs.Report.{refusedWith, zeros, runReport, readingReport, reportOf}

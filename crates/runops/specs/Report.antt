@@ -10,7 +10,7 @@ use Rattle.base.specs.Overwrite.{overwrite}
 use Rattle.decimal.specs.Decimal.{decimal}
 use Rattle.ops.specs.Ops.{Reading, readText, kindsOf, operandsOf}
 use Rattle.base.specs.Outcome.{is, refused}
-use Rattle.ops.specs.Numbers.{opsErrorNumbered}
+use Rattle.operation.specs.Errors.{opsErrorNumbered}
 use Rattle.perform.specs.declared.RunAnswer.{RunAnswer}
 use Rattle.perform.specs.declared.RunAnswer.the-variants.{Success, Refused}
 use Rattle.perform.specs.Call.{Call}

@@ -2,20 +2,17 @@
 use Prim.Native.Nat.{ℕ, _+_}
 use mathlib.Core.Path.{_≡_}
 use mathlib.Core.List.{List}
-use native.Mathlib.Omega.{arith}
-use lib.ListN.{length, drop, length-append}
+use lib.ListN.{length, drop}
 use Rattle.base.specs.Ascii.{ascii}
 use Rattle.base.specs.Lists.{takeWhile}
 use Rattle.search.specs.declared.Found.the-variants.{At, Nothing}
 use Rattle.search.specs.First.{firstAt}
 use Rattle.trim.specs.Trim.{startTrimmed}
 use Rattle.decimal.specs.Decimal.{digit}
-use Rattle.source.specs.Vector.{quoted, ofDigits, vectorNumber}
+use Rattle.key.specs.Key.{quoted}
+use Rattle.source.specs.Vector.{ofDigits, vectorNumber}
 use Rattle.source.specs.declared.vector.KeyError.the-variants.{NoKey, NoColon}
 use Rattle.source.specs.declared.vector.KeyValue.the-variants.{Refused}
-
-pub quoted-length : (key : List ℕ) → length (quoted key) ≡ length key + 2
-quoted-length key = simp length-append (omega arith)
 
 module _ (s key : List ℕ) where
   pub no-key : firstAt (quoted key) s 0 ≡ Nothing → vectorNumber s key ≡ Refused NoKey

@@ -1,6 +1,6 @@
 -- The number that a vector holds for a key. Every search takes the first occurrence; the vector is not read as JSON.
 use Prim.Native.Nat.{ℕ, _+_, _^_}
-use mathlib.Core.List.{List, [], _∷_, _++_}
+use mathlib.Core.List.{List, [], _∷_}
 use mathlib.Core.Bool.{cond}
 use lib.Dec.{ltb}
 use lib.ListN.{length, drop}
@@ -12,14 +12,11 @@ use Rattle.search.specs.First.{firstAt}
 use Rattle.trim.specs.Trim.{startTrimmed}
 use Rattle.decimal.specs.Decimal.{digit, value}
 use Rattle.source.specs.Found.{foundOr}
+use Rattle.key.specs.Key.{quoted}
 use Rattle.source.specs.declared.vector.KeyError.{KeyError}
 use Rattle.source.specs.declared.vector.KeyError.the-variants.{NoKey, NoColon, NoDigit, TooLarge}
 use Rattle.source.specs.declared.vector.KeyValue.{KeyValue}
 use Rattle.source.specs.declared.vector.KeyValue.the-variants.{Is, Refused}
-
--- a key in double quotes
-abbrev pub quoted : List ℕ → List ℕ
-quoted key = ascii "\"" ++ key ++ ascii "\""
 
 -- the number that digits write, where there are any and it is below 2 ^ 64
 abbrev pub ofDigits : List ℕ → KeyValue

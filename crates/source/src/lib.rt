@@ -1,5 +1,4 @@
 // What the assembler reads first: the contract's function, its parameters, and the vector's numbers.
 pub mod function;
-mod key;
 pub mod parameters;
 pub mod vector;

@@ -4,10 +4,10 @@ use mathlib.Core.Path.{_≡_}
 use mathlib.Core.List.{List}
 use mathlib.Core.Bool.{true}
 use lib.ListN.{length}
-use Rattle.contract.specs.declared.check.CheckedContract as Code
+use Rattle.contract.specs.declared.CheckedContract as Code
 use Rattle.numbered.specs.declared.Numbered.{Numbered}
 use Rattle.base.specs.Outcome.{Outcome}
-use Rattle.expression.specs.Tree.{Tree}
+use Rattle.grammar.specs.Tree.{Tree}
 use Rattle.contract.specs.Code.Concluded.{Accepts}
 use Rattle.contract.specs.Output.{stemFits, withStem}
 use Rattle.assembler.specs.declared.AssemblyAnswer.{AssemblyAnswer}

@@ -7,19 +7,19 @@ use lib.ListN.{length}
 use Rattle.source.specs.declared.function.Places.{Places}
 use Rattle.source.specs.declared.function.Function.the-variants.{Found}
 use Rattle.source.specs.Function.{functionOf}
-use Rattle.expression.specs.Tree.{Tree}
+use Rattle.grammar.specs.Tree.{Tree}
 use Rattle.numbered.specs.declared.Numbered.{Numbered}
 use Rattle.base.specs.Outcome.{Outcome, is, refused, andThen}
-use Rattle.contract.specs.declared.check.CheckedContract.{CheckedContract}
-use Rattle.contract.specs.declared.refusal.AssembleError.{AssembleError}
-use Rattle.contract.specs.declared.state.Status.{Status}
-use Rattle.contract.specs.declared.state.Status.the-variants.{Going, Refused}
-use Rattle.contract.specs.declared.state.TableState as Code
-use Rattle.contract.specs.Scope.{Scope}
-use Rattle.contract.specs.Numbers.{assembleErrorNumbered}
-use Rattle.contract.specs.Code.Stored.{refusedAs, nothingYet}
-use Rattle.contract.specs.Code.LastReturn.{lastReturn, placeOf, Standing}
-use Rattle.contract.specs.Code.Held.{LastIs, Represents, Simulates}
+use Rattle.contract.specs.declared.CheckedContract.{CheckedContract}
+use Rattle.scope.specs.declared.refusal.AssembleError.{AssembleError}
+use Rattle.scope.specs.declared.state.Status.{Status}
+use Rattle.scope.specs.declared.state.Status.the-variants.{Going, Refused}
+use Rattle.scope.specs.declared.state.TableState as Code
+use Rattle.scope.specs.Scope.{Scope}
+use Rattle.scope.specs.Numbers.{assembleErrorNumbered}
+use Rattle.scope.specs.Code.Stored.{refusedAs, nothingYet}
+use Rattle.body.specs.Code.LastReturn.{lastReturn, placeOf, Standing}
+use Rattle.scope.specs.Code.Held.{LastIs, Represents, Simulates}
 use Rattle.contract.specs.Assembled.{bodyRead, returned}
 
 -- the contract's body was read, and a is what it has come to

@@ -2,7 +2,7 @@
 use Prim.Native.Nat.{_+_, _-_, _*_}
 use mathlib.Core.Path.{refl, sym, ap, _∙_}
 use native.Mathlib.Omega.{arith}
-use Rattle.expression.specs.Code.Source.{sourcesOf}
+use Rattle.bindings.specs.Code.Source.{sourcesOf}
 use Rattle.writer.proofs.Pieces.{overwrites-length}
 use Rattle.emission.proofs.WrittenBindings.{kept-put, kept-mark, again-fits, again-put}
 use Rattle.emission.proofs.Loop.{Running, running-starts, running-as, factor-past, no-factor, open-room, opened, literal-fits, literal-goes, name-below, name-stands, name-fits, name-goes, turn-ready, turn-room, turn-past, turn-goes, end-fits, end-put, parameter-text, binding-means, binding-text}

@@ -5,10 +5,10 @@ use mathlib.Core.List.{List}
 use lib.ListN.{length, getD, take, drop}
 use lib.Seq.{slice}
 use Rattle.base.specs.Outcome.{is}
-use Rattle.expression.specs.Tree.{Tree}
-use Rattle.expression.specs.Parse.{meaning}
-use Rattle.expression.specs.Code.Source.{Sources, treeOr0, envOf, treeOf, AllInText}
-use Rattle.expression.specs.Code.Texts.{textOf}
+use Rattle.grammar.specs.Tree.{Tree}
+use Rattle.grammar.specs.Parse.{meaning}
+use Rattle.bindings.specs.Code.Source.{Sources, treeOr0, envOf, treeOf, AllInText}
+use Rattle.grammar.specs.Code.Texts.{textOf}
 
 -- from start to end of the text s, among the first count bindings
 module _ (s : List ℕ) (c : Sources) (count start end : ℕ) where

@@ -8,10 +8,10 @@ use Rattle.base.specs.Lists.{all}
 use Rattle.decimal.specs.Decimal.{digit, value}
 use Rattle.token.specs.Token.{tokens}
 use Rattle.token.specs.Code.Places.{tokenAt}
-use Rattle.expression.specs.declared.names.BoundName.{BoundName}
-use Rattle.expression.specs.declared.names.BoundName.the-variants as Found
-use Rattle.expression.specs.Parse.{symbol}
-use Rattle.expression.specs.Code.Table.{found}
+use Rattle.bindings.specs.declared.names.BoundName.{BoundName}
+use Rattle.bindings.specs.declared.names.BoundName.the-variants as Found
+use Rattle.grammar.specs.Parse.{symbol}
+use Rattle.bindings.specs.Code.Table.{found}
 use Rattle.emission.specs.declared.factor.Factor.{Factor}
 use Rattle.emission.specs.declared.factor.Factor.the-variants.{Open, Literal, Name, Nothing}
 use Rattle.emission.specs.declared.factor.FactorAt.{FactorAt}

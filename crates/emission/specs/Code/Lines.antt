@@ -2,9 +2,9 @@
 use Prim.Native.Nat.{ℕ}
 use mathlib.Core.List.{List, [], _∷_, _++_}
 use Rattle.kinds.specs.Kinds.{operation}
-use Rattle.ops.specs.Written.{written}
-use Rattle.expression.specs.Parse.{operator}
-use Rattle.expression.specs.Code.Operator.{operatorOf}
+use Rattle.operation.specs.Written.{written}
+use Rattle.grammar.specs.Parse.{operator}
+use Rattle.grammar.specs.Code.Operator.{operatorOf}
 
 abbrev pub pushText : ℕ → List ℕ
 pushText n = written (operation 0 n)

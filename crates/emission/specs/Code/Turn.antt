@@ -8,8 +8,8 @@ use lib.ListN.{length, take, drop}
 use Rattle.base.specs.Code.Stack.{stackOf}
 use Rattle.token.specs.Token.{tokens}
 use Rattle.token.specs.Code.Places.{tokenAt, first}
-use Rattle.expression.specs.Grammar.{levels}
-use Rattle.expression.specs.Parse.{symbol}
+use Rattle.grammar.specs.Grammar.{levels}
+use Rattle.grammar.specs.Parse.{symbol}
 use Rattle.writer.specs.Code.Overwrites.{Overwrites}
 use Rattle.emission.specs.Code.Lines.{operatorsText}
 use Rattle.emission.specs.declared.operator.Turn.{Turn}

@@ -5,8 +5,8 @@ use mathlib.Core.List.{List, [], _∷_}
 use mathlib.Core.Bool.{true, false, cond}
 use lib.Dec.{leb}
 use Rattle.base.specs.Code.Stack.{stackOf}
-use Rattle.expression.specs.Grammar.{levels, term, expression, depth}
-use Rattle.expression.specs.Parse.{isOperatorAt}
+use Rattle.grammar.specs.Grammar.{levels, term, expression, depth}
+use Rattle.grammar.specs.Parse.{isOperatorAt}
 use Rattle.writer.specs.Code.Overwrites.{Overwrites}
 use Rattle.emission.specs.Code.Lines.{operatorsText}
 use Rattle.emission.specs.declared.waiting.Popped.{Popped}

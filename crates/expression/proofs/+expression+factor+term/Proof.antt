@@ -3,8 +3,8 @@ use Prim.Native.Nat.{ℕ, suc, _+_, _-_, _*_, _<_}
 use mathlib.Core.Path.{_≡_, refl, sym, ap, subst, _∙_}
 use native.Mathlib.Omega.{arith}
 use lib.ListN.{length}
-use Rattle.expression.specs.Parse.{symbol}
-use Rattle.expression.specs.Code.Table.{columnsOf}
+use Rattle.grammar.specs.Parse.{symbol}
+use Rattle.bindings.specs.Code.Table.{columnsOf}
 use Rattle.expression.specs.Code.Parts.{signAt, AllFit}
 use Rattle.token.proofs.Tokens.{Next, tokenFrom}
 use Rattle.expression.proofs.Signs.{none-of, next-of}
@@ -23,7 +23,7 @@ use Rattle.expression.proofs.term.Reads as term
 use Rattle.expression.proofs.term.Kinds as term-kinds
 use Rattle.expression.proofs.+expression+factor+term.Lts-term as term-lts
 use Rattle.expression.proofs.operands.close.Reads as close-reads
-use Rattle.expression.proofs.joining.join.Reads as join-reads
+use Rattle.figures.proofs.joining.join.Reads as join-reads
 use Rattle.expression.proofs.parts.is_product.Reads as is-product-reads
 use Rattle.expression.proofs.parts.is_sum.Reads as is-sum-reads
 use Rattle.expression.proofs.operands.literal.Reads as literal-reads

@@ -3,7 +3,7 @@ use mathlib.Core.Path.{refl, sym, subst, _∙_}
 use native.Mathlib.Omega.{arith}
 use borrow.Author.Tests.{not-true, not-false}
 use Rattle.expression.specs.declared.ParseResult.{ParseResult}
-use Rattle.expression.specs.Code.Table.{columns}
+use Rattle.bindings.specs.Code.Table.{columns}
 use Rattle.expression.specs.Code.Answers.{Answers}
 use Rattle.expression.proofs.Reading.{carry}
 use Rattle.expression.proofs.Meaning.{not-allowed, refused-answers, done-answers}

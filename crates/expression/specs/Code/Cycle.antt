@@ -4,26 +4,16 @@ use mathlib.Core.Path.{_≡_}
 use mathlib.Core.List.{List}
 use mathlib.Core.Bool.{false}
 use lib.ListN.{length, getD, drop}
-use Rattle.base.specs.Outcome.{is, refused}
-use Rattle.numbered.specs.declared.Numbered.{Numbered}
 use Rattle.token.specs.Token.{space, tokens}
-use Rattle.expression.specs.declared.figures.Figures.{Figures}
+use Rattle.figures.specs.declared.Figures.{Figures}
 use Rattle.expression.specs.declared.ParseResult.{ParseResult}
 use Rattle.expression.specs.declared.ParseResult.the-variants.{Done, Refused}
-use Rattle.expression.specs.Tree.{Tree}
-use Rattle.expression.specs.Parse.{Env, parseF, enough}
+use Rattle.grammar.specs.Tree.{Tree}
+use Rattle.grammar.specs.Parse.{Env}
+use Rattle.grammar.specs.Code.Reads.{Reads, Refuses}
 use Rattle.expression.specs.Answer.{exprErrorNumbered}
-use Rattle.expression.specs.Code.Table.{Columns, TableFor}
-use Rattle.expression.specs.Code.Figures.{FiguresOf}
-
-module _ (env : Env) (l d : ℕ) (ts : List (List ℕ)) where
-  -- the parser reads the tree t and leaves rest, with every fuel that is enough
-  pub record Reads (t : Tree) (rest : List (List ℕ)) : Type 0 where
-    pub fewer : length rest < length ts
-    pub same : (f : ℕ) → enough l ts ≤ f → parseF f l env d ts ≡ is (t, rest)
-
-  pub record Refuses (r : Numbered) : Type 0 where
-    pub same : (f : ℕ) → enough l ts ≤ f → parseF f l env d ts ≡ refused r
+use Rattle.bindings.specs.Code.Table.{Columns, TableFor}
+use Rattle.figures.specs.Code.Figures.{FiguresOf}
 
 -- what is read ends within the text, with a byte of a token; the bounds exclude that a sum overflows
 pub record ReadWithin (s : List ℕ) (at : ℕ) (v : Figures) : Type 0 where

@@ -7,17 +7,17 @@ use lib.ListN.{length, drop}
 use Rattle.decimal.specs.Decimal.{value, decimal}
 use Rattle.token.specs.Token.{tokens}
 use Rattle.token.specs.Code.Places.{first, tokenAt}
-use Rattle.expression.specs.declared.figures.Figures.{Figures}
-use Rattle.expression.specs.declared.figures.TreeValue.{TreeValue}
-use Rattle.expression.specs.declared.figures.TreeValue.the-variants.{Is, None}
-use Rattle.expression.specs.declared.names.BoundName.{BoundName}
-use Rattle.expression.specs.declared.names.BoundName.the-variants.{At, Nothing}
+use Rattle.figures.specs.declared.Figures.{Figures}
+use Rattle.figures.specs.declared.TreeValue.{TreeValue}
+use Rattle.figures.specs.declared.TreeValue.the-variants.{Is, None}
+use Rattle.bindings.specs.declared.names.BoundName.{BoundName}
+use Rattle.bindings.specs.declared.names.BoundName.the-variants.{At, Nothing}
 use Rattle.expression.specs.declared.parts.Sign.{Sign}
 use Rattle.expression.specs.declared.ExprError.the-variants.{UnexpectedEnd, UnbalancedParenthesis, InvalidLiteral, UnknownIdentifier, UnconsumedTokens}
 use Rattle.expression.specs.declared.ParseResult.{ParseResult}
 use Rattle.expression.specs.declared.ParseResult.the-variants.{Done, Refused}
-use Rattle.expression.specs.Parse.{symbol}
-use Rattle.expression.specs.Code.Table.{Columns, Entry, entryAt}
+use Rattle.grammar.specs.Parse.{symbol}
+use Rattle.bindings.specs.Code.Table.{Columns, Entry, entryAt}
 
 -- the token at or after an offset as a sign
 abbrev pub signAt : List ℕ → ℕ → Sign

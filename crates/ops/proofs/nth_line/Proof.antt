@@ -11,7 +11,8 @@ use Rattle.lines.specs.declared.Line.{Line}
 use Rattle.lines.proofs.Cursor.{line-done}
 use Rattle.ops.specs.Ops.{startOf}
 use Rattle.ops.specs.Code.Numbered.{lineNumbered}
-use Rattle.ops.proofs.LineStarts.{is-from, is-past, one-further, no-number, numbered}
+use Rattle.ops.proofs.LineStarts.{one-further, no-number, numbered}
+use Rattle.lines.proofs.LineAt.{is-from, is-past}
 use borrow.Author.Needs.{needs}
 use Rattle.ops.proofs.nth_line.Statement.{statement}
 use Rattle.ops.proofs.nth_line.Tie as tie

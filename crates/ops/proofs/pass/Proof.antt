@@ -4,7 +4,7 @@ use Prim.Native.Nat.{_-_}
 use native.Mathlib.Omega.{arith}
 use lib.ListN.{length}
 use denote.Ref.{now}
-use Rattle.ops.specs.Line.{fromStr}
+use Rattle.operation.specs.Line.{fromStr}
 use Rattle.ops.proofs.FirstPass.{onwards, moved}
 use Rattle.ops.proofs.SecondPass.{room-kinds, room-operands}
 use Rattle.ops.proofs.PassLine.{Passing, pass-first, pass-empty, pass-some, pass-skip, pass-bad, pass-full, pass-left, pass-written}

@@ -4,7 +4,7 @@ use Prim.Native.Nat.{_-_}
 use mathlib.Core.Path.{sym, ap, _∙_}
 use lib.ListN.{take, drop}
 use Rattle.expression.specs.declared.ParseResult.the-variants.{Done}
-use Rattle.expression.proofs.Lookup.{found-below}
+use Rattle.bindings.proofs.Lookup.{found-below}
 use borrow.Author.Needs.{needs}
 use Rattle.expression.proofs.operands.name.Statement.{statement}
 use Rattle.expression.proofs.operands.name.Tie as tie

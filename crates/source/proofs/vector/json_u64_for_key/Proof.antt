@@ -12,10 +12,12 @@ use Rattle.search.specs.declared.Found.the-variants.{At}
 use Rattle.search.specs.First.{firstAt}
 use Rattle.trim.specs.Trim.{startTrimmed}
 use Rattle.decimal.specs.Decimal.{digit}
-use Rattle.source.specs.Vector.{quoted, ofDigits, keyValueNumbered}
+use Rattle.key.specs.Key.{quoted}
+use Rattle.source.specs.Vector.{ofDigits, keyValueNumbered}
 use Rattle.source.proofs.Found.{in-text}
 use Rattle.source.proofs.Numbers.{with-number}
-use Rattle.source.proofs.Keys.{quoted-length, no-key, no-colon, number-behind}
+use Rattle.key.proofs.Quoted.{quoted-length}
+use Rattle.source.proofs.Keys.{no-key, no-colon, number-behind}
 use borrow.Author.Needs.{needs}
 use Rattle.source.proofs.vector.json_u64_for_key.Statement.{statement}
 use Rattle.source.proofs.vector.json_u64_for_key.Tie as tie

@@ -1,7 +1,0 @@
--- The operation of an operator.
-use Rattle.word.specs.Apply.{Binary}
-use Rattle.kinds.specs.Kinds.{Operation, operation}
-use Rattle.expression.specs.Written.{kindNumber}
-
-abbrev pub operatorOf : Binary → Operation
-operatorOf op = operation (kindNumber op) 0

@@ -1,0 +1,4 @@
+pub mod Steps
+pub mod Grammar
+pub mod Written
+pub mod Examples

@@ -1,0 +1,6 @@
+pub mod Tree
+pub mod Environment
+pub mod Grammar
+pub mod Parse
+pub mod Written
+pub mod Code

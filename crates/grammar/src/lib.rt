@@ -1,0 +1,1 @@
+// What an expression means: its grammar and its parser, which are one; there is no code.

@@ -1,0 +1,2 @@
+pub mod Quoted
+pub mod Quotes

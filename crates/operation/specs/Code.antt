@@ -1,0 +1,3 @@
+pub mod Fast
+pub mod FirstByte
+pub mod Rules

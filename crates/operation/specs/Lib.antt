@@ -1,0 +1,5 @@
+pub mod Code
+pub mod Errors
+pub mod Kinds
+pub mod Line
+pub mod Written

@@ -1,0 +1,6 @@
+pub mod Stored
+pub mod Tables
+pub mod Sources
+pub mod Simulation
+pub mod Loops
+pub mod ParameterSteps

@@ -1,0 +1,5 @@
+pub mod Part
+pub mod Scope
+pub mod Parameters
+pub mod Numbers
+pub mod Code
