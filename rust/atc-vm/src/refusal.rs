@@ -113,3 +113,8 @@ pub fn atc_refusal_text(number: u64) -> Option<&'static str> {
     }
     refusal(number).map(|refusal| refusal.text)
 }
+
+// The words of an error, which has a number of the table.
+pub(crate) fn text(number: u64) -> &'static str {
+    atc_refusal_text(number).unwrap_or_default()
+}
