@@ -3,8 +3,9 @@
  *
  * `rt staticlib atc_vm` proves crates/atc_vm and writes target/staticlib/libatc_vm.a, for x86-64. For every input that
  * keeps what is asked below, the number, the answer and the contents of every buffer are proved to be those of document
- * 01; the contracts stand in crates/atc_vm/src/lib.rt. A test, rust/atc-vm/tests/header.rs, holds these declarations
- * to the functions there. rust/atc-vm/tests/abi.c is an example: a contract assembled, read and run.
+ * 01; the contracts stand in crates/atc_vm/src/lib.rt. Tests of rust/atc-vm hold these declarations to the functions
+ * there (tests/header.rs) and the refusals to the definitions (tests/refusals.rs). rust/atc-vm/tests/abi.c is an
+ * example: a contract assembled, read and run.
  *
  * RESULT AND ANSWER. Every function returns a number: 0 for success, or a refusal of document 01. `answer` points to
  * eight words. A function that takes it writes all eight on every call, whatever it returns: the values that the

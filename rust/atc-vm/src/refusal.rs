@@ -1,6 +1,6 @@
 //! The refusals of document 01: number, name, words, and what an answer carries.
 //!
-//! This table is that of `include/atc_vm.h`; tests/header.rs holds the two to each other, and the numbers to the
+//! This table is that of `include/atc_vm.h`; tests/refusals.rs holds the two to each other, and the numbers to the
 //! definitions in crates/.
 
 /// A refusal of document 01.
@@ -28,9 +28,9 @@ macro_rules! refusals {
     };
 }
 
-// Key's place: 0 for `expected`, n for the contract's n-th parameter. Lines of 12 to 20 count from 1, the first being the
-// one that the body's `{` stands on; those of 28 to 32 are the text's. Place and length are in bytes of the text. 50
-// carries 2^64 - 1 for slot 2^64 - 1.
+// Key's place: 0 for `expected`, n for the contract's n-th parameter. Lines of 12 to 20 count from 1, the first being
+// the one that the body's `{` stands on; those of 28 to 32 are the text's. Place and length are in bytes of the text.
+// 50 carries 2^64 - 1 for slot 2^64 - 1.
 refusals! {
      1 ATC_BAD_CONTRACT "the contract exceeds 65,536 bytes or isn't UTF-8" []
      2 ATC_BAD_VECTOR "the vector exceeds 65,536 bytes or isn't UTF-8" []
