@@ -65,9 +65,8 @@ static void names(void) {
     char version[64];
     sprintf(version, "%d.%d.%d", ATC_VM_VERSION_MAJOR, ATC_VM_VERSION_MINOR, ATC_VM_VERSION_PATCH);
     EXPECT("name", ATC_OUT_OF_GAS, 46);
-    EXPECT("last name", ATC_OUTSIDE_STORAGE, 51);
     EXPECT("words", strcmp(text_of(46), "the price exceeds the gas left"), 0);
-    EXPECT("no words", strcmp(text_of(52), "no number of document 01"), 0);
+    EXPECT("no words", strcmp(text_of(999), "no number of document 01"), 0);
     EXPECT("version", strcmp(version, ATC_VM_VERSION), 0);
 }
 
