@@ -28,7 +28,7 @@ mod trace;
 mod walk;
 
 use args::{Arguments, Asked, Name};
-use failure::{Failure, Refused};
+use failure::Failure;
 use json::Json;
 use message::{notes_json, Message};
 use paint::Paint;
@@ -78,14 +78,13 @@ fn fail(failure: Failure) -> u8 {
             FAULT
         }
         Failure::Marked(message) => {
-            complain_all(&[*message]);
+            complain_all([&*message]);
             FAULT
         }
         Failure::ClosedPipe => 0,
         Failure::Refused(refused, notes) => {
             complain_all(&notes);
-            let Refused { message, .. } = *refused;
-            complain_all(&[message]);
+            complain_all([&refused.message]);
             1
         }
         Failure::Bug(sentence) => {
@@ -98,7 +97,7 @@ fn fail(failure: Failure) -> u8 {
 }
 
 /// Messages to standard error.
-fn complain_all(messages: &[Message]) {
+fn complain_all<'a>(messages: impl IntoIterator<Item = &'a Message>) {
     let paint = Paint::on(&io::stderr());
     for message in messages {
         files::complain(&message.shown(paint));
