@@ -206,3 +206,133 @@ pub const CAUSES: [Cause; 51] = [
         Words("`Push 1`, `Store 4` on a storage_len of 4"),
     ),
 ];
+
+#[cfg(test)]
+mod tests {
+    use super::*;
+    use atc_vm::sys::{self, Gate, Run};
+    use atc_vm::{assemble_text, parse_ops_bytes, Op, Vm, REFUSALS};
+
+    fn assembled(rule: impl AsRef<[u8]>, vector: impl AsRef<[u8]>) -> u64 {
+        assemble_text(rule, vector, "x").map_or_else(|error| error.number(), |_| 0)
+    }
+
+    fn run(ops: &[u8], gas: u64, slots: usize) -> u64 {
+        let ops = match parse_ops_bytes(ops) {
+            Ok(ops) => ops,
+            Err(error) => return error.number(),
+        };
+        let mut vm = Vm::with_context(ops, 7, vec![0; slots]);
+        vm.run_with_gas(gas)
+            .map_or_else(|error| error.number(), |_| 0)
+    }
+
+    fn gas(options: &str) -> u64 {
+        match options.strip_prefix("--gas ") {
+            Some(gas) => gas.parse().unwrap(),
+            None if options.is_empty() => crate::setting::GAS,
+            None => panic!("{options}"),
+        }
+    }
+
+    #[test]
+    fn examples_are_refused_so() {
+        for (refusal, Cause { example, .. }) in REFUSALS.iter().zip(&CAUSES) {
+            let number = match *example {
+                Rule(rule, vector) => assembled(rule, vector),
+                Ops(ops, options) => run(ops.as_bytes(), gas(options), 0),
+                Words(_) => in_words(refusal.number),
+            };
+            assert_eq!(number, refusal.number);
+        }
+    }
+
+    // What the examples in words say.
+    fn in_words(number: u64) -> u64 {
+        let (rule, vector) = ("fn f () {\n  return 1\n}", "{\"expected\": 1}");
+        let body = |body: String| assembled(format!("fn f () {{\n{body}\nreturn 1\n}}"), vector);
+        match number {
+            1 => assembled(b"\xff\xfef\0n\0", vector),
+            2 => assembled(rule, " ".repeat(65_537)),
+            18 => body(format!("return {}1{}", "(".repeat(65), ")".repeat(65))),
+            20 => body(format!("let a = 1\n{}", "let a = a + a\n".repeat(16))),
+            21 => body("let a = 1\n".repeat(257)),
+            25 => assemble_text(rule, vector, "new\ncyl")
+                .unwrap_err()
+                .number(),
+            26 => sys::assemble(rule.as_bytes(), vector.as_bytes(), b"x", &mut []).number,
+            27 => run(b"\xff\xfeH\0", 0, 0),
+            32 => sys::parse_ops(b"Halt", &mut [], &mut [0]).number,
+            34 => lent(&[15], &[0], 4_095, 0),
+            35..=40 => gated(number),
+            41 => lent(&[], &[], 4_096, 0),
+            42 => run("Halt\n".repeat(65_537).as_bytes(), 0, 0),
+            43 => run(b"Halt", 0, 65_537),
+            44 => sys::verify(&[16], &[0], 0).number,
+            51 => lent(&[0, 12], &[1, 4], 4_096, 4),
+            other => panic!("no words for {other}"),
+        }
+    }
+
+    fn lent(kinds: &[u8], operands: &[u64], stack: usize, slots: usize) -> u64 {
+        let run = Run {
+            kinds,
+            operands,
+            caller: 7,
+            stack: &mut vec![0; stack],
+            work: &mut vec![0; slots],
+            storage: &mut vec![0; slots],
+            used: 0,
+        };
+        sys::run_with_gas(run, 1_000).number
+    }
+
+    fn gated(number: u64) -> u64 {
+        let (small, capital) = ("a".repeat(64), "A".repeat(64));
+        let of = |wrong: u64, bad: &'static str, good: &'static str| {
+            if number == wrong {
+                bad
+            } else {
+                good
+            }
+        };
+        sys::execution_gate(Gate {
+            chain_id: of(35, "btc", "atc").as_bytes(),
+            network_id: of(36, "Mainnet", "mainnet").as_bytes(),
+            genesis_id: match number {
+                37 => &small.as_bytes()[1..],
+                40 => capital.as_bytes(),
+                _ => small.as_bytes(),
+            },
+            protocol_version: b"1",
+            vm_version: b"1",
+            computed_genesis_id: small.as_bytes(),
+            expected_protocol: of(38, "2", "1").as_bytes(),
+            expected_vm: of(39, "2", "1").as_bytes(),
+        })
+    }
+
+    // What the causes say beside.
+    #[test]
+    fn causes_are_true() {
+        let vector = "{\"expected\": 1, \"a\": 1}";
+        assert_eq!(assembled("fn\tf () {\n return 1\n}", vector), 3);
+        assert_eq!(
+            assembled("fn f (a) {\n let b\n = a\n return 1\n}", vector),
+            12
+        );
+        assert_eq!(assembled("fn f (a) {\n return (a\n}", vector), 14);
+        assert_eq!(assembled("fn f (a) {\n return a // so\n}", vector), 17);
+        assert_eq!(assembled("fn f (a) {\n return a + + a\n}", vector), 17);
+        assert_eq!(assembled("fn f (a) {\n return a)\n}", vector), 19);
+        assert_eq!(
+            assembled("fn f (b) {\n return b\n}", "{\"expected\": 1, \"b\": null}"),
+            10
+        );
+        assert_eq!(assembled("fn f (a) {\n return a - 2\n}", vector), 24);
+        assert_eq!(run(b"Push 1\nAdd extra", 9, 0), 30);
+        assert_eq!(run(b"Store =5", 9, 0), 29);
+        let ops = vec![Op::Push(4), Op::Push(0), Op::Swap, Op::Div];
+        assert_eq!(Vm::new(ops).run_with_gas(9), Ok(vec![0]));
+    }
+}

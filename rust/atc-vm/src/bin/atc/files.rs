@@ -69,9 +69,7 @@ pub fn not_too_long(source: &Source) -> Result<(), Failure> {
 /// a device or a pipe, is written directly.
 pub fn write(path: &OsStr, text: &str) -> Result<(), Failure> {
     let written = match fs::metadata(path) {
-        Ok(there) if there.is_dir() => {
-            Err(io::Error::new(io::ErrorKind::Other, "it is a directory"))
-        }
+        Ok(there) if there.is_dir() => Err(io::Error::other("it is a directory")),
         Ok(there) if !there.is_file() => OpenOptions::new()
             .write(true)
             .open(path)

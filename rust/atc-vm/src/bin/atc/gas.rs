@@ -58,7 +58,7 @@ pub fn gas(arguments: &Arguments) -> Result<u8, Failure> {
     }
     complain_all(&program.notes);
     let told = files::tell(&text(figures.as_ref(), &whole, &setting), status);
-    complain_all(refused.map(|refused| refused.message).as_slice());
+    complain_all(refused.iter().map(|refused| &refused.message));
     told
 }
 

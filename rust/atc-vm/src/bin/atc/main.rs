@@ -7,7 +7,9 @@ mod ask;
 mod assemble;
 mod blame;
 mod causes;
+mod contract;
 mod explain;
+mod expression;
 mod failure;
 mod files;
 mod gas;
@@ -20,15 +22,17 @@ mod nearest;
 mod paint;
 mod place;
 mod program;
+mod reading;
 mod report;
 mod run;
 mod setting;
 mod step;
 mod trace;
+mod vector;
 mod walk;
 
 use args::{Arguments, Asked, Name};
-use failure::{Failure, Refused};
+use failure::Failure;
 use json::Json;
 use message::{notes_json, Message};
 use paint::Paint;
@@ -78,14 +82,13 @@ fn fail(failure: Failure) -> u8 {
             FAULT
         }
         Failure::Marked(message) => {
-            complain_all(&[*message]);
+            complain_all([&*message]);
             FAULT
         }
         Failure::ClosedPipe => 0,
         Failure::Refused(refused, notes) => {
             complain_all(&notes);
-            let Refused { message, .. } = *refused;
-            complain_all(&[message]);
+            complain_all([&refused.message]);
             1
         }
         Failure::Bug(sentence) => {
@@ -98,7 +101,7 @@ fn fail(failure: Failure) -> u8 {
 }
 
 /// Messages to standard error.
-fn complain_all(messages: &[Message]) {
+fn complain_all<'a>(messages: impl IntoIterator<Item = &'a Message>) {
     let paint = Paint::on(&io::stderr());
     for message in messages {
         files::complain(&message.shown(paint));

@@ -1,12 +1,16 @@
 //! The program to run: read from an ops file, or assembled from a rule and its vector.
 
 use crate::args::Arguments;
-use crate::blame::{self, Blame};
+use crate::ask;
+use crate::blame::Blame;
+use crate::contract;
 use crate::failure::{Failure, Refused};
 use crate::files::{self, Source};
 use crate::layout::trimmed;
 use crate::message::Message;
-use atc_vm::{assemble_text, parse_ops_bytes, sys, Assembled, Op, Vm, VmError};
+use crate::reading::unread;
+use crate::vector::cut_numbers;
+use atc_vm::{assemble_text, parse_ops_bytes, Assembled, Op, Vm, VmError};
 use std::ffi::OsStr;
 use std::ops::Range;
 use std::path::Path;
@@ -24,7 +28,7 @@ pub fn assemble(rule: &OsStr, vector: &OsStr) -> Result<Rule, Failure> {
     let stem = Path::new(rule).file_stem().unwrap_or_default();
     let (rule, vector) = (files::read(rule)?, files::read(vector)?);
     let assembled = assemble_text(&rule.bytes, &vector.bytes, stem.as_encoded_bytes());
-    let notes = blame::cut_numbers(&rule, &vector);
+    let notes = cut_numbers(&rule, &vector);
     match assembled {
         Ok(assembled) => Ok(Rule {
             rule,
@@ -33,7 +37,7 @@ pub fn assemble(rule: &OsStr, vector: &OsStr) -> Result<Rule, Failure> {
             notes,
         }),
         Err(error) => {
-            let refused = blame::assembly(&error, &rule, &vector, stem);
+            let refused = contract::refused(&error, &rule, &vector, stem);
             Err(Failure::Refused(Box::new(refused), notes))
         }
     }
@@ -85,89 +89,6 @@ fn of_source(source: Source) -> Result<Program, Failure> {
     }
 }
 
-// 27 to 33, with the place that the answer carries.
-fn unread(number: u64, source: &Source) -> Refused {
-    let room = 1 + source.bytes.iter().filter(|byte| **byte == b'\n').count();
-    let answer = sys::parse_ops(&source.bytes, &mut vec![0; room], &mut vec![0; room]);
-    let [line, place, length, ..] = answer.words;
-    let span = place as usize..(place + length) as usize;
-    let blame = match number {
-        27 => return blame::not_utf8(source).refused(27, vec![]),
-        33 => {
-            let blame = Blame::at(
-                source,
-                0..0,
-                "From here on there are but empty lines and remarks.",
-            );
-            return blame.refused(33, vec![]);
-        }
-        30 => no_operation(source, span),
-        _ => no_number(source, span),
-    };
-    blame.refused(number, vec![line, place, length])
-}
-
-fn no_operation(source: &Source, span: Range<usize>) -> Blame<'_> {
-    let line = &source.text[span.clone()];
-    let word = line.split_whitespace().next().unwrap_or(line);
-    let shown = crate::place::quoted(line);
-    let blame = Blame::at(source, span, format!("{shown} is no operation."));
-    if line.starts_with("fn ") || line.starts_with("let ") || line.starts_with("return ") {
-        return blame.help("One file is read as operations. A rule needs its vector beside it.");
-    }
-    // The reader knows an operation by itself or with a number behind it.
-    let reads = |text: String| parse_ops_bytes(text.as_bytes()).is_ok();
-    if reads(format!("{word} 0")) {
-        return blame.help(format!("`{word}` is followed by one space and a number."));
-    }
-    if reads(word.to_string()) {
-        return blame.help(format!(
-            "`{word}` stands alone on its line; a remark has a line of its own, with `#`."
-        ));
-    }
-    const WORDS: [&str; 16] = [
-        "Push",
-        "Add",
-        "Sub",
-        "Mul",
-        "Div",
-        "Dup",
-        "Swap",
-        "Jump",
-        "JumpIfNotZero",
-        "Eq",
-        "Lt",
-        "Load",
-        "Store",
-        "Caller",
-        "JumpIfZero",
-        "Halt",
-    ];
-    let like = WORDS
-        .into_iter()
-        .find(|known| known.eq_ignore_ascii_case(word));
-    match like.or_else(|| crate::nearest::nearest(word, WORDS.into_iter())) {
-        Some(known) => blame.help(format!("Is `{known}` meant?")),
-        None => blame,
-    }
-}
-
-fn no_number(source: &Source, span: Range<usize>) -> Blame<'_> {
-    let part = &source.text[span.clone()];
-    let digits = part.strip_prefix('+').unwrap_or(part);
-    let all = !digits.is_empty() && digits.bytes().all(|byte| byte.is_ascii_digit());
-    let why = if all {
-        format!("exceeds {}", u64::MAX)
-    } else {
-        format!("is no number from 0 to {}", u64::MAX)
-    };
-    Blame::at(
-        source,
-        span,
-        format!("{} {why}.", crate::place::quoted(part)),
-    )
-}
-
 impl Program {
     /// Where the operation at a position stands in the text.
     pub fn span(&self, position: usize) -> Range<usize> {
@@ -207,7 +128,7 @@ impl Program {
             ops[i + 1..].fill(Op::Halt);
             Vm::new(ops).verify().is_err()
         };
-        let Some(position) = crate::ask::first(length, refused) else {
+        let Some(position) = ask::first(length, refused) else {
             return Blame::nowhere("");
         };
         let label = format!(

@@ -40,6 +40,6 @@ pub fn run(arguments: &Arguments) -> Result<u8, Failure> {
     }
     complain_all(&program.notes);
     let told = files::tell(&report.text(Paint::on(&io::stdout())), status);
-    complain_all(report.refused().map(|refused| refused.message).as_slice());
+    complain_all(report.refused().iter().map(|refused| &refused.message));
     told
 }

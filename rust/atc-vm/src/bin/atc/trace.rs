@@ -45,7 +45,7 @@ pub fn trace(arguments: &Arguments) -> Result<u8, Failure> {
     };
     let written = out.write_all(rest.as_bytes()).and_then(|()| out.flush());
     if !arguments.json {
-        complain_all(report.refused().map(|refused| refused.message).as_slice());
+        complain_all(report.refused().iter().map(|refused| &refused.message));
     }
     match written.map_err(Failure::output) {
         Ok(()) | Err(Failure::ClosedPipe) => Ok(report.status()),
