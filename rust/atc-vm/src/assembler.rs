@@ -1,6 +1,6 @@
 //! The assembler of contract texts.
 
-use crate::sys;
+use crate::{refusal, sys};
 use std::fmt;
 use std::fs::{self, File};
 use std::io::{self, Read};
@@ -150,7 +150,7 @@ impl AssembleError {
             23 => AssembleError::NoValue,
             24 => AssembleError::NotExpected,
             25 => AssembleError::BadStem,
-            // Proved: crates/assembly/proofs/Bounds.antt, `never-26`.
+            // Proved: crates/assembler/proofs/Bounds.antt, `never-26`.
             number => unreachable!("the assembler gives 1 to 25 where it has room, not {number}"),
         }
     }
@@ -158,71 +158,28 @@ impl AssembleError {
 
 impl fmt::Display for AssembleError {
     fn fmt(&self, f: &mut fmt::Formatter<'_>) -> fmt::Result {
+        let text = refusal::text(self.number());
         let named = |key: &u64| match key {
             0 => "the key `expected`".to_string(),
             n => format!("the key of parameter {n}"),
         };
         match self {
-            AssembleError::BadContract => {
-                write!(f, "the contract exceeds {MAX_TEXT} bytes or isn't UTF-8")
-            }
-            AssembleError::BadVector => {
-                write!(f, "the vector exceeds {MAX_TEXT} bytes or isn't UTF-8")
-            }
-            AssembleError::NoFunction => f.write_str("the contract has no `fn `"),
-            AssembleError::NoParameters => f.write_str("no `(` follows `fn `"),
-            AssembleError::UnclosedParameters => f.write_str("no `)` follows the parameters"),
-            AssembleError::NoBody => f.write_str("no `{` follows the parameters"),
-            AssembleError::UnclosedBody => f.write_str("no `}` follows the body"),
             AssembleError::NoKey { key } => write!(f, "{} is absent from the vector", named(key)),
             AssembleError::NoColon { key } => write!(f, "no `:` follows {}", named(key)),
             AssembleError::NoDigit { key } => write!(f, "no digit follows {}", named(key)),
             AssembleError::ValueTooLarge { key } => {
-                write!(f, "the value of {} exceeds 64 bits", named(key))
+                write!(f, "the value of {} exceeds 2^64 - 1", named(key))
             }
-            AssembleError::NoEquals { line } => {
-                write!(f, "line {line} of the body: `let` without `=`")
-            }
-            AssembleError::InvalidCharacter { line } => {
-                write!(f, "line {line} of the body: a character is in no token")
-            }
-            AssembleError::UnexpectedEnd { line } => {
-                write!(f, "line {line} of the body: the expression ends too early")
-            }
-            AssembleError::UnbalancedParenthesis { line } => {
-                write!(
-                    f,
-                    "line {line} of the body: another token is where `)` is due"
-                )
-            }
-            AssembleError::InvalidLiteral { line } => {
-                write!(f, "line {line} of the body: a literal exceeds 64 bits")
-            }
-            AssembleError::UnknownIdentifier { line } => {
-                write!(
-                    f,
-                    "line {line} of the body: a token is no `(`, literal or bound name"
-                )
-            }
-            AssembleError::TooDeep { line } => {
-                write!(f, "line {line} of the body: a 65th parenthesis is open")
-            }
-            AssembleError::UnconsumedTokens { line } => {
-                write!(f, "line {line} of the body: tokens are left over")
-            }
-            AssembleError::TooLong { line } => {
-                write!(
-                    f,
-                    "line {line} of the body: the expression pushes more than 32,768 numbers"
-                )
-            }
-            AssembleError::TooManyBindings => f.write_str("a 257th binding is made"),
-            AssembleError::NoReturn => f.write_str("no `return ` line stands in the body"),
-            AssembleError::NoValue => f.write_str("the return value divides by 0"),
-            AssembleError::NotExpected => f.write_str("the return value differs from `expected`"),
-            AssembleError::BadStem => {
-                f.write_str("the stem is empty, over 255 bytes, not UTF-8 or holds a line feed")
-            }
+            AssembleError::NoEquals { line }
+            | AssembleError::InvalidCharacter { line }
+            | AssembleError::UnexpectedEnd { line }
+            | AssembleError::UnbalancedParenthesis { line }
+            | AssembleError::InvalidLiteral { line }
+            | AssembleError::UnknownIdentifier { line }
+            | AssembleError::TooDeep { line }
+            | AssembleError::UnconsumedTokens { line }
+            | AssembleError::TooLong { line } => write!(f, "line {line} of the body: {text}"),
+            _ => f.write_str(text),
         }
     }
 }

@@ -1,6 +1,6 @@
 //! The chain context and its gate.
 
-use crate::sys;
+use crate::{refusal, sys};
 use std::fmt;
 
 /// The one chain id that passes the gate.
@@ -68,14 +68,7 @@ impl ContextError {
 
 impl fmt::Display for ContextError {
     fn fmt(&self, f: &mut fmt::Formatter<'_>) -> fmt::Result {
-        f.write_str(match self {
-            ContextError::InvalidChainId => "the chain id isn't `atc`",
-            ContextError::InvalidNetworkId => "the network isn't `devnet`, `testnet` or `mainnet`",
-            ContextError::InvalidGenesisId => "the genesis id isn't 64 ASCII hex digits",
-            ContextError::ProtocolMismatch => "the protocol differs from the expected one",
-            ContextError::VmMismatch => "the VM version differs from the expected one",
-            ContextError::GenesisMismatch => "the genesis id differs from the computed one",
-        })
+        f.write_str(refusal::text(self.number()))
     }
 }
 

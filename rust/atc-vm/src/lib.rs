@@ -29,8 +29,8 @@
 //!
 //! # Refusals
 //!
-//! Each error has a method `number`, which gives the number of the refusal in document 01; the table stands in
-//! `include/atc_vm.h`. The ones that come from lent memory (26, 32, 34, 51) never reach a caller of the modules
+//! Each error has a method `number`, which gives the number of the refusal in document 01; [`REFUSALS`] has them all with
+//! names and words, as `include/atc_vm.h` has them. The ones that come from lent memory (26, 32, 34, 51) never reach a caller of the modules
 //! [`assembler`], [`ops`], [`context`] and [`vm`], which lend enough of it; nor does 44, for an [`Op`] has no other kind.
 //! The module [`sys`] has the calls with buffers that the caller lends.
 //!
@@ -53,6 +53,7 @@ compile_error!("the proved library is made for machines with a usize of 64 bits"
 pub mod assembler;
 pub mod context;
 pub mod ops;
+pub mod refusal;
 #[allow(unsafe_code)]
 pub mod sys;
 pub mod vm;
@@ -60,4 +61,5 @@ pub mod vm;
 pub use assembler::{assemble, assemble_text, AssembleError, AssembleFileError, Assembled};
 pub use context::{execution_gate, ChainContext, ContextError};
 pub use ops::{parse_ops, parse_ops_bytes, trimmed_line, OpsError};
+pub use refusal::{atc_refusal_text, refusal, Refusal, REFUSALS};
 pub use vm::{Op, Receipt, Vm, VmError};

@@ -1,7 +1,7 @@
 //! The reader of ops text.
 
-use crate::sys;
 use crate::vm::Op;
+use crate::{refusal, sys};
 use std::fmt;
 
 /// Why a text is no program. Lines count from 1.
@@ -68,8 +68,7 @@ impl fmt::Display for OpsError {
             OpsError::BadTarget { line, value } => {
                 write!(f, "line {line}: the jump target isn't a number: {value}")
             }
-            OpsError::Empty => f.write_str("the text has no operation"),
-            OpsError::NotUtf8 => f.write_str("the text isn't UTF-8"),
+            OpsError::Empty | OpsError::NotUtf8 => f.write_str(refusal::text(self.number())),
         }
     }
 }

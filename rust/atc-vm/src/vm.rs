@@ -1,7 +1,7 @@
 //! The verifier and the metered stack machine.
 
 use crate::context::{ChainContext, ContextError};
-use crate::sys;
+use crate::{refusal, sys};
 use std::cell::Cell;
 use std::fmt;
 
@@ -190,8 +190,9 @@ impl VmError {
 impl fmt::Display for VmError {
     fn fmt(&self, f: &mut fmt::Formatter<'_>) -> fmt::Result {
         match self {
-            VmError::StackUnderflow => f.write_str("the stack has too few items"),
-            VmError::StackLimitExceeded => write!(f, "a push meets {MAX_STACK_ITEMS} items"),
+            VmError::StackUnderflow | VmError::StackLimitExceeded | VmError::DivisionByZero => {
+                f.write_str(refusal::text(self.number()))
+            }
             VmError::StorageLimitExceeded { requested, limit } => {
                 write!(
                     f,
@@ -207,7 +208,6 @@ impl fmt::Display for VmError {
                     "the program has {size} operations, and {limit} are the limit"
                 )
             }
-            VmError::DivisionByZero => f.write_str("the divisor is 0"),
             VmError::OutOfGas {
                 required,
                 remaining,

@@ -1,6 +1,9 @@
-//! include/atc_vm.h declares what crates/atc_vm exports and src/sys.rs calls, and has this crate's limits. The header and
-//! tests/abi.c compile without a warning, as C99 and as C++, and the program finds all as due.
+//! include/atc_vm.h declares what crates/atc_vm exports and src/sys.rs calls, and has this crate's limits. It compiles
+//! without a warning as C89 to C17 and as C++; so does tests/abi.c, as C99 and as C++, and finds all as due.
 
+mod repository;
+
+use repository::{path, text};
 use std::env;
 use std::fs;
 use std::io::ErrorKind;
@@ -11,30 +14,37 @@ fn compiler(variable: &str, usual: &str) -> String {
     env::var(variable).unwrap_or_else(|_| usual.to_string())
 }
 
-// False where there is no such compiler.
+// Without a warning; false where there is no such compiler.
+fn compiles(compiler: &str, build: impl Fn(&mut Command) -> &mut Command) -> bool {
+    let mut command = Command::new(compiler);
+    command
+        .args(["-Wall", "-Wextra", "-Wpedantic", "-Werror", "-I"])
+        .arg(path("include"));
+    match build(&mut command).output() {
+        Err(error) if error.kind() == ErrorKind::NotFound => false,
+        compiled => {
+            let compiled = compiled.unwrap();
+            let said = String::from_utf8_lossy(&compiled.stderr);
+            assert!(compiled.status.success(), "{command:?}: {said}");
+            true
+        }
+    }
+}
+
 fn compiles_and_runs(compiler: &str, language: &[&str], name: &str) -> bool {
-    let package = Path::new(env!("CARGO_MANIFEST_DIR"));
     let program = Path::new(env!("CARGO_TARGET_TMPDIR")).join(name);
-    let compiled = Command::new(compiler)
-        .args(language)
-        .args(["-Wall", "-Wextra", "-Wpedantic", "-Werror"])
-        .arg("-I")
-        .arg(package.join("../../include"))
-        .arg(package.join("tests/abi.c"))
-        .args(["-x", "none"])
-        .arg(Path::new(env!("ATC_VM_FOUND_IN")).join("libatc_vm.a"))
-        .arg("-o")
-        .arg(&program)
-        .output();
-    let compiled = match compiled {
-        Err(error) if error.kind() == ErrorKind::NotFound => return false,
-        other => other.unwrap(),
-    };
-    assert!(
-        compiled.status.success(),
-        "{}",
-        String::from_utf8_lossy(&compiled.stderr)
-    );
+    let found = compiles(compiler, |command| {
+        command
+            .args(language)
+            .arg(path("rust/atc-vm/tests/abi.c"))
+            .args(["-x", "none"])
+            .arg(Path::new(env!("ATC_VM_FOUND_IN")).join("libatc_vm.a"))
+            .arg("-o")
+            .arg(&program)
+    });
+    if !found {
+        return false;
+    }
     let ran = Command::new(&program).output().unwrap();
     let said = String::from_utf8_lossy(&ran.stdout);
     assert!(ran.status.success(), "{said}");
@@ -59,6 +69,25 @@ fn cpp() {
     }
 }
 
+#[test]
+fn other_standards() {
+    let including = Path::new(env!("CARGO_TARGET_TMPDIR")).join("including.c");
+    fs::write(&including, "#include \"atc_vm.h\"\n").unwrap();
+    let (cc, cxx) = (compiler("CC", "cc"), compiler("CXX", "c++"));
+    for (compiler, language, standard) in [
+        (&cc, "c", "-std=c89"),
+        (&cc, "c", "-std=c17"),
+        (&cxx, "c++", "-std=c++98"),
+        (&cxx, "c++", "-std=c++17"),
+    ] {
+        compiles(compiler, |command| {
+            command
+                .args(["-fsyntax-only", "-x", language, standard])
+                .arg(&including)
+        });
+    }
+}
+
 type Parameters = Vec<(String, String)>;
 
 // The functions of a file that start with `before` and end with `after`: their names and their parameters, each of which
@@ -78,17 +107,12 @@ fn functions(
     text.split(before).skip(1).map(function).collect()
 }
 
-fn text(path: &str) -> String {
-    let path = Path::new(env!("CARGO_MANIFEST_DIR")).join(path);
-    fs::read_to_string(&path).unwrap_or_else(|error| panic!("{}: {error}", path.display()))
-}
-
 fn one(name: &str, kind: &str) -> Parameters {
     vec![(name.to_string(), kind.to_string())]
 }
 
 fn in_the_header() -> Vec<(String, Parameters)> {
-    let header = text("../../include/atc_vm.h");
+    let header = text("include/atc_vm.h");
     let behind_remark = |part| str::split_once(part, "*/").map_or(part, |(_, code)| code);
     let code: String = header.split("/*").map(behind_remark).collect();
     functions(&code, "uint64_t atc_", ");", |p| {
@@ -107,14 +131,19 @@ fn in_the_header() -> Vec<(String, Parameters)> {
 }
 
 fn in_sys() -> Vec<(String, Parameters)> {
-    functions(&text("src/sys.rs"), "pub fn atc_", ") -> u64;", |p| {
-        let (name, kind) = p.split_once(": ").unwrap();
-        one(name, kind)
-    })
+    functions(
+        &text("rust/atc-vm/src/sys.rs"),
+        "pub fn atc_",
+        ") -> u64;",
+        |p| {
+            let (name, kind) = p.split_once(": ").unwrap();
+            one(name, kind)
+        },
+    )
 }
 
 fn in_the_rattle() -> Vec<(String, Parameters)> {
-    let source = text("../../crates/atc_vm/src/lib.rt");
+    let source = text("crates/atc_vm/src/lib.rt");
     functions(&source, "pub extern \"C\" fn atc_", ") -> u64", |p| {
         let (name, kind) = p.split_once(": ").unwrap();
         let slice = |kind| [one(name, kind), one(&format!("{name}_len"), "usize")].concat();
@@ -140,7 +169,7 @@ fn header_and_sys_declare_what_is_exported() {
 
 #[test]
 fn the_limits_are_those_of_the_crate() {
-    let header = text("../../include/atc_vm.h");
+    let header = text("include/atc_vm.h");
     for (name, due) in [
         ("MAX_TEXT", atc_vm::assembler::MAX_TEXT),
         ("MAX_OUTPUT", atc_vm::assembler::MAX_OUTPUT),

@@ -1,0 +1,9 @@
+//! The command `atc`, run as its users run it.
+
+mod files;
+mod folder;
+mod gas;
+mod json;
+mod refusals;
+mod tracing;
+mod usage;
