@@ -10,7 +10,7 @@ use Rattle.lines.specs.Lines.{feedFree}
 use Rattle.decimal.specs.Decimal.{decimal}
 use Rattle.base.specs.Ascii.{ascii}
 use Rattle.kinds.specs.Kinds.{Operation}
-use Rattle.operation.specs.Written.{writtenAll}
+use Rattle.mnemonic.specs.Written.{writtenAll}
 use Rattle.grammar.specs.Tree.{Tree, kOf, pOf}
 use Rattle.grammar.specs.Written.{treeOps}
 use Rattle.numbered.specs.declared.Numbered.{Numbered}

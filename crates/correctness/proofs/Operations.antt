@@ -7,7 +7,7 @@ use lib.ListN.{length, length-append}
 use Rattle.word.specs.Apply.{Binary, add, sub, mul, div, eq, lt}
 use Rattle.kinds.specs.Kinds.{Operation, operation}
 use Rattle.ops.specs.Ops.{kindsOf, operandsOf}
-use Rattle.operation.specs.Written.{cleared, IsOperation, Each, none, one}
+use Rattle.mnemonic.specs.Written.{cleared, IsOperation, Each, none, one}
 use Rattle.machine.specs.Machine.{halt, decode}
 use Rattle.checks.specs.declared.Check.the-variants.{Passed}
 use Rattle.checks.specs.Verify.{operationCheck, operationsCheck}

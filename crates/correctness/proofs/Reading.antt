@@ -18,7 +18,7 @@ use Rattle.decimal.specs.Decimal.{digit, decimal}
 use Rattle.decimal.proofs.Laws.{decimal-digits}
 use Rattle.ops.specs.Ops.{readText}
 use Rattle.base.specs.Outcome.{is}
-use Rattle.operation.specs.Written.{writtenAll, remarks, IsRemark, Each, none, one}
+use Rattle.mnemonic.specs.Written.{writtenAll, remarks, IsRemark, Each, none, one}
 use Rattle.ops.proofs.Written.{reads-written}
 use Rattle.grammar.specs.Tree.{Tree, kOf}
 use Rattle.contract.specs.Output.{stemFits, header, operationsOf, output}

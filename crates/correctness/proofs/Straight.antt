@@ -8,7 +8,7 @@ use lib.ListN.{length, drop, length-drop}
 use lib.Seq.{drop-cons}
 use borrow.Author.Tests.{lt-ltb, le-ltb}
 use Rattle.kinds.specs.Kinds.{Operation}
-use Rattle.operation.specs.Written.{Each, none, one}
+use Rattle.mnemonic.specs.Written.{Each, none, one}
 use Rattle.machine.specs.Machine.{Frame, Effect, moves, jumps, ends, fails, costs, Progress, effectOf, priceOf, halt, settle, pay, actOf, machine, follow, runOf, start, runToEnd}
 use Rattle.machine.proofs.Runs.{PricedAct, priced}
 use Rattle.correctness.specs.Counting.{opAt}

@@ -11,7 +11,7 @@ use borrow.Author.Tests.{le-ltb}
 use Rattle.base.specs.Outcome.{is, refused, andThen}
 use Rattle.word.specs.Apply.{Binary, add, sub, mul, div, eq, lt, apply}
 use Rattle.kinds.specs.Kinds.{Operation, operation}
-use Rattle.operation.specs.Written.{Each, none as no-more, one}
+use Rattle.mnemonic.specs.Written.{Each, none as no-more, one}
 use Rattle.machine.specs.Machine.{outOfGas, stackLimitExceeded, Frame, moves, fails, Progress, next, done, stop, pushOf, resultOf as ofValue, binopOf, effectOf, settle, follow, halt, start, runToEnd}
 use Rattle.grammar.specs.Tree.{Tree, num, bin, applied, valueOf, kOf, pOf}
 use Rattle.grammar.specs.Written.{treeOps}

@@ -7,7 +7,7 @@ use lib.ListN.{length, length-append}
 use Rattle.word.specs.Apply.{Binary}
 use Rattle.decimal.specs.Decimal.{decimal}
 use Rattle.kinds.specs.Kinds.{Operation}
-use Rattle.operation.specs.Written.{written, writtenAll}
+use Rattle.mnemonic.specs.Written.{written, writtenAll}
 use Rattle.grammar.specs.Tree.{Tree, num, bin, kOf}
 use Rattle.grammar.specs.Code.Lengths.{lenOf}
 use Rattle.grammar.specs.Written.{treeOps}

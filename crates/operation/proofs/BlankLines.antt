@@ -23,9 +23,10 @@ use Rattle.trim.proofs.Laws.{start-stays}
 use Rattle.trim.proofs.Suffix.{end-start}
 use Rattle.trim.proofs.Blanks.{Blank, none, one, three, Blanks, blanks, no-blank, wide, start-blank, end-blank}
 use Rattle.kinds.specs.Kinds.{kindOf}
-use Rattle.operation.specs.Kinds.{lineWith}
+use Rattle.mnemonic.specs.Kinds.{lineWith}
 use Rattle.operation.specs.Line.{Rule, ReadsDigits, skipped, lineOf}
-use Rattle.operation.specs.Code.Fast.{lineReadAt, Indented, OperationAt}
+use Rattle.plain_op.specs.Code.Plain.{OperationAt}
+use Rattle.operation.specs.Code.Fast.{lineReadAt, Indented}
 use Rattle.operation.specs.declared.line.LineRead.{LineRead}
 use Rattle.operation.specs.declared.line.LineRead.the-variants.{Skip, Op}
 use Rattle.operation.proofs.PlainLines.{digits-graphic, Reads, reads}

@@ -22,9 +22,9 @@ use Rattle.decimal.specs.Decimal.{digit}
 use Rattle.decimal.specs.declared.Number.the-variants.{Is}
 use Rattle.kinds.specs.Kinds.{kindOf}
 use Rattle.kinds.proofs.ByKind.{span, _&_, end}
-use Rattle.operation.specs.Kinds.{follows, lineWith, headWith, headOf}
+use Rattle.mnemonic.specs.Kinds.{follows, lineWith, headWith, headOf}
 use Rattle.operation.specs.Line.{Rule, skipped, ofNumber, headRead, lineOf}
-use Rattle.operation.specs.declared.kind.Head.the-variants.{Alone, Before}
+use Rattle.mnemonic.specs.declared.Head.the-variants.{Alone, Before}
 use Rattle.operation.specs.declared.line.LineRead.the-variants.{Op}
 use Rattle.operation.proofs.Trimmed.{part-read}
 

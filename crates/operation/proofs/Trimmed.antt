@@ -15,10 +15,10 @@ use Rattle.decimal.specs.declared.Number.{Number}
 use Rattle.kinds.specs.Kinds.{Operand, kindOf}
 use Rattle.kinds.proofs.ByKind as ByKind
 use Rattle.kinds.proofs.ByKind.{span, _&_, no-kind}
-use Rattle.operation.specs.Kinds.{headOf}
+use Rattle.mnemonic.specs.Kinds.{headOf}
 use Rattle.operation.specs.Code.Rules.{ruleOf}
 use Rattle.operation.specs.Line.{Rule, badNumber, skipped, ofNumber, operandOf, headRead, lineOf}
-use Rattle.operation.specs.declared.kind.Head.{Head}
+use Rattle.mnemonic.specs.declared.Head.{Head}
 use Rattle.operation.specs.declared.line.OperandRule as Named
 use Rattle.operation.specs.declared.line.OperandRule.the-variants.{FromStr}
 use Rattle.operation.specs.declared.OpsError.{OpsError}

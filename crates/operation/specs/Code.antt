@@ -1,3 +1,2 @@
 pub mod Fast
-pub mod FirstByte
 pub mod Rules

@@ -1,5 +1,3 @@
-pub mod Code
 pub mod Errors
-pub mod Kinds
 pub mod Line
-pub mod Written
+pub mod Code

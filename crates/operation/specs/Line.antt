@@ -11,9 +11,9 @@ use Rattle.decimal.specs.Decimal.{digit, numberOf}
 use Rattle.decimal.specs.declared.Number.{Number}
 use Rattle.decimal.specs.declared.Number.the-variants.{Is, Invalid}
 use Rattle.kinds.specs.Kinds.{Operand, none, value, slot, target, kindOf}
-use Rattle.operation.specs.Kinds.{headOf}
-use Rattle.operation.specs.declared.kind.Head.{Head}
-use Rattle.operation.specs.declared.kind.Head.the-variants.{Alone, Before, Unknown}
+use Rattle.mnemonic.specs.Kinds.{headOf}
+use Rattle.mnemonic.specs.declared.Head.{Head}
+use Rattle.mnemonic.specs.declared.Head.the-variants.{Alone, Before, Unknown}
 use Rattle.operation.specs.declared.OpsError.{OpsError}
 use Rattle.operation.specs.declared.OpsError.the-variants.{BadPush, BadSlot, UnknownOp, BadTarget}
 use Rattle.operation.specs.declared.line.LineRead.{LineRead}

@@ -1,8 +1,5 @@
 // What one line of an ops text says: an operation, nothing, or a refusal.
-mod kind;
 pub mod line;
-mod plain;
-mod word;
 
 use numbered::Numbered;
 use numbered::carrying_one;

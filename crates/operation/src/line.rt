@@ -1,14 +1,14 @@
 // What one line of a text says.
 use super::OpsError;
-use super::kind::Head;
-use super::kind::classify;
-use super::plain::Plain;
-use super::plain::plain_at;
-use super::word::one;
 use base::either;
 use base::in_range;
 use decimal::Number;
 use lines::Step;
+use mnemonic::Head;
+use mnemonic::classify;
+use mnemonic::word::one;
+use plain_op::Plain;
+use plain_op::plain_at;
 ghost use mathlib.Core.Path.{_≡_};
 ghost use Prim.Native.Nat.{_+_, _-_, _^_, _<_, _≤_};
 ghost use lib.ListN.{length, take, drop};

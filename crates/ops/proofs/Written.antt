@@ -15,10 +15,10 @@ use Rattle.trim.proofs.Blanks as Blank
 use Rattle.decimal.specs.Decimal.{decimal}
 use Rattle.decimal.proofs.Laws.{decimal-digits, length-positive, round-trip}
 use Rattle.kinds.specs.Kinds.{kindOf, Operation, operation}
-use Rattle.operation.specs.Kinds.{follows}
+use Rattle.mnemonic.specs.Kinds.{follows}
 use Rattle.operation.specs.Line.{Rule, fromStr, ReadsDigits, lineOf}
 use Rattle.ops.specs.Ops.{Reading, startOf, thenRead, readLines, notEmpty, readBy, readText}
-use Rattle.operation.specs.Written.{shown, written, writtenAll, remark, remarks, cleared, IsOperation, IsRemark, Each, none, one}
+use Rattle.mnemonic.specs.Written.{shown, written, writtenAll, remark, remarks, cleared, IsOperation, IsRemark, Each, none, one}
 use Rattle.operation.specs.declared.line.LineRead.the-variants.{Op}
 use Rattle.operation.specs.declared.OpsError.the-variants.{NotUtf8}
 use Rattle.operation.proofs.PlainLines.{digits-graphic, Plain, Reads, reads, plain-lines}

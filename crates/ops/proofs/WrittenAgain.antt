@@ -18,17 +18,17 @@ use Rattle.decimal.specs.Decimal.{digit, value, withoutPlus}
 use Rattle.decimal.specs.declared.Number.{Number}
 use Rattle.decimal.specs.declared.Number.the-variants.{Is, Invalid}
 use Rattle.kinds.specs.Kinds.{kindOf, Operation, operation}
-use Rattle.operation.specs.Kinds.{follows, headOf}
+use Rattle.mnemonic.specs.Kinds.{follows, headOf}
 use Rattle.operation.specs.Line.{Rule, fromStr, ReadsDigits, ReadsWords, ofNumber, headRead, skipped, lineOf}
 use Rattle.ops.specs.Ops.{Reading, startOf, thenRead, readLines, notEmpty, readBy, readText}
-use Rattle.operation.specs.Written.{writtenAll, cleared, IsOperation, IsRead, Each, none, one}
-use Rattle.operation.specs.declared.kind.Head.{Head}
-use Rattle.operation.specs.declared.kind.Head.the-variants.{Alone, Before}
+use Rattle.mnemonic.specs.Written.{writtenAll, cleared, IsOperation, IsRead, Each, none, one}
+use Rattle.mnemonic.specs.declared.Head.{Head}
+use Rattle.mnemonic.specs.declared.Head.the-variants.{Alone, Before}
 use Rattle.operation.specs.declared.OpsError.{OpsError}
 use Rattle.operation.specs.declared.OpsError.the-variants.{NotUtf8}
 use Rattle.operation.specs.declared.line.LineRead.{LineRead}
 use Rattle.operation.specs.declared.line.LineRead.the-variants.{Skip, Op, Bad}
-use Rattle.operation.proofs.Words.{parted-at}
+use Rattle.mnemonic.proofs.Words.{parted-at}
 use Rattle.operation.proofs.Trimmed.{skip-read, part-read}
 use Rattle.ops.proofs.Written.{reads-written-by, cleared-same}
 

@@ -18,16 +18,16 @@ use Rattle.decimal.specs.declared.Number.{Number}
 use Rattle.decimal.specs.declared.Number.the-variants.{Is, Invalid}
 use Rattle.kinds.specs.Kinds as Operands
 use Rattle.kinds.specs.Kinds.{Operand, Kind, kinds, kindOf, Operation, operation}
-use Rattle.operation.specs.Kinds.{follows, headWith, headFrom, headOf}
-use Rattle.operation.specs.Kinds as Kinds
+use Rattle.mnemonic.specs.Kinds.{follows, headWith, headFrom, headOf}
+use Rattle.mnemonic.specs.Kinds as Kinds
 use Rattle.operation.specs.Line.{Rule, fromStr, badNumber, ofNumber, headRead, skipped, lineOf}
 use Rattle.operation.specs.Errors.{opsErrorNumbered}
 use Rattle.ops.specs.Numbers.{parsedOpsNumbered}
 use Rattle.base.specs.Outcome.{is, refused, andThen}
 use Rattle.ops.specs.Ops.{Reading, startOf, thenRead, readLines, notEmpty, readBy, answerOf, opsOf}
-use Rattle.operation.specs.Written.{Each, none, one}
-use Rattle.operation.specs.declared.kind.Head.{Head}
-use Rattle.operation.specs.declared.kind.Head.the-variants.{Alone, Before, Unknown}
+use Rattle.mnemonic.specs.Written.{Each, none, one}
+use Rattle.mnemonic.specs.declared.Head.{Head}
+use Rattle.mnemonic.specs.declared.Head.the-variants.{Alone, Before, Unknown}
 use Rattle.operation.specs.declared.OpsError.the-variants.{NotUtf8}
 use Rattle.operation.specs.declared.line.LineRead.{LineRead}
 use Rattle.operation.specs.declared.line.LineRead.the-variants.{Skip, Op, Bad}

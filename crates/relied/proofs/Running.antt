@@ -19,8 +19,8 @@ use Rattle.context.specs.declared.Gate.the-variants as gate
 use Rattle.machine.specs.Machine.{Fault, outOfGas, stackLimitExceeded, storageLimitExceeded, outsideStorage, Frame, Effect, moves, jumps, ends, fails, over, costs, next, done, stop, storeAt, pushOf, resultOf, binopOf, dupOf, swapOf, jumpIfOf, storeOf, effectOf, priceOf, settle, pay, actOf, decode, halt, machine, follow, runOf, start, runToEnd, Progress}
 use Rattle.machine.proofs.Program.{effect-high}
 use Rattle.machine.proofs.Runs.{unpaid, afforded, Ended, whole-ends}
-use Rattle.operation.specs.Written as Written
-use Rattle.operation.specs.Written.{Each}
+use Rattle.mnemonic.specs.Written as Written
+use Rattle.mnemonic.specs.Written.{Each}
 use Rattle.checks.specs.declared.VmError.{VmError}
 use Rattle.checks.specs.declared.VmError.the-variants.{BufferLengths, EmptyProgram, ProgramTooLarge, StorageTooLarge, UnknownKind, JumpOutOfRange}
 use Rattle.checks.specs.declared.Check.{Check}

@@ -7,7 +7,7 @@ use lib.ListN.{length}
 use Rattle.lines.specs.Lines.{lines}
 use Rattle.ops.specs.Numbers.{parsedOpsNumbered}
 use Rattle.ops.specs.Ops.{readText, answerOf, opsOf}
-use Rattle.operation.specs.Written.{Each}
+use Rattle.mnemonic.specs.Written.{Each}
 use Rattle.relied.specs.Numbers.{Among}
 
 -- document 01's number of what reading answers

@@ -6,7 +6,7 @@ use lib.ListN.{length, getD, take}
 use Rattle.kinds.specs.Kinds.{Operation}
 use Rattle.context.specs.declared.Gate.{Gate}
 use Rattle.machine.specs.Machine.{decode}
-use Rattle.operation.specs.Written.{Each}
+use Rattle.mnemonic.specs.Written.{Each}
 use Rattle.checks.specs.declared.Check.the-variants.{Passed}
 use Rattle.checks.specs.Numbers.{checkNumbered}
 use Rattle.checks.specs.Verify.{gateCheck, verifyOf}

@@ -7,7 +7,7 @@ use lib.ListN.{length, length-append}
 use Rattle.decimal.specs.Decimal.{decimal}
 use Rattle.kinds.specs.Kinds.{operation}
 use Rattle.kinds.proofs.ByKind.{no-kind}
-use Rattle.operation.specs.Written.{written}
+use Rattle.mnemonic.specs.Written.{written}
 use Rattle.writer.specs.Code.Overwrites.{Overwrites}
 use Rattle.writer.proofs.Pieces.{overwrites-length, overwrites-then}
 

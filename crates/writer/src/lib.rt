@@ -5,7 +5,7 @@ ghost use Prim.Native.Nat.{_+_, _≤_};
 ghost use lib.ListN.{length};
 ghost use Rattle.decimal.specs.Decimal.{decimal};
 ghost use Rattle.kinds.specs.Kinds.{operation};
-ghost use Rattle.operation.specs.Written.{written};
+ghost use Rattle.mnemonic.specs.Written.{written};
 ghost use Rattle.writer.specs.Code.Overwrites.{Overwrites};
 use decimal::Written;
 use decimal::decimal_len;

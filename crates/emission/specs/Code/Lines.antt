@@ -2,7 +2,7 @@
 use Prim.Native.Nat.{ℕ}
 use mathlib.Core.List.{List, [], _∷_, _++_}
 use Rattle.kinds.specs.Kinds.{operation}
-use Rattle.operation.specs.Written.{written}
+use Rattle.mnemonic.specs.Written.{written}
 use Rattle.grammar.specs.Parse.{operator}
 use Rattle.grammar.specs.Code.Operator.{operatorOf}
 

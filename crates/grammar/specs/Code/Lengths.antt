@@ -3,7 +3,7 @@ use Prim.Native.Nat.{ℕ, _+_}
 use lib.ListN.{length}
 use Rattle.word.specs.Apply.{Binary}
 use Rattle.decimal.specs.Decimal.{decimal}
-use Rattle.operation.specs.Written.{written}
+use Rattle.mnemonic.specs.Written.{written}
 use Rattle.grammar.specs.Tree.{Tree, bin, num}
 use Rattle.grammar.specs.Code.Operator.{operatorOf}
 

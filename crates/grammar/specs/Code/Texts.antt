@@ -1,7 +1,7 @@
 -- The text that a tree is written as.
 use Prim.Native.Nat.{ℕ}
 use mathlib.Core.List.{List}
-use Rattle.operation.specs.Written.{writtenAll}
+use Rattle.mnemonic.specs.Written.{writtenAll}
 use Rattle.grammar.specs.Tree.{Tree}
 use Rattle.grammar.specs.Written.{treeOps}
 

@@ -9,7 +9,7 @@ use Rattle.decimal.specs.Decimal.{decimal}
 use Rattle.decimal.proofs.Laws.{length-word}
 use Rattle.kinds.specs.Kinds.{operation}
 use Rattle.kinds.proofs.ByKind.{end, _&_, span, past}
-use Rattle.operation.specs.Written.{written}
+use Rattle.mnemonic.specs.Written.{written}
 use Rattle.writer.proofs.Lines.{no-word}
 use borrow.Author.Needs.{needs}
 use Rattle.writer.proofs.operation_len.Statement.{statement}

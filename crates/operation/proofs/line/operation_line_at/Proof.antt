@@ -5,8 +5,8 @@ use borrow.Author.Tests.{not-false}
 use native.Mathlib.Omega.{arith}
 use denote.Ref.{now}
 use Rattle.trim.proofs.Blanks.{Blanks, blanks, no-blanks}
-use Rattle.operation.specs.Code.Fast.{PlainRead}
-use Rattle.operation.proofs.PlainReads.{operation-within}
+use Rattle.plain_op.specs.Code.Plain.{PlainRead}
+use Rattle.plain_op.proofs.PlainReads.{operation-within}
 use Rattle.operation.proofs.BlankLines.{indent, operation-read}
 use borrow.Author.Needs.{needs}
 use Rattle.operation.proofs.line.operation_line_at.Statement.{statement}

@@ -8,7 +8,7 @@ use denote.Ref.{now}
 use Rattle.base.proofs.Parts.{length-part}
 use Rattle.operation.specs.Code.Rules.{ruleOf}
 use Rattle.operation.specs.Line.{headRead}
-use Rattle.operation.proofs.Words.{rest-within}
+use Rattle.mnemonic.proofs.Words.{rest-within}
 use Rattle.operation.proofs.Trimmed.{start-within, end-within, skip-read, part-read}
 use borrow.Author.Needs.{needs}
 use Rattle.operation.proofs.line.read_line.Statement.{statement}
