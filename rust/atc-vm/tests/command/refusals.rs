@@ -672,7 +672,7 @@ fn a_rule_that_needs_too_many_items() {
     let gas = folder.say("gas deep.rule v.json");
     assert!(
         gas.out
-            .contains("p               4160 stack items are needed\n"),
+            .contains("p               4160 stack items needed\n"),
         "{gas:?}"
     );
     assert!(
