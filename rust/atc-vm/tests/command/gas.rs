@@ -59,8 +59,8 @@ fn lets_in_words() {
     ]);
     let told = folder.say("gas tally.rule tally.json");
     let expected = "\
-k               4 numbers are pushed
-p               3 stack items are needed
+k               4 numbers pushed
+p               3 stack items needed
 value           144
 operations      8
 least limit     10 gas (3k - 2); under 9 the run is refused with 46

@@ -1,5 +1,6 @@
 //! The command `atc`, run as its users run it.
 
+mod beliefs;
 mod files;
 mod folder;
 mod gas;

@@ -588,13 +588,6 @@ fn runs() {
         &["needs 1 item, and the stack has 0."],
     );
     ops_refused(
-        48,
-        "Push 1\nJump 0",
-        &["--gas", "20000"],
-        "r.ops:1:1",
-        &["`Push 1`, operation 0, meets 4096 items"],
-    );
-    ops_refused(
         49,
         half,
         &[],
@@ -650,36 +643,34 @@ fn runs_of_rules() {
     );
 }
 
+// Each command once: they make some thousands of steps.
+fn too_many_items(folder: &Folder, files: &str, place: &str, words: &[&str]) {
+    let line = |command: &str| format!("{command} {files} --gas 100000");
+    told(48, &folder.say(&line("run")), place, words);
+    told(48, &folder.say(&line("gas")), place, words);
+    told_in_json(48, &folder.say(&line("trace --json")), place);
+}
+
+#[test]
+fn operations_that_push_too_many_items() {
+    let folder = Folder::with([("r.ops", &"Push 1\n".repeat(4_097))]);
+    let words = ["`Push 1`, operation 4096, meets 4096 items, and no more fit on the stack."];
+    too_many_items(&folder, "r.ops", "r.ops:4097:1", &words);
+}
+
 #[test]
 fn a_rule_that_needs_too_many_items() {
     let deeper = format!("  let a = {}a{}\n", "1 + (".repeat(63), ")".repeat(63));
-    let rule = format!(
-        "fn f () {{\n  let a = 1\n{}  return a - a + 1\n}}\n",
-        deeper.repeat(66)
-    );
+    let lets = deeper.repeat(66);
+    let rule = format!("fn f () {{\n  let a = 1\n{lets}  return a - a + 1\n}}\n");
     let folder = Folder::with([("deep.rule", &rule), ("v.json", "{\"expected\": 1}")]);
-    for command in ["run", "trace", "gas"] {
-        let line = format!("{command} deep.rule v.json --gas 100000");
-        let place = "deep.rule as assembled:4099:1";
-        told(
-            48,
-            &folder.say(&line),
-            place,
-            &["`Push 1`, operation 4096, meets 4096 items"],
-        );
-        told_in_json(48, &folder.say(&format!("{line} --json")), place);
-    }
+    let words = ["`Push 1`, operation 4096, meets 4096 items"];
+    let place = "deep.rule as assembled:4099:1";
+    too_many_items(&folder, "deep.rule v.json", place, &words);
     let gas = folder.say("gas deep.rule v.json");
-    assert!(
-        gas.out
-            .contains("p               4160 stack items are needed\n"),
-        "{gas:?}"
-    );
-    assert!(
-        gas.out
-            .contains("can't be told: it needs more than 4096 stack items\n"),
-        "{gas:?}"
-    );
+    assert!(gas.out.contains("4160 stack items needed\n"), "{gas:?}");
+    let why = "can't be told: it needs more than 4096 stack items\n";
+    assert!(gas.out.contains(why), "{gas:?}");
 }
 
 // All but those that lent memory, the chain gate and a caller's own kinds give, and 41, before which a text is 33.

@@ -115,12 +115,12 @@ fn a_trace_shows_each_operation() {
     let folder = Folder::with([("half.ops", ops)]);
     let told = folder.say("trace half.ops --gas 7 --storage 50,90");
     let expected = "\
-at  operation  price  before   after  stack (top right)
- 0  Push 75        1       7       6  [75]
- 1  Store 0        3       6       3  []   slot 0: 50 -> 75
- 2  Push 180       1       3       2  [180]
- 3  Push 0         1       2       1  [180, 0]
- 4  Div            2       1       -  [180, 0]   refused with 46
+at  operation  price  gas before   gas after  stack (top right)
+ 0  Push 75        1           7           6  [75]
+ 1  Store 0        3           6           3  []   slot 0: 50 -> 75
+ 2  Push 180       1           3           2  [180]
+ 3  Push 0         1           2           1  [180, 0]
+ 4  Div            2           1           -  [180, 0]   refused with 46
 
 answer          46, the price exceeds the gas left
 stopped at      `Div`, operation 4, costs 2 gas, and 1 is left.
@@ -204,11 +204,7 @@ fn a_run_refused_late_is_told_without_its_place() {
     let folder = Folder::with([("r.ops", "Push 1\nJumpIfNotZero 0\n")]);
     let told = folder.say("run r.ops --gas 3000000");
     assert_eq!(told.status, 1);
-    assert!(
-        told.err.contains("`atc trace` comes there."),
-        "{}",
-        told.err
-    );
+    assert!(told.err.contains("`atc trace` gets there"), "{}", told.err);
     let answer = folder.say("run r.ops --gas 3000000 --json").json();
     assert_eq!(*answer.at("position"), Value::Null);
 }

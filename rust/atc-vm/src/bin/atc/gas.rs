@@ -7,7 +7,7 @@ use crate::json::Json;
 use crate::lets::{self, Let};
 use crate::message::notes_json;
 use crate::program::{self, Program};
-use crate::report::{head_json, row, Report};
+use crate::report::{counted, head_json, row, Report};
 use crate::setting::{self, Setting};
 use crate::walk::{self, Whole};
 use crate::{complain_all, files};
@@ -108,8 +108,8 @@ fn refused(program: &Program, setting: &Setting, whole: &Whole) -> Option<Refuse
 fn text(figures: Option<&Figures>, whole: &Whole, setting: &Setting) -> String {
     let mut text = String::new();
     if let Some(figures) = figures {
-        text += &row("k", &format!("{} numbers are pushed", figures.k));
-        text += &row("p", &format!("{} stack items are needed", figures.p));
+        text += &row("k", &format!("{} pushed", counted(figures.k, "number")));
+        text += &row("p", &format!("{} needed", counted(figures.p, "stack item")));
         text += &row("value", &figures.value.to_string());
     }
     match (&whole.result, whole.receipt) {

@@ -26,6 +26,7 @@ mod reading;
 mod report;
 mod run;
 mod setting;
+mod slots;
 mod step;
 mod trace;
 mod vector;

@@ -1,7 +1,8 @@
 //! The known word that a misspelt one is most like.
 
 pub fn nearest<'a>(word: &str, known: impl Iterator<Item = &'a str>) -> Option<&'a str> {
-    let most = (word.chars().count() / 3).max(1);
+    // Of a word of one or two letters any other is a third away.
+    let most = word.chars().count() / 3;
     known
         .filter(|candidate| *candidate != word)
         .map(|candidate| (distance(word, candidate), candidate))
@@ -10,8 +11,11 @@ pub fn nearest<'a>(word: &str, known: impl Iterator<Item = &'a str>) -> Option<&
         .map(|(_, candidate)| candidate)
 }
 
-// How many characters to put in, take out, change, or swap with the next.
+// How many characters to put in, take out, change, or swap with the next; capitals alone are no difference.
 fn distance(a: &str, b: &str) -> usize {
+    if a.eq_ignore_ascii_case(b) {
+        return 0;
+    }
     let a: Vec<char> = a.chars().collect();
     let b: Vec<char> = b.chars().collect();
     // Very long names are like no other.

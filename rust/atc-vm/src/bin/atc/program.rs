@@ -25,6 +25,10 @@ pub struct Rule {
 }
 
 pub fn assemble(rule: &OsStr, vector: &OsStr) -> Result<Rule, Failure> {
+    if rule == "-" || vector == "-" {
+        let sentence = "a rule and its vector are read from files; `-` stands for operations alone";
+        return Err(Failure::File(sentence.to_string()));
+    }
     let stem = Path::new(rule).file_stem().unwrap_or_default();
     let (rule, vector) = (files::read(rule)?, files::read(vector)?);
     let assembled = assemble_text(&rule.bytes, &vector.bytes, stem.as_encoded_bytes());

@@ -8,94 +8,10 @@ use crate::message::{notes_json, Message};
 use crate::paint::Paint;
 use crate::program::{word, Program};
 use crate::setting::Setting;
+use crate::slots::{changes, changes_in_words, changes_json, list};
 use crate::step::aimed;
 use crate::walk::{End, Whole};
 use atc_vm::{Op, Vm, VmError};
-
-/// Numbers in brackets, the middle of many left out.
-pub fn list(items: &[u64]) -> String {
-    const FIRST: usize = 3;
-    const LAST: usize = 6;
-    let joined = |items: &[u64]| {
-        items
-            .iter()
-            .map(u64::to_string)
-            .collect::<Vec<_>>()
-            .join(", ")
-    };
-    if items.len() <= FIRST + LAST + 3 {
-        return format!("[{}]", joined(items));
-    }
-    let (first, rest) = items.split_at(FIRST);
-    let (middle, last) = rest.split_at(rest.len() - LAST);
-    format!(
-        "[{}, ..{} more.., {}]",
-        joined(first),
-        middle.len(),
-        joined(last)
-    )
-}
-
-/// A slot that differs: its number, what it was if it was used, and what it is.
-pub struct Change {
-    pub slot: usize,
-    pub before: Option<u64>,
-    pub after: u64,
-}
-
-/// The slots that differ. A slot that is added counts where it isn't 0.
-pub fn changes(before: &[u64], after: &[u64]) -> Vec<Change> {
-    let slots = after.iter().enumerate().map(|(slot, &value)| Change {
-        slot,
-        before: before.get(slot).copied(),
-        after: value,
-    });
-    slots
-        .filter(|change| change.before.unwrap_or(0) != change.after)
-        .collect()
-}
-
-/// As `slot 0: 50 -> 75`, with the used length where that grows; not all of very many.
-pub fn changes_in_words(before: &[u64], after: &[u64]) -> String {
-    const MOST: usize = 4;
-    let changed = changes(before, after);
-    let mut words: Vec<String> = changed
-        .iter()
-        .take(MOST)
-        .map(|change| {
-            let was = change
-                .before
-                .map_or("unused".to_string(), |value| value.to_string());
-            format!("slot {}: {was} -> {}", change.slot, change.after)
-        })
-        .collect();
-    if changed.len() > MOST {
-        words.push(format!("{} more", changed.len() - MOST));
-    }
-    if after.len() > before.len() {
-        words.push(format!("slots used: {} -> {}", before.len(), after.len()));
-    }
-    words.join(", ")
-}
-
-fn changes_json(before: &[u64], after: &[u64]) -> Json {
-    let changed = changes(before, after).into_iter();
-    let members = changed.map(|change| {
-        Json::Object(vec![
-            ("slot", change.slot.into()),
-            ("before", change.before.into()),
-            ("after", change.after.into()),
-        ])
-    });
-    Json::List(members.collect())
-}
-
-pub fn step_json(members: Vec<(&'static str, Json)>, before: &[u64], after: &[u64]) -> Json {
-    let mut members = members;
-    members.push(("changes", changes_json(before, after)));
-    members.push(("slots", after.len().into()));
-    Json::Object(members)
-}
 
 /// A run that has ended.
 pub struct Report<'a> {
@@ -136,8 +52,8 @@ impl Report<'_> {
                 )
                 .help(stack)
             }
-            None => Blame::nowhere(format!("In words: {error}.")).help(
-                "It is too many operations on to say which one stopped; `atc trace` comes there.",
+            None => Blame::nowhere(format!("Of the last operation: {error}.")).help(
+                "It comes too late to be found here; `atc trace` gets there, operation by operation.",
             ),
         };
         Some(blame.refused(number, carried(error)))
@@ -182,12 +98,9 @@ impl Report<'_> {
         let mut text = row("answer", &paint.red(&format!("{number}, {words}")));
         if let Some(end) = self.end {
             text += &row("stopped at", &sentence(self.program, end, error));
-            let before = format!(
-                "{} operations, for {} of {} gas",
-                end.operations,
-                self.setting.gas - end.state.gas,
-                self.setting.gas
-            );
+            let done = counted(end.operations, "operation");
+            let (limit, left) = (self.setting.gas, end.state.gas);
+            let before = format!("{done}, for {} of {limit} gas", limit - left);
             text += &row("done before", &before);
         } else {
             text += &row("gas limit", &self.setting.gas.to_string());
@@ -312,6 +225,12 @@ pub fn head_json(name: Name, number: u64, refused: Option<&Refused>) -> Vec<(&'s
     ]
 }
 
+/// A number of things, as `1 item` or `2 items`.
+pub fn counted(number: u64, what: &str) -> String {
+    let plural = if number == 1 { "" } else { "s" };
+    format!("{number} {what}{plural}")
+}
+
 pub fn row(title: &str, what: &str) -> String {
     format!("{title:<14}  {what}\n")
 }
@@ -357,8 +276,7 @@ fn needed(op: &Op, items: usize) -> String {
     };
     let most = items + 8;
     match (items..most).find(|n| !lacks(*n)) {
-        Some(1) => "1 item".to_string(),
-        Some(n) => format!("{n} items"),
+        Some(n) => counted(n as u64, "item"),
         None => "more items".to_string(),
     }
 }

@@ -5,8 +5,9 @@ use crate::failure::Failure;
 use crate::json::Json;
 use crate::paint::Paint;
 use crate::program::{word, Program};
-use crate::report::{changes_in_words, list, step_json, Report};
+use crate::report::Report;
 use crate::setting::Setting;
+use crate::slots::{changes_in_words, changes_json, list};
 use crate::step::{State, Step};
 use crate::walk::{self, End, Whole};
 use crate::{complain_all, program, setting};
@@ -111,7 +112,7 @@ impl Table {
         Table {
             at: program.ops.len().to_string().len().max(2),
             operation: longest.unwrap_or(0).max("operation".len()),
-            gas: setting.gas.to_string().len().max("before".len()),
+            gas: setting.gas.to_string().len().max("gas before".len()),
         }
     }
 
@@ -129,7 +130,7 @@ impl Table {
 
     fn head(&self) -> String {
         self.row(
-            ["at", "operation", "price", "before", "after"],
+            ["at", "operation", "price", "gas before", "gas after"],
             "stack (top right)",
         )
     }
@@ -163,7 +164,7 @@ fn in_json(program: &Program, before: &State, step: &Step) -> Json {
         Step::Refused { price, error } => (*price, before, Some(error.number())),
     };
     let gas_after = refused.is_none().then_some(after.gas);
-    let members = vec![
+    Json::Object(vec![
         ("position", before.position.into()),
         ("operation", word(&program.ops[before.position]).into()),
         ("price", price.into()),
@@ -171,6 +172,7 @@ fn in_json(program: &Program, before: &State, step: &Step) -> Json {
         ("gas_after", gas_after.into()),
         ("refused", refused.into()),
         ("stack", Json::from(&after.stack[..])),
-    ];
-    step_json(members, &before.storage, &after.storage)
+        ("changes", changes_json(&before.storage, &after.storage)),
+        ("slots", after.storage.len().into()),
+    ])
 }

@@ -72,8 +72,8 @@ pub fn walk(
     }
 }
 
-// In numbers that a step copies: about a second's worth.
-const PATIENCE: usize = 1 << 29;
+// In numbers that steps copy: less than a second's worth.
+const PATIENCE: usize = 1 << 30;
 // What a step copies whatever its stack and storage.
 const LEAST: usize = 4_096;
 
