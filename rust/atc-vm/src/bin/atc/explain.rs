@@ -81,7 +81,7 @@ fn in_words(refusal: &Refusal, cause: &Cause) -> String {
         "{}, {}: {}.\n\n",
         refusal.number, refusal.name, refusal.text
     );
-    text += &row("carries", &carries);
+    text += &row("carries", &format!("{carries}{}", meaning(refusal.number)));
     text += &row("leaves", leaves(refusal.number));
     text += &row("common cause", cause.cause);
     text + &shown(cause.example)
@@ -105,6 +105,18 @@ fn shown(example: Example) -> String {
         Example::Ops(ops, options) => {
             row("example", &format!("these operations, with {options}")) + &indented(ops)
         }
+    }
+}
+
+// What is said of what a refusal carries.
+fn meaning(number: u64) -> &'static str {
+    match number {
+        8..=11 => ": 0 for `expected`, n for the n-th parameter",
+        12..=20 => ": from 1, the first being that of the body's `{`",
+        28..=31 => ": the line from 1, the offending part in bytes of the text",
+        32 => ": from 1",
+        50 => ", or 2^64 - 1 for slot 2^64 - 1",
+        _ => "",
     }
 }
 

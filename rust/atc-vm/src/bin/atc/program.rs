@@ -32,7 +32,12 @@ pub fn assemble(rule: &OsStr, vector: &OsStr) -> Result<Rule, Failure> {
     let stem = Path::new(rule).file_stem().unwrap_or_default();
     let (rule, vector) = (files::read(rule)?, files::read(vector)?);
     let assembled = assemble_text(&rule.bytes, &vector.bytes, stem.as_encoded_bytes());
-    let notes = cut_numbers(&rule, &vector);
+    let unread = assembled.as_ref().is_err_and(|error| error.number() <= 2);
+    let notes = if unread {
+        Vec::new()
+    } else {
+        cut_numbers(&rule, &vector)
+    };
     match assembled {
         Ok(assembled) => Ok(Rule {
             rule,

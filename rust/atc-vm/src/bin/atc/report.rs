@@ -12,6 +12,7 @@ use crate::slots::{changes, changes_in_words, changes_json, list};
 use crate::step::aimed;
 use crate::walk::{End, Whole};
 use atc_vm::{Op, Vm, VmError};
+use std::collections::BTreeMap;
 
 /// A run that has ended.
 pub struct Report<'a> {
@@ -105,52 +106,49 @@ impl Report<'_> {
         } else {
             text += &row("gas limit", &self.setting.gas.to_string());
         }
-        text += &row("stack", "nothing is left of it");
+        let stack = if number < 46 {
+            "none: nothing has run"
+        } else {
+            "nothing is left of it"
+        };
+        text += &row("stack", stack);
         text += &row("storage before", &list(&self.setting.storage));
         text + &self.storage_kept(paint)
     }
 
-    // After a refusal: every slot as before, and what had been stored meanwhile.
+    // After a refusal: every slot as before, and what had been stored meanwhile. The first slots are shown, and those.
     fn storage_kept(&self, paint: Paint) -> String {
+        const FIRST: usize = 8;
         const MOST: usize = 16;
         let before = &self.setting.storage;
-        let meanwhile = self.end.map_or(&before[..], |end| &end.state.storage[..]);
-        let undone = changes(before, meanwhile);
+        let meanwhile = self.end.map_or(before, |end| &end.state.storage);
+        let first = (0..before.len().min(FIRST)).map(|slot| (slot, None));
+        let undone = changes(before, meanwhile).into_iter();
+        let slots: BTreeMap<usize, Option<u64>> = first
+            .chain(undone.map(|change| (change.slot, Some(change.after))))
+            .collect();
         let mut text = row(
             "storage after",
             &format!("{}, as before", list(&self.whole.storage)),
         );
-        let mut shown = 0;
-        let slots = before.len().max(meanwhile.len());
-        for slot in 0..slots {
-            let stored = undone
-                .binary_search_by_key(&slot, |change| change.slot)
-                .ok()
-                .map(|i| undone[i].after);
+        for (&slot, &stored) in slots.iter().take(MOST) {
             let value = before
                 .get(slot)
                 .map_or("unused".to_string(), u64::to_string);
-            let line = match stored {
-                Some(stored) => format!(
-                    "{value:<8}  {}",
-                    paint.yellow(&format!("{stored} had been stored meanwhile: undone"))
-                ),
-                None if slot >= before.len() || slot >= MOST / 2 => continue,
-                None => value,
-            };
-            if shown == MOST {
-                text += &row("  ..", "and more; `--json` has them all");
-                break;
-            }
-            shown += 1;
-            text += &row(&format!("  slot {slot}"), &line);
+            let undone = stored.map_or(String::new(), |stored| {
+                paint.yellow(&format!("{stored} had been stored meanwhile: undone"))
+            });
+            let line = format!("{value:<8}  {undone}");
+            text += &row(&format!("  slot {slot}"), line.trim_end());
         }
-        let added = meanwhile.len() - before.len().min(meanwhile.len());
+        if slots.len() > MOST {
+            text += &row("  ..", "and more; `--json` has them all");
+        }
+        let added = meanwhile.len().saturating_sub(before.len());
         if added > 0 {
-            text += &row(
-                "  slots used",
-                &format!("{}  {added} had been added meanwhile: undone", before.len()),
-            );
+            let used = before.len().to_string();
+            let line = format!("{used:<8}  {added} had been added meanwhile: undone");
+            text += &row("  slots used", &line);
         }
         text
     }

@@ -22,11 +22,11 @@ pub fn trace(arguments: &Arguments) -> Result<u8, Failure> {
     }
     let paint = Paint::on(&io::stdout());
     let mut out = BufWriter::new(io::stdout().lock());
+    if arguments.json {
+        out.write_all(b"{\"steps\":[").map_err(Failure::output)?;
+    }
     let end = if verified(&program, &setting) {
         steps(arguments, &program, &setting, &mut out, paint)?
-    } else if arguments.json {
-        out.write_all(b"{\"steps\":[").map_err(Failure::output)?;
-        None
     } else {
         None
     };
@@ -75,12 +75,9 @@ fn steps(
     paint: Paint,
 ) -> Result<Option<End>, Failure> {
     let table = Table::of(program, setting);
-    let head = if arguments.json {
-        "{\"steps\":[".to_string()
-    } else {
-        paint.bold(&table.head()) + "\n"
-    };
-    out.write_all(head.as_bytes()).map_err(Failure::output)?;
+    if !arguments.json {
+        writeln!(out, "{}", paint.bold(&table.head())).map_err(Failure::output)?;
+    }
     let mut between = "";
     let end = walk::walk(&program.ops, setting, |before, step| {
         let line = if arguments.json {
@@ -94,7 +91,7 @@ fn steps(
         Ok(true)
     })?;
     if !arguments.json {
-        out.write_all(b"\n").map_err(Failure::output)?;
+        writeln!(out).map_err(Failure::output)?;
     }
     Ok(end)
 }

@@ -11,6 +11,9 @@ use crate::place::{named, quoted, Place};
 use std::collections::HashSet;
 use std::ops::Range;
 
+// Of which the parameters are the first.
+const MOST_BINDINGS: usize = 256;
+
 impl<'a> Case<'a> {
     /// 8 to 11: the key of `expected`, or of the n-th parameter.
     pub fn key(&self, key: u64) -> Blame<'a> {
@@ -93,18 +96,12 @@ impl<'a> Case<'a> {
 /// Numbers of the vector of which only a part is read.
 pub fn cut_numbers(rule: &Source, vector: &Source) -> Vec<Message> {
     let text = &rule.text;
-    let parts = Head::of(text).parameters(text);
-    let names = parts
-        .into_iter()
-        .map(|part| &text[parameter_name(text, part)]);
-    let mut keys: Vec<&str> = ["expected"]
-        .into_iter()
-        .chain(names)
-        .filter(|name| !name.is_empty())
-        .collect();
+    let parts = Head::of(text).parameters(text).into_iter();
+    let names = parts.map(|part| &text[parameter_name(text, part)]);
+    let names = names.filter(|name| !name.is_empty()).take(MOST_BINDINGS);
     let mut seen = HashSet::new();
-    keys.retain(|key| seen.insert(*key));
-    keys.into_iter()
+    let keys = ["expected"].into_iter().chain(names);
+    keys.filter(|key| seen.insert(*key))
         .filter_map(|key| cut_number(key, vector))
         .collect()
 }
@@ -112,31 +109,25 @@ pub fn cut_numbers(rule: &Source, vector: &Source) -> Vec<Message> {
 fn cut_number(key: &str, vector: &Source) -> Option<Message> {
     let text = &vector.text;
     let digits = Member::of(text, key)?.digits;
-    let rest = &text[digits.end..];
-    let ends = |c: char| c.is_whitespace() || ",}]".contains(c);
-    let mut left_out = rest.find(ends).unwrap_or(rest.len());
-    // A comma with a digit behind it is no comma between members.
-    let digit = |c: char| c.is_ascii_digit();
-    if left_out == 0
-        && rest
-            .strip_prefix(',')
-            .is_some_and(|rest| rest.starts_with(digit))
-    {
-        left_out = 1 + rest[1..].find(|c| !digit(c)).unwrap_or(rest.len() - 1);
-    }
-    if digits.is_empty() || left_out == 0 {
+    let tail = tail(&text[digits.end..]);
+    if digits.is_empty() || tail.is_empty() {
         return None;
     }
-    let (number, tail) = (&text[digits.clone()], &rest[..left_out]);
-    let place = Place::of(&vector.name, text, digits.end..digits.end + left_out);
-    let headline = format!(
-        "{} is read as {}",
-        quoted(key),
-        quoted(number).trim_matches('`')
-    );
-    Some(Message::note(
-        headline,
-        place,
-        format!("{} is left out: numbers are whole.", quoted(tail)),
-    ))
+    let place = Place::of(&vector.name, text, digits.end..digits.end + tail.len());
+    let headline = format!("{} is read as {}", quoted(key), &text[digits]);
+    let label = format!("{} is left out: numbers are whole.", quoted(tail));
+    Some(Message::note(headline, place, label))
+}
+
+// What a writer would take for more of the number: all up to a comma, a bracket or white space; or a comma with digits
+// behind it, for no comma between members is followed by one.
+fn tail(rest: &str) -> &str {
+    let digit = |c: char| c.is_ascii_digit();
+    let after_comma = rest.strip_prefix(',').unwrap_or("");
+    if after_comma.starts_with(digit) {
+        let digits = after_comma.find(|c| !digit(c)).unwrap_or(after_comma.len());
+        return &rest[..1 + digits];
+    }
+    let ends = |c: char| c.is_whitespace() || ",}]".contains(c);
+    &rest[..rest.find(ends).unwrap_or(rest.len())]
 }
