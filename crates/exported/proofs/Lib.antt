@@ -1,2 +1,3 @@
 pub mod ExportedStatement
+pub mod Rollback
 pub mod Examples
