@@ -14,7 +14,6 @@ use Rattle.scope.specs.Numbers.{assembleErrorNumbered}
 use Rattle.contract.specs.Output.{Assembly, assembled}
 use Rattle.contract.proofs.Answers.{tells, never-0, no-text}
 use Rattle.assembler.specs.declared.AssemblyAnswer.{AssemblyAnswer}
-use Rattle.base.specs.Outcome.{Outcome, is, refused}
 use Rattle.assembler.specs.declared.AssemblyAnswer.the-variants.{Success, Refused}
 use Rattle.assembler.specs.Answers.{assemblyAnswerNumbered, Assembles}
 use Rattle.pieces.specs.Code.Added.{Added}

@@ -12,8 +12,7 @@ use Rattle.decimal.proofs.Laws.{length-word}
 use Rattle.grammar.specs.Tree.{Tree}
 use Rattle.contract.specs.Assembled.{assembledTree}
 use Rattle.contract.specs.Output.{Assembly, stemFits, output, assembled}
-use Rattle.numbered.specs.declared.Numbered.{Numbered}
-use Rattle.base.specs.Outcome.{Outcome, is, refused}
+use Rattle.base.specs.Outcome.{is}
 use Rattle.contract.proofs.Words.{words-short}
 use Rattle.contract.proofs.Accepted.{accepted-is, expected-word}
 use Rattle.contract.proofs.Answers.{by-answer}

@@ -10,7 +10,6 @@ use lib.ListN.{length, take, drop, length-append}
 use Rattle.base.proofs.Parts.{take-drop-slice}
 use Rattle.decimal.specs.Decimal.{decimal}
 use Rattle.base.specs.Ascii.{ascii}
-use Rattle.base.specs.Overwrite.{overwrite}
 use Rattle.grammar.specs.Tree.{Tree}
 use Rattle.grammar.specs.Code.Lengths.{lenOf}
 use Rattle.grammar.specs.Parse.{meaning}

@@ -13,7 +13,7 @@ use Rattle.checks.specs.Verify.{buffersFit}
 use Rattle.grammar.specs.Tree.{kOf}
 use Rattle.numbered.specs.Numbered.{carrying}
 use Rattle.contract.specs.Output.{operationsOf}
-use Rattle.base.specs.Outcome.{Outcome, is, refused}
+use Rattle.base.specs.Outcome.{is}
 use Rattle.correctness.specs.Call.{Compilation, readingOf}
 use Rattle.correctness.specs.Statement.{Hypotheses, CompileStatement, observedBy}
 use Rattle.contract.proofs.Accepted.{accepted-is}

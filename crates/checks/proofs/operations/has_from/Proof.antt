@@ -7,7 +7,6 @@ use native.Mathlib.Omega.{arith}
 use lib.ListN.{getD}
 use Rattle.base.specs.Code.Skips.{AllFrom}
 use Rattle.base.proofs.Skips.{either-more}
-use Rattle.base.proofs.Tests.{or-left, or-right}
 use borrow.Author.Needs.{needs}
 use Rattle.checks.proofs.operations.has_from.Statement.{statement}
 use Rattle.checks.proofs.operations.has_from.Tie as tie
