@@ -48,7 +48,7 @@ fn the_three_beliefs_are_refuted() {
         (
             copied,
             &[
-                "least limit     22 gas (3k - 2); under 21 the run is refused with 46",
+                "least limit     22 gas (3k - 2); under a limit of 21 the run is refused with 46",
                 "power     4       2           7          14",
                 "(exit status 0)",
             ],

@@ -329,3 +329,24 @@ fn numbers_that_are_cut_are_noted() {
         "{told:?}"
     );
 }
+
+#[test]
+fn lines_that_are_skipped() {
+    let folder = Folder::new();
+    folder.put("v.json", r#"{"expected": 2, "a": 1}"#);
+    folder.put(
+        "r.rule",
+        "fn f (a) {\n  // Let it be.\n  Let a = 2\n  retrun 1\n  a sentence\n\n  return\t3\n  return a + a\n}\n",
+    );
+    for command in ["assemble", "run", "trace", "gas"] {
+        let told = folder.say(&format!("{command} r.rule v.json"));
+        assert_eq!(told.status, 0, "{told:?}");
+        for (line, word) in [(3, "let"), (4, "return"), (7, "return")] {
+            let note = format!("note: line {line} is skipped\n --> r.rule:{line}:3\n");
+            assert!(told.err.contains(&note), "{told:?}");
+            let meant = format!("Is `{word} ` meant, with a space behind it?");
+            assert!(told.err.contains(&meant), "{told:?}");
+        }
+        assert_eq!(told.err.matches("is skipped").count(), 3, "{told:?}");
+    }
+}

@@ -63,7 +63,7 @@ k               4 numbers pushed
 p               3 stack items needed
 value           144
 operations      8
-least limit     10 gas (3k - 2); under 9 the run is refused with 46
+least limit     10 gas (3k - 2); under a limit of 9 the run is refused with 46
 
 let  line  copies  gas a copy  gas in all
 s       2       2           4           8
@@ -139,7 +139,7 @@ fn least_limits_of_operations() {
     let told = folder.say("gas r.ops");
     assert!(
         told.out
-            .contains("least limit     10 gas; under 9 the run is refused with 46\n"),
+            .contains("least limit     10 gas; under a limit of 9 the run is refused with 46\n"),
         "{told:?}"
     );
     // At the limit it runs, and below it doesn't.

@@ -38,8 +38,9 @@ fn told(number: u64, told: &Told, place: &str, words: &[&str]) {
     let headline = atc_vm::refusal(number).unwrap().text;
     let first = format!("error[{number}]: {headline}\n");
     assert!(told.err.contains(&first), "{number}: {}", told.err);
-    let marked = told
-        .err
+    // Notes may stand before it.
+    let error = told.err.find(&first).map_or("", |at| &told.err[at..]);
+    let marked = error
         .lines()
         .find_map(|line| line.trim_start().strip_prefix("--> "));
     assert_eq!(marked.unwrap_or(""), place, "{number}: {}", told.err);
@@ -354,7 +355,10 @@ fn values() {
         22,
         "  power * 2\n  return",
         "4:24",
-        &["No line of this body starts with `return `", "Line 6"],
+        &[
+            "No line of this body starts with `return `",
+            "line 6 is skipped",
+        ],
     );
     body_refused(22, "", "4:24", &["No line of this body"]);
     body_refused(

@@ -6,6 +6,8 @@ use crate::blame::{not_utf8, Blame};
 use crate::failure::Refused;
 use crate::files::Source;
 use crate::layout::{parameter_name, Head, Line, Member, Statement};
+use crate::message::Message;
+use crate::nearest::nearest;
 use crate::place::{on_one_line, quoted, Place};
 use atc_vm::assembler::MAX_TEXT;
 use atc_vm::AssembleError;
@@ -89,6 +91,33 @@ fn bad_stem<'a>(stem: &OsStr) -> Blame<'a> {
     .help("Give the file another name.")
 }
 
+// Of so many skipped lines a note is made.
+const MOST_NOTES: usize = 3;
+
+/// Lines of the body that are skipped, though they start nearly as a `let` or a `return` does.
+pub fn skipped_lines(rule: &Source) -> Vec<Message> {
+    let lines = Head::of(&rule.text).lines(&rule.text).into_iter();
+    let slips = lines.filter_map(|line| slip(rule, &line));
+    slips.take(MOST_NOTES).collect()
+}
+
+fn slip(rule: &Source, line: &Line) -> Option<Message> {
+    const WORDS: [&str; 2] = ["let", "return"];
+    if !matches!(line.statement, Statement::Other) {
+        return None;
+    }
+    let first = rule.text[line.span.clone()]
+        .split(char::is_whitespace)
+        .next()?;
+    let same = WORDS.into_iter().find(|word| *word == first);
+    let word = same.or_else(|| nearest(first, WORDS.into_iter()))?;
+    let span = line.span.start..line.span.start + first.len();
+    let place = Place::of(&rule.name, &rule.text, span);
+    let headline = format!("line {} is skipped", place.line);
+    let label = format!("Is `{word} ` meant, with a space behind it?");
+    Some(Message::note(headline, place, label))
+}
+
 impl<'a> Case<'a> {
     pub fn text(&self) -> &'a str {
         &self.rule.text
@@ -139,23 +168,10 @@ impl<'a> Case<'a> {
 
     fn no_return(&self) -> Blame<'a> {
         let brace = self.head.brace.unwrap_or(0);
-        let lines = self.head.lines(self.text());
-        let close = |line: &&Line| {
-            let span = line.span.clone();
-            matches!(line.statement, Statement::Other) && self.text()[span].starts_with("return")
-        };
-        let help = lines.iter().find(close).map(|line| {
-            let place = Place::of(&self.rule.name, self.text(), line.span.clone());
-            format!(
-                "Line {} has no space behind `return`, or nothing there.",
-                place.line
-            )
-        });
         self.in_rule(
             brace..brace + 1,
             "No line of this body starts with `return ` (and a space).",
         )
-        .help_if(help)
     }
 
     fn last_return(&self) -> Option<(Line, Range<usize>)> {

@@ -139,7 +139,9 @@ fn least(spent: u64, figures: Option<&Figures>) -> String {
     let formula = figures.is_some_and(|figures| 3 * figures.k - 2 == spent);
     let formula = if formula { " (3k - 2)" } else { "" };
     match spent.checked_sub(1) {
-        Some(less) => format!("{spent} gas{formula}; under {less} the run is refused with 46"),
+        Some(less) => {
+            format!("{spent} gas{formula}; under a limit of {less} the run is refused with 46")
+        }
         None => format!("{spent} gas{formula}"),
     }
 }

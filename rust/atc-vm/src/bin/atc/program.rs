@@ -20,7 +20,7 @@ pub struct Rule {
     pub rule: Source,
     pub vector: Source,
     pub assembled: Assembled,
-    /// On numbers of which only a part is read.
+    /// On numbers of which only a part is read, and on lines that are skipped.
     pub notes: Vec<Message>,
 }
 
@@ -36,7 +36,11 @@ pub fn assemble(rule: &OsStr, vector: &OsStr) -> Result<Rule, Failure> {
     let notes = if unread {
         Vec::new()
     } else {
-        cut_numbers(&rule, &vector)
+        let numbers = cut_numbers(&rule, &vector);
+        numbers
+            .into_iter()
+            .chain(contract::skipped_lines(&rule))
+            .collect()
     };
     match assembled {
         Ok(assembled) => Ok(Rule {
