@@ -2,19 +2,19 @@
 use Prim.Native.Nat.{ℕ, zero, suc, _+_, _-_, _<_, _≤_}
 use mathlib.Core.Path.{_≡_, sym, ap, _∙_}
 use mathlib.Core.List.{List}
-use mathlib.Core.Bool.{false}
-use borrow.Author.Tests.{eqb-true}
+use mathlib.Core.Bool.{Bool, false, not, _||_}
+use borrow.Author.Tests.{eqb-true, ne-eqb}
+use lib.Dec.{eqb}
 use native.Mathlib.Omega.{arith}
 use lib.ListN.{length, getD, drop, drop-of-length-le}
-use Rattle.base.proofs.Tests.{by-bool, by-leb, by-eqb}
+use Rattle.base.proofs.Tests.{by-bool, by-leb, by-eqb, false-true, or-left, or-right}
 use Rattle.search.specs.declared.Found.the-variants.{At}
 use Rattle.search.specs.First.{prefixOf, firstAt}
 use Rattle.search.proofs.Prefix.{same-at}
 use Rattle.search.proofs.Laws.{hit, miss}
 use Rattle.key.specs.Key.{quoted}
 use Rattle.key.specs.Code.Marked.{Quotes}
-use Rattle.key.proofs.Quoted.{quoted-length}
-use Rattle.key.proofs.Quoted.{key-byte, closing-quote, byte-here}
+use Rattle.key.proofs.Quoted.{quoted-length, key-byte, closing-quote, byte-here}
 
 -- no byte is read
 pub none-read : (s : List ℕ) (from end : ℕ) → end ≤ from → Quotes s from end
@@ -23,6 +23,21 @@ none-read s from end h k l g = absurd (omega arith)
 -- one quote more before the others
 pub one-before : (s : List ℕ) (from end : ℕ) → 0 < from → getD s (from - 1) 0 ≡ 0x22 → Quotes s from end → Quotes s (from - 1) end
 one-before s from end p e q k l g = by-leb from k (λ h. q k h g) (λ h. let z : k ≡ from - 1 = omega arith in ap (λ (n : ℕ). getD s n 0) z ∙ e)
+
+-- one quote more behind the others, as it is tested: there is no other byte so far, nor is the next one
+pub one-more : (s : List ℕ) (at i : ℕ) (other : Bool) → (other ≡ false → Quotes s at (at + i)) → (other || not (eqb (getD s (at + i) 0) 0x22)) ≡ false
+    → Quotes s at (at + (i + 1))
+one-more s at i other q e k l g =
+    by-leb (at + i) k
+    (λ h. let z : k ≡ at + i = omega arith in ap (λ (n : ℕ). getD s n 0) z ∙ quote (getD s (at + i) 0) (or-right other _ e))
+    (λ h. q (or-left other _ e) k l h)
+  where
+    quote : (a : ℕ) → not (eqb a 0x22) ≡ false → a ≡ 0x22
+    quote a n = by-eqb a 0x22 (λ h. h) (λ h. false-true (sym n ∙ ap not (ne-eqb a 0x22 h)))
+
+-- quotes up to others
+pub joined : (s : List ℕ) (from mid end : ℕ) → Quotes s from mid → Quotes s mid end → Quotes s from end
+joined s from mid end p q k l g = by-leb mid k (λ h. q k h g) (λ h. p k l h)
 
 -- a key of quotes alone has them between two more
 pub quotes-around : (key : List ℕ) → Quotes key 0 (length key) → Quotes (quoted key) 0 (length key + 2)

@@ -106,17 +106,16 @@ fn find_last(s: &[u8], key: &[u8], mark: Mark, left: usize, at: usize, stop: usi
 fn mark_of(key: &[u8]) -> Mark
     ensures { λ r. ⌜ Marks (now (key .entry)) r ⌝ }
 {
-    let mut k = key.len();
-    while 0 < k {
-        let byte = key[k - 1];
-        if byte != b'"' {
-            return Mark { place: k, byte };
-        }
-        k -= 1;
-    }
-    Mark {
-        place: 0,
-        byte: b'"',
+    let other = last_other(key, 0, key.len());
+    match other {
+        Found::At(k) => Mark {
+            place: k + 1,
+            byte: key[k],
+        },
+        Found::Nothing => Mark {
+            place: 0,
+            byte: b'"',
+        },
     }
 }
 
@@ -144,7 +143,7 @@ fn last_other(s: &[u8], from: usize, end: usize) -> Found
     requires { ⌜ (from ≤ end) × (end ≤ length (now s)) ⌝ }
     ensures { λ r. ⌜ Other (now (s .entry)) from end r ⌝ }
 {
-    let mut k = end;
+    let mut k = quotes_start(s, from, end);
     while from < k {
         k -= 1;
         if s[k] != b'"' {
@@ -152,6 +151,35 @@ fn last_other(s: &[u8], from: usize, end: usize) -> Found
         }
     }
     Found::Nothing
+}
+
+// Quotes alone stand there and up to end: whole blocks of them are passed.
+fn quotes_start(s: &[u8], from: usize, end: usize) -> usize
+    requires { ⌜ (from ≤ end) × (end ≤ length (now s)) ⌝ }
+    ensures { λ r. ⌜ (from ≤ r) × (r ≤ end) × Quotes (now (s .entry)) r end ⌝ }
+{
+    let mut k = end;
+    while BLOCK <= k - from {
+        if has_other(s, k - BLOCK) {
+            return k;
+        }
+        k -= BLOCK;
+    }
+    k
+}
+
+// Whether a byte of a block is no quote. It has no branch.
+fn has_other(s: &[u8], at: usize) -> bool
+    requires { ⌜ at + 16 ≤ length (now s) ⌝ }
+    ensures { λ r. ⌜ (r ≡ false → Quotes (now (s .entry)) at (at + 16)) ⌝ }
+{
+    let mut any = false;
+    let mut i: usize = 0;
+    while i < BLOCK {
+        any = either(any, s[at + i] != b'"');
+        i += 1;
+    }
+    any
 }
 
 // Whether the key agrees at one of the n places from a place on.
