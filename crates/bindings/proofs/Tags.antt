@@ -11,7 +11,7 @@ use lib.ListN.{length, getD, take, drop, length-drop}
 use lib.Seq.{length-take-le, getD-take, getD-drop}
 use Rattle.base.specs.Equal.{equal}
 use Rattle.base.proofs.Tests.{false-true, and-left, and-right, by-bool, by-cond, or-left, or-right}
-use Rattle.bindings.specs.Code.Table.{mix, tagOf, hasName, found, hasTag, isFree}
+use Rattle.bindings.specs.Code.Table.{Passes, mix, tagOf, hasName, found, hasTag, isFree}
 
 same-is : (v w : List ℕ) → equal v w ≡ true → v ≡ w
 same-is [] [] e = refl
@@ -65,29 +65,31 @@ pub free-block : (tags : List ℕ) (left tag : ℕ) {r : Bool} → 16 ≤ left �
 free-block tags left tag h e = ap not e ∙ sym (simp (le-ltb left 16 h))
 
 module _ (s names lens tags w : List ℕ) where
-  passed : (from n : ℕ) → hasTag tags from n (tagOf w) ≡ false → found (from + n) s names lens tags w ≡ found from s names lens tags w
+  without-tag : (from n : ℕ) → hasTag tags from n (tagOf w) ≡ false → found (from + n) s names lens tags w ≡ found from s names lens tags w
   unfolding found hasTag
-  passed from zero e = let p : from + 0 ≡ from = omega arith in ap (λ (x : ℕ). found x s names lens tags w) p
-  passed from (suc n) e =
+  without-tag from zero e = let p : from + 0 ≡ from = omega arith in ap (λ (x : ℕ). found x s names lens tags w) p
+  without-tag from (suc n) e =
       let p : from + suc n ≡ suc (from + n) = omega arith in
       let t = or-right (hasTag tags from n (tagOf w)) (eqb (getD tags (from + n) 0) (tagOf w)) e in
       let q : hasName s names lens tags (from + n) w ≡ false = simp t in
       let f : found (suc (from + n)) s names lens tags w ≡ found (from + n) s names lens tags w = rw (q, found) in
-      ap (λ (x : ℕ). found x s names lens tags w) p ∙ f ∙ passed from n (or-left (hasTag tags from n (tagOf w)) (eqb (getD tags (from + n) 0) (tagOf w)) e)
+      ap (λ (x : ℕ). found x s names lens tags w) p ∙ f ∙ without-tag from n (or-left (hasTag tags from n (tagOf w)) (eqb (getD tags (from + n) 0) (tagOf w)) e)
 
-  module _ (left tag : ℕ) (g : tag ≡ tagOf w) (e : isFree tags left tag ≡ true) where
-    pub free-room : 16 ≤ left
-    free-room =
-        by-cond (ltb left 16) false (not (hasTag tags (left - 16) 16 tag)) e
-        (λ p q. false-true q)
-        (λ p q. ltb-false left 16 p)
+module _ (tags : List ℕ) (left tag : ℕ) (e : isFree tags left tag ≡ true) where
+  pub free-room : 16 ≤ left
+  free-room =
+      by-cond (ltb left 16) false (not (hasTag tags (left - 16) 16 tag)) e
+      (λ p q. false-true q)
+      (λ p q. ltb-false left 16 p)
 
-    pub free-passed : found left s names lens tags w ≡ found (left - 16) s names lens tags w
-    free-passed =
-        by-cond (ltb left 16) false (not (hasTag tags (left - 16) 16 tag)) e
-        (λ p q. false-true q)
-        (λ p q.
-        let h = ltb-false left 16 p in
-        let n : left ≡ (left - 16) + 16 = omega arith in
-        let f : hasTag tags (left - 16) 16 (tagOf w) ≡ false = ap (hasTag tags (left - 16) 16) (sym g) ∙ not-true _ q in
-        ap (λ (x : ℕ). found x s names lens tags w) n ∙ passed (left - 16) 16 f)
+  free-same : (s names lens w : List ℕ) → tag ≡ tagOf w → found left s names lens tags w ≡ found (left - 16) s names lens tags w
+  free-same s names lens w g =
+      by-cond (ltb left 16) false (not (hasTag tags (left - 16) 16 tag)) e
+      (λ p q. false-true q)
+      (λ p q.
+      let n : left ≡ (left - 16) + 16 = let h = free-room in omega arith in
+      let f : hasTag tags (left - 16) 16 (tagOf w) ≡ false = ap (hasTag tags (left - 16) 16) (sym g) ∙ not-true _ q in
+      ap (λ (x : ℕ). found x s names lens tags w) n ∙ without-tag s names lens tags w (left - 16) 16 f)
+
+  pub free-passes : {n : ℕ} → Passes tags n tag left → Passes tags n tag (left - 16)
+  free-passes h = record { fewer = omega (arith, h .fewer); same = λ s names lens w g. h .same s names lens w g ∙ free-same s names lens w g }

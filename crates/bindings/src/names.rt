@@ -5,7 +5,7 @@ ghost use Prim.Native.Nat.{_+_, _≤_, _<_};
 ghost use lib.Dec.{leb};
 ghost use lib.ListN.{length, take, drop};
 ghost use Rattle.base.specs.Equal.{equal};
-ghost use Rattle.bindings.specs.Code.Table.{tagOf, mix, hasName, found, hasTag, isFree};
+ghost use Rattle.bindings.specs.Code.Table.{tagOf, mix, hasName, found, hasTag, isFree, Passes};
 use base::either;
 use base::wide;
 
@@ -30,18 +30,27 @@ pub fn lookup<'a>(
         (take len (drop start (now (text .entry)))) ⌝ }
 {
     let tag = tag_of(text, start, len);
-    let mut left = count;
+    let mut left = passed(tags, count, tag);
     while 0 < left {
-        if is_free(tags, left, tag) {
-            left -= 16;
-        } else {
-            left -= 1;
-            if is_called(text, start, len, tag, left, names, lens, tags) {
-                return BoundName::At(left);
-            }
+        let i = left - 1;
+        if is_called(text, start, len, tag, i, names, lens, tags) {
+            return BoundName::At(i);
         }
+        left = passed(tags, i, tag);
     }
     BoundName::Nothing
+}
+
+// So many of the first bindings, of at most 256, without the newest blocks of 16 that all have another tag.
+fn passed(tags: &[u8; 256], count: usize, tag: u8) -> usize
+    requires { ⌜ count ≤ 256 ⌝ }
+    ensures { λ r. ⌜ Passes (now (tags .entry)) count tag r ⌝ }
+{
+    let mut left = count;
+    while is_free(tags, left, tag) {
+        left -= 16;
+    }
+    left
 }
 
 // A byte that most names differ in: a mix of the first byte and the last two. Its callers have the name from a token of the text.

@@ -14,7 +14,8 @@ use Rattle.token.specs.Code.Places.{tokenAt}
 use Rattle.grammar.specs.Grammar.{levels}
 use Rattle.emission.specs.Code.Lines.{operatorsText}
 use Rattle.emission.specs.declared.waiting.Popped.{Popped}
-use Rattle.emission.specs.Code.Waiting.{levelOf, most, popped, left, Pops}
+use Rattle.grammar.specs.Code.Operator.{levelOf}
+use Rattle.emission.specs.Code.Waiting.{most, popped, left, Pops}
 use Rattle.emission.specs.Code.Turn.{signAt, downTo, CanTurn, Turns}
 
 module _ {s : List ℕ} {end at : ℕ} {out : List ℕ} {to : ℕ} {waiting : List ℕ} {n : ℕ} (r : CanTurn s end at out to waiting n) {b : ℕ} (e : b ≡ signAt s end at) where

@@ -12,12 +12,13 @@ use Rattle.grammar.specs.Tree.{Tree, bin}
 use Rattle.grammar.specs.Parse.{Env, symbol, operator, meaning}
 use Rattle.grammar.specs.Grammar.{levels, Derives, number, name, parentheses, alone, join}
 use Rattle.grammar.specs.Code.Texts.{textOf}
-use Rattle.grammar.proofs.Steps.{lone-is}
+use Rattle.grammar.proofs.Steps.{lone-is, level-is}
 use Rattle.grammar.proofs.Grammar.{operator-is, digits-no-parenthesis, meaning-derives}
 use Rattle.grammar.proofs.Written.{text-bin}
 use Rattle.emission.specs.Code.Lines.{operatorText, operatorsText}
-use Rattle.emission.specs.Code.Waiting.{levelOf, most, popped, left}
-use Rattle.emission.proofs.Stack.{joins-level, popped-one, popped-none, left-one, left-none, operators-append}
+use Rattle.grammar.specs.Code.Operator.{levelOf}
+use Rattle.emission.specs.Code.Waiting.{most, popped, left}
+use Rattle.emission.proofs.Stack.{popped-one, popped-none, left-one, left-none, operators-append}
 use Rattle.emission.proofs.Walk.{opens, closes, waits, Walks}
 use Rattle.emission.proofs.Walk as Walk
 
@@ -122,7 +123,7 @@ ends {env} (parentheses {d} {ts} {t} h) low st small s = parentheses-end (omega 
 ends {env} (alone {l} {d} {ts} {t} h) low st small s = alone-ends (ends h (omega arith) st (omega arith) (starts-below s))
 ends {env} (join {l} {d} {ts} {us} {w} {op} {t} {u} h o g) low st small s =
     let j = operator-is o in
-    let level = joins-level l (symbol w) (j .0) in
+    let level = level-is (suc l) (symbol w) (j .0) in
     subst (λ (x : Binary). Ends env (suc l) st (ts ++ w ∷ us) (bin x t u)) (j .1)
     (join-ends w (omega arith) (omega arith) s (ends h low st small s) level (ends g (omega arith) (symbol w ∷ st) (omega arith) (starts-top l (symbol w) st (omega arith))))
 

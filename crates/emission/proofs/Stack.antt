@@ -2,26 +2,17 @@
 use Prim.Native.Nat.{ℕ, zero, suc, _-_, _<_, _≤_}
 use mathlib.Core.Path.{_≡_, refl, sym, ap, _∙_}
 use mathlib.Core.List.{List, [], _∷_, _++_, append-nil, append-assoc}
-use mathlib.Core.Bool.{true}
 use native.Mathlib.Omega.{arith}
 use borrow.Author.Tests.{le-leb, lt-leb}
 use lib.ListN.{length, getD}
 use Rattle.base.specs.Code.Stack.{stackOf}
-use Rattle.base.proofs.Tests.{false-true, by-leb}
+use Rattle.base.proofs.Tests.{by-leb}
 use Rattle.base.proofs.Stack.{stack-pop}
-use Rattle.grammar.specs.Parse.{isOperatorAt}
 use Rattle.grammar.specs.Tree.{num}
 use Rattle.grammar.specs.Code.Texts.{textOf}
-use Rattle.grammar.proofs.Steps.{looser}
+use Rattle.grammar.specs.Code.Operator.{levelOf}
 use Rattle.emission.specs.Code.Lines.{pushText, operatorText, operatorsText}
-use Rattle.emission.specs.Code.Waiting.{levelOf, popped, left}
-
--- an operator's level is the one that it joins to
-
-pub joins-level : (l a : ℕ) → isOperatorAt (suc l) a ≡ true → levelOf a ≡ suc l
-joins-level zero a e = simp e
-joins-level (suc zero) a e = let n = looser 1 a e in simp (n, e)
-joins-level (suc (suc l)) a e = false-true e
+use Rattle.emission.specs.Code.Waiting.{popped, left}
 
 -- one operator on top of a stack
 

@@ -7,7 +7,8 @@ use lib.ListN.{length, getD, length-append}
 use Rattle.writer.specs.Code.Overwrites.{Overwrites}
 use Rattle.emission.specs.Code.Lines.{operatorText, operatorsText}
 use Rattle.writer.proofs.Pieces.{overwrites-none, overwrites-then, overwrites-length}
-use Rattle.emission.specs.Code.Waiting.{levelOf, most, popped, left, Pops}
+use Rattle.grammar.specs.Code.Operator.{levelOf}
+use Rattle.emission.specs.Code.Waiting.{most, popped, left, Pops}
 use Rattle.emission.proofs.Stack.{left-one, left-none, popped-empty, popped-shut, popped-more}
 use Rattle.base.specs.Code.Stack.{stackOf}
 use Rattle.base.proofs.Stack.{stack-pop}

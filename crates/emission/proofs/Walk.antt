@@ -12,7 +12,8 @@ use Rattle.grammar.specs.Grammar.{levels}
 use Rattle.grammar.specs.Parse.{Env, lookup, symbol}
 use Rattle.grammar.specs.Code.Texts.{textOf}
 use Rattle.emission.specs.Code.Lines.{operatorsText}
-use Rattle.emission.specs.Code.Waiting.{levelOf, most, popped, left}
+use Rattle.grammar.specs.Code.Operator.{levelOf}
+use Rattle.emission.specs.Code.Waiting.{most, popped, left}
 
 -- The token w where a factor is due: `(` is marked on the stack, a number and a name are written.
 -- `next due st o`: the walk over the tokens behind w, with the stack st, writes o; due says whether it starts with a factor.

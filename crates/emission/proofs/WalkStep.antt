@@ -25,7 +25,8 @@ use Rattle.emission.specs.Code.Lines.{pushText, operatorsText}
 use Rattle.emission.specs.declared.factor.Factor.{Factor}
 use Rattle.emission.specs.declared.factor.Factor.the-variants.{Open, Literal, Name, Nothing}
 use Rattle.emission.specs.Code.Factor.{namedBy, factorOf}
-use Rattle.emission.specs.Code.Waiting.{levelOf, most, popped, left}
+use Rattle.grammar.specs.Code.Operator.{levelOf}
+use Rattle.emission.specs.Code.Waiting.{most, popped, left}
 use Rattle.emission.specs.Code.Turn.{downTo, stackAfter}
 use Rattle.emission.proofs.Stack.{text-num}
 use Rattle.emission.proofs.Walk.{FactorStep, opens, number, name, OperatorStep, closes, waits, Walks}

@@ -3,18 +3,20 @@ ghost use mathlib.Core.Path.{_≡_};
 ghost use Prim.Native.Nat.{_+_, _≤_};
 ghost use lib.ListN.{length};
 ghost use Rattle.grammar.specs.Parse.{operator};
+ghost use Rattle.grammar.specs.Code.Operator.{levelOf};
 ghost use Rattle.grammar.specs.Written.{kindNumber};
 ghost use Rattle.writer.specs.Code.Overwrites.{Overwrites};
 ghost use Rattle.emission.specs.Code.Lines.{operatorText, operatorsText};
-ghost use Rattle.emission.specs.Code.Waiting.{levelOf, most, popped, Pops};
+ghost use Rattle.emission.specs.Code.Waiting.{most, popped, Pops};
 ghost use Rattle.base.specs.Code.Stack.{stackOf};
 use expression::DEPTH;
+use expression::parts::is_comparison;
 use expression::parts::is_product;
 use expression::parts::is_sum;
 use writer::put_operation;
 
-// So many levels of operators: 1 for * and /, 2 for + and -.
-pub const LEVELS: u8 = 2;
+// So many levels of operators: 1 for * and /, 2 for + and -, 3 for < and ==.
+pub const LEVELS: u8 = 3;
 
 // One above all levels: that of any byte but an operator, the mark ( among them.
 const NO_LEVEL: u8 = LEVELS + 1;
@@ -35,6 +37,9 @@ pub fn level_of(sign: u8) -> u8
         return 1;
     }
     if is_sum(sign) {
+        return 2;
+    }
+    if is_comparison(sign) {
         return LEVELS;
     }
     NO_LEVEL
@@ -75,6 +80,8 @@ fn operator_kind(sign: u8) -> u8
         b'+' => 1,
         b'-' => 2,
         b'*' => 3,
+        b'<' => 10,
+        b'=' => 9,
         _ => 4,
     }
 }

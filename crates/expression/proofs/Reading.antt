@@ -1,4 +1,4 @@
--- The promises of expression and term: operands that operators join, step by step as the code reads them.
+-- The promises of expression, sum and term: operands that operators join, step by step as the code reads them.
 use Prim.Native.Nat.{ℕ, zero, suc, _<_, _≤_}
 use mathlib.Core.Path.{_≡_, refl, sym, ap, subst, _∙_}
 use mathlib.Core.List.{List, _∷_}
@@ -23,7 +23,7 @@ use Rattle.bindings.specs.Code.Table.{Columns, TableFor}
 use Rattle.expression.specs.Code.Parts.{signAt}
 use Rattle.grammar.specs.Code.Reads.{Reads}
 use Rattle.expression.specs.Code.Cycle.{ReadWithin, ParsesAs}
-use Rattle.grammar.proofs.Steps.{Left, starts, starts-refused, turns, turns-refused, stops}
+use Rattle.grammar.proofs.Steps.{no-level, Left, starts, starts-refused, turns, turns-refused, stops}
 
 pub carry : {s : List ℕ} {at : ℕ} {c : Columns} {l d : ℕ} {r q : ParseResult} → r ≡ q → ParsesAs s at c l d r → ParsesAs s at c l d q
 carry {s} {at} {c} {l} {d} e m = subst (λ (x : ParseResult). ParsesAs s at c l d x) e m
@@ -53,12 +53,6 @@ figures-join a {t} {u} {v} {w} {r} f g j =
     }
 
 -- the sign of an operator is the next token
-joins-none : (l : ℕ) → isOperatorAt l 0 ≡ false
-joins-none zero = refl
-joins-none (suc zero) = refl
-joins-none (suc (suc zero)) = refl
-joins-none (suc (suc (suc l))) = refl
-
 pub record Operator (s : List ℕ) (at : ℕ) (sign : Sign) (w : List ℕ) : Type 0 where
   pub past : at < sign .end
   pub inside : sign .end ≤ length s
@@ -70,7 +64,7 @@ operator-next s at l sign e j =
     let q : sign .end ≡ tokenAt s at .end = ap (λ (x : Sign). x .end) e in
     let b : sign .byte ≡ symbol (first (tokens (drop at s))) = ap (λ (x : Sign). x .byte) e in
     by-leb (tokenAt s at .end) (tokenAt s at .start)
-    (λ h. false-true (sym (ap (isOperatorAt l) (b ∙ ap (λ (x : List (List ℕ)). symbol (first x)) (token-none s at (omega arith))) ∙ joins-none l) ∙ j))
+    (λ h. false-true (sym (ap (isOperatorAt l) (b ∙ ap (λ (x : List (List ℕ)). symbol (first x)) (token-none s at (omega arith))) ∙ no-level l 0 (omega arith)) ∙ j))
     (λ h.
     let n = token-next s at h in
     record {

@@ -2,7 +2,7 @@
 ghost use mathlib.Core.Path.{_≡_};
 ghost use Prim.Native.Nat.{_≤_};
 ghost use lib.ListN.{length};
-ghost use Rattle.grammar.specs.Parse.{factor, term, expression};
+ghost use Rattle.grammar.specs.Parse.{factor, term, sum, expression};
 ghost use Rattle.expression.specs.Answer.{exprErrorNumbered};
 ghost use Rattle.expression.specs.Code.Answers.{Answers};
 ghost use Rattle.bindings.specs.Code.Table.{columnsOf, columns};
@@ -22,6 +22,7 @@ use operands::close;
 use operands::literal;
 use operands::name;
 use operands::whole;
+use parts::is_comparison;
 use parts::is_product;
 use parts::is_sum;
 use parts::sign_at;
@@ -95,7 +96,7 @@ pub fn parse(text: &[u8], at: usize, table: Bindings, values: Values) -> ParseRe
     }
 }
 
-// Terms joined by + and -. Room is how many more parentheses may be open.
+// Sums joined by < and ==. Room is how many more parentheses may be open.
 fn expression<'a>(
     text: &'a [u8],
     at: usize,
@@ -113,6 +114,72 @@ fn expression<'a>(
     requires { ⌜ CanParse (now text) count ⌝ }
     ensures { λ r. ⌜ ParsesAs (now (text .entry)) at (columnsOf count (now (names .entry)) (now (lens .entry)) (now (tags .entry))
         (now (ks .entry)) (now (ps .entry)) (now (values .entry)) (now (nones .entry)) (now (sizes .entry))) expression room r ⌝ }
+{
+    match sum(
+        text,
+        at,
+        room,
+        count,
+        names,
+        lens,
+        tags,
+        ks,
+        ps,
+        values,
+        nones,
+        sizes,
+    ) {
+        ParseResult::Refused(e) => ParseResult::Refused(e),
+        ParseResult::Done(first) => {
+            let mut left = first;
+            let mut sign = sign_at(text, left.next);
+            while is_comparison(sign.byte) {
+                match sum(
+                    text,
+                    sign.end,
+                    room,
+                    count,
+                    names,
+                    lens,
+                    tags,
+                    ks,
+                    ps,
+                    values,
+                    nones,
+                    sizes,
+                ) {
+                    ParseResult::Refused(e) => {
+                        return ParseResult::Refused(e);
+                    }
+                    ParseResult::Done(right) => {
+                        left = join(sign.byte, left, right);
+                        sign = sign_at(text, left.next);
+                    }
+                }
+            }
+            ParseResult::Done(left)
+        }
+    }
+}
+
+// Terms joined by + and -.
+fn sum<'a>(
+    text: &'a [u8],
+    at: usize,
+    room: usize,
+    count: usize,
+    names: &'a [u16; 256],
+    lens: &'a [u16; 256],
+    tags: &'a [u8; 256],
+    ks: &'a [u16; 256],
+    ps: &'a [u16; 256],
+    values: &'a [u64; 256],
+    nones: &'a [bool; 256],
+    sizes: &'a [u32; 256],
+) -> ParseResult
+    requires { ⌜ CanParse (now text) count ⌝ }
+    ensures { λ r. ⌜ ParsesAs (now (text .entry)) at (columnsOf count (now (names .entry)) (now (lens .entry)) (now (tags .entry))
+        (now (ks .entry)) (now (ps .entry)) (now (values .entry)) (now (nones .entry)) (now (sizes .entry))) sum room r ⌝ }
 {
     match term(
         text,

@@ -1,7 +1,8 @@
 // The figures of two expressions that an operator joins.
 ghost use mathlib.Core.Path.{_≡_};
+ghost use mathlib.Core.Bool.{cond};
 ghost use Prim.Native.Nat.{max, _≤_};
-ghost use Rattle.word.specs.Apply.{apply};
+ghost use Rattle.word.specs.Apply.{apply, div};
 ghost use Rattle.grammar.specs.Tree.{applied};
 ghost use Rattle.grammar.specs.Code.Lengths.{operatorLength};
 ghost use Rattle.grammar.specs.Parse.{operator};
@@ -45,15 +46,26 @@ fn applied_value(sign: u8, a: TreeValue, b: TreeValue) -> TreeValue
 fn value_of(sign: u8, x: u64, y: u64) -> TreeValue
     ensures { λ r. ⌜ optionOf r ≡ apply (operator sign) x y ⌝ }
 {
-    if sign == b'+' {
-        return TreeValue::Is(wrapping_add_u64(x, y));
+    match sign {
+        b'+' => TreeValue::Is(wrapping_add_u64(x, y)),
+        b'-' => TreeValue::Is(wrapping_sub_u64(x, y)),
+        b'*' => TreeValue::Is(wrapping_mul(x, y)),
+        b'<' => TreeValue::Is(truth(x < y)),
+        b'=' => TreeValue::Is(truth(x == y)),
+        _ => quotient(x, y),
     }
-    if sign == b'-' {
-        return TreeValue::Is(wrapping_sub_u64(x, y));
-    }
-    if sign == b'*' {
-        return TreeValue::Is(wrapping_mul(x, y));
-    }
+}
+
+// 1 for true and 0 for false.
+fn truth(holds: bool) -> u64
+    ensures { λ r. ⌜ r ≡ cond holds 1 0 ⌝ }
+{
+    if holds { 1 } else { 0 }
+}
+
+fn quotient(x: u64, y: u64) -> TreeValue
+    ensures { λ r. ⌜ optionOf r ≡ apply div x y ⌝ }
+{
     if y == 0 {
         return TreeValue::None;
     }
@@ -66,9 +78,13 @@ fn larger(a: u64, b: u64) -> u64
     if a < b { b } else { a }
 }
 
-// The length of the line that an operator is written as: a word of three letters and a line feed.
+// The length of the line that an operator is written as: a word of two letters for a comparison, else of three, and a line feed.
 fn line_len(sign: u8) -> u64
     ensures { λ r. ⌜ (r ≡ operatorLength (operator sign)) × (r ≤ 4) ⌝ }
 {
-    4
+    match sign {
+        b'<' => 3,
+        b'=' => 3,
+        _ => 4,
+    }
 }

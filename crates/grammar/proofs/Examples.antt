@@ -7,7 +7,7 @@ use lib.ListN.{replicate}
 use Rattle.numbered.specs.Numbered.{plain}
 use Rattle.base.specs.Outcome.{is, refused}
 use Rattle.decimal.specs.Decimal.{decimal}
-use Rattle.word.specs.Apply.{add, mul}
+use Rattle.word.specs.Apply.{add, sub, mul, div, eq, lt}
 use Rattle.base.specs.Ascii.{ascii}
 use Rattle.token.specs.Token.{scan}
 use Rattle.grammar.specs.Tree.{Tree, num, bin}
@@ -117,3 +117,123 @@ left-over = refl
 unknown : meaning [] (ascii "1 // c") ≡ refused (plain 17)
 unfolding meaning parseF scan
 unknown = refl
+
+-- request 101: one level for both signs, left to right, looser than sums
+chain : meaning [] (ascii "1 < 2 == 1") ≡ is (bin eq (bin lt (num 1) (num 2)) (num 1))
+unfolding meaning parseF scan
+chain = refl
+
+chain-back : answer [] "0 == 1 < 1" ≡ figures 3 2 (some 1) 27
+unfolding meaning parseF scan decimal
+chain-back = refl
+
+falling : answer [] "3 < 2 < 1" ≡ figures 3 2 (some 1) 27
+unfolding meaning parseF scan decimal
+falling = refl
+
+thrice : answer [] "3 == 3 == 3" ≡ figures 3 2 (some 0) 27
+unfolding meaning parseF scan decimal
+thrice = refl
+
+sums : meaning [] (ascii "1 + 2 < 4 - 1") ≡ is (bin lt (bin add (num 1) (num 2)) (bin sub (num 4) (num 1)))
+unfolding meaning parseF scan
+sums = refl
+
+product : meaning [] (ascii "1==2*3") ≡ is (bin eq (num 1) (bin mul (num 2) (num 3)))
+unfolding meaning parseF scan
+product = refl
+
+inner : meaning [] (ascii "2*(1<2)") ≡ is (bin mul (num 2) (bin lt (num 1) (num 2)))
+unfolding meaning parseF scan
+inner = refl
+
+-- a blank is chosen by power: 65 below 400, else 70
+chooses : answer (bind "power" (num 399) ∷ []) "(power < 400) * 65 + (400 < power + 1) * 70" ≡ figures 7 4 (some 65) 81
+unfolding meaning parseF scan decimal
+chooses = refl
+
+chooses-other : answer (bind "power" (num 400) ∷ []) "(power < 400) * 65 + (400 < power + 1) * 70" ≡ figures 7 4 (some 70) 81
+unfolding meaning parseF scan decimal
+chooses-other = refl
+
+-- none on a side gives none
+none-equal : answer [] "1/0 == 1/0" ≡ figures 4 3 none 39
+unfolding meaning parseF scan decimal
+none-equal = refl
+
+none-less : answer [] "1 < 1/0" ≡ figures 3 3 none 28
+unfolding meaning parseF scan decimal
+none-less = refl
+
+comparison-text : textOf (bin eq (bin lt (num 1) (num 2)) (num 1)) ≡ ascii "Push 1\nPush 2\nLt\nPush 1\nEq\n"
+unfolding decimal
+comparison-text = refl
+
+-- a single `=` is in no token, wherever it stands
+single : meaning [] (ascii "1 = 1") ≡ refused (plain 13)
+unfolding meaning parseF scan
+single = refl
+
+three-equals : meaning [] (ascii "1 === 1") ≡ refused (plain 13)
+unfolding meaning parseF scan
+three-equals = refl
+
+parted-equals : meaning [] (ascii "1 = = 1") ≡ refused (plain 13)
+unfolding meaning parseF scan
+parted-equals = refl
+
+less-or-equal : meaning [] (ascii "1 <= 1") ≡ refused (plain 13)
+unfolding meaning parseF scan
+less-or-equal = refl
+
+greater : meaning [] (ascii "1 >= 1") ≡ refused (plain 13)
+unfolding meaning parseF scan
+greater = refl
+
+-- what `let x == 5` and `let x === 5` leave behind the first `=`
+let-two : meaning [] (ascii "= 5") ≡ refused (plain 13)
+unfolding meaning parseF scan
+let-two = refl
+
+let-three : meaning [] (ascii "== 5") ≡ refused (plain 17)
+unfolding meaning parseF scan
+let-three = refl
+
+-- two tokens, of which the second is no factor
+four-equals : meaning [] (ascii "1 ==== 1") ≡ refused (plain 17)
+unfolding meaning parseF scan
+four-equals = refl
+
+less-equals : meaning [] (ascii "1 <== 1") ≡ refused (plain 17)
+unfolding meaning parseF scan
+less-equals = refl
+
+nothing-less : meaning [] (ascii "1 <") ≡ refused (plain 14)
+unfolding meaning parseF scan
+nothing-less = refl
+
+unclosed-equal : meaning [] (ascii "(1 == 1") ≡ refused (plain 14)
+unfolding meaning parseF scan
+unclosed-equal = refl
+
+due-less : meaning [] (ascii "(1 < 2 3)") ≡ refused (plain 15)
+unfolding meaning parseF scan
+due-less = refl
+
+-- both signs bound
+less-bound : answer (bind "<" (num 5) ∷ []) "< < <" ≡ figures 2 2 (some 0) 17
+unfolding meaning parseF scan decimal
+less-bound = refl
+
+equals-bound : answer (bind "==" (num 5) ∷ []) "== == ==" ≡ figures 2 2 (some 1) 17
+unfolding meaning parseF scan decimal
+equals-bound = refl
+
+four-bound : meaning (bind "==" (num 5) ∷ []) (ascii "1 ==== 1") ≡ refused (plain 19)
+unfolding meaning parseF scan
+four-bound = refl
+
+-- a parameter named `=` is never met
+single-bound : meaning (bind "=" (num 5) ∷ []) (ascii "=") ≡ refused (plain 13)
+unfolding meaning parseF scan
+single-bound = refl

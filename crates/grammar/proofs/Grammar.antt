@@ -1,5 +1,5 @@
 -- What the parser accepts is derivable with that tree, and what is derivable within 64 parentheses is accepted with that tree.
-use Prim.Native.Nat.{ℕ, zero, suc, _^_, _<_}
+use Prim.Native.Nat.{ℕ, zero, suc, _^_, _<_, _≤_}
 use mathlib.Core.Path.{_≡_, refl, sym, ap, subst, _∙_}
 use mathlib.Core.List.{List, [], _∷_, _++_, append-nil, append-assoc}
 use mathlib.Core.Bool.{true, false}
@@ -15,7 +15,7 @@ use Rattle.base.specs.Outcome.{Outcome, is, refused, andThen}
 use Rattle.base.specs.Lists.{all}
 use Rattle.base.proofs.Tests.{false-true, by-bool, by-or, between, and-left}
 use Rattle.base.proofs.Outcome.{not-is, is-same, then-is}
-use Rattle.word.specs.Apply.{Binary, add, sub, mul, div}
+use Rattle.word.specs.Apply.{Binary, add, sub, mul, div, eq, lt}
 use Rattle.decimal.specs.Decimal.{digit, value}
 use Rattle.token.specs.Token.{allowed, tokens}
 use Rattle.token.specs.Code.Places.{first}
@@ -24,10 +24,10 @@ use Rattle.token.specs.Tokens as Tokens
 use Rattle.token.proofs.LongestMatch.{longest-match}
 use Rattle.grammar.specs.Tree.{Tree, num, bin}
 use Rattle.grammar.specs.Environment.{Env, lookup}
-use Rattle.grammar.specs.Grammar.{factor, expression, Operator, times, over, plus, minus, Derives, number, name, parentheses, alone, join, depth}
+use Rattle.grammar.specs.Grammar.{factor, expression, Operator, times, over, plus, minus, less, equals, Derives, number, name, parentheses, alone, join, depth}
 use Rattle.grammar.specs.Parse.{Parse, symbol, isOperatorAt, operator, joined, closed, nested, named, atom, parseF, moreF, enough, parsed, allRead, meaning}
 use Rattle.grammar.specs.Code.Reads.{Reads}
-use Rattle.grammar.proofs.Steps.{lone-is, looser, Left, starts, turns, stops, closes, number-read, name-read, more-ends, more-joins, level-up, factor-opens, factor-atom}
+use Rattle.grammar.proofs.Steps.{signToken, lone-is, level-is, other-level, no-level, Left, starts, turns, stops, closes, number-read, name-read, more-ends, more-joins, level-up, factor-opens, factor-atom}
 
 not-tree : {P : Type 0} (n : ℕ) (t : Tree) → refused (plain n) ≡ is t → P
 not-tree n t e = not-is e
@@ -44,8 +44,10 @@ operator-is times = (refl, refl)
 operator-is over = (refl, refl)
 operator-is plus = (refl, refl)
 operator-is minus = (refl, refl)
+operator-is less = (refl, refl)
+operator-is equals = (refl, refl)
 
-sign-is : (l : ℕ) (w : List ℕ) (a : ℕ) (op : Binary) → 0 < a → Operator l (a ∷ []) op → operator a ≡ op → eqb (symbol w) a ≡ true → Operator l w (operator (symbol w))
+sign-is : (l : ℕ) (w : List ℕ) (a : ℕ) (op : Binary) → 0 < a → Operator l (signToken a) op → operator a ≡ op → eqb (symbol w) a ≡ true → Operator l w (operator (symbol w))
 sign-is l w a op h o e q =
     let p = eqb-true (symbol w) a q in
     subst (λ (x : Binary). Operator l w x) (sym (ap operator p ∙ e)) (subst (λ (x : List ℕ). Operator l x op) (sym (lone-is w a h p)) o)
@@ -54,7 +56,8 @@ operator-of : (l : ℕ) (w : List ℕ) → isOperatorAt l (symbol w) ≡ true �
 operator-of zero w j = false-true j
 operator-of (suc zero) w j = by-or (eqb (symbol w) 42) (eqb (symbol w) 47) j (sign-is 1 w 42 mul (omega arith) times refl) (sign-is 1 w 47 div (omega arith) over refl)
 operator-of (suc (suc zero)) w j = by-or (eqb (symbol w) 43) (eqb (symbol w) 45) j (sign-is 2 w 43 add (omega arith) plus refl) (sign-is 2 w 45 sub (omega arith) minus refl)
-operator-of (suc (suc (suc l))) w j = false-true j
+operator-of (suc (suc (suc zero))) w j = by-or (eqb (symbol w) 60) (eqb (symbol w) 61) j (sign-is 3 w 60 lt (omega arith) less refl) (sign-is 3 w 61 eq (omega arith) equals refl)
+operator-of (suc (suc (suc (suc l)))) w j = false-true j
 
 -- no token is empty
 abbrev Some : List (List ℕ) → Type 0
@@ -69,6 +72,7 @@ token-some : {w : List ℕ} → IsToken w → 0 < length w
 token-some (Tokens.digits h e) = h
 token-some (Tokens.name e f) = omega arith
 token-some (Tokens.single e) = omega arith
+token-some Tokens.equals = omega arith
 
 tokens-some : {s : List ℕ} {ts : List (List ℕ)} → Tokens s ts → Some ts
 tokens-some Tokens.none = tt
@@ -77,9 +81,10 @@ tokens-some (Tokens.token t l h) = (token-some t, tokens-some h)
 
 -- a literal is no parenthesis
 pub digits-no-parenthesis : (w : List ℕ) → all digit w ≡ true → symbol w ≡ 40 → ⊥
-digits-no-parenthesis [] e o = omega arith
-digits-no-parenthesis (a ∷ []) e o = let b = between 48 57 a (and-left (digit a) (all digit []) e) in omega arith
-digits-no-parenthesis (a ∷ b ∷ w) e o = omega arith
+digits-no-parenthesis w e o =
+    let p = lone-is w 40 (omega arith) o in
+    let q : all digit (40 ∷ []) ≡ true = sym (ap (all digit) p) ∙ e in
+    false-true q
 
 module _ (env : Env) where
   abbrev Sound : ℕ → Type 0
@@ -198,16 +203,18 @@ module _ (env : Env) where
   full zero d ts t h rest s = h rest
   full (suc l) d ts t h rest s = stops (s .0) (h rest (s .1))
 
+  stops-at : (l : ℕ) (rest : List (List ℕ)) → ((m : ℕ) → m ≤ l → isOperatorAt m (symbol (first rest)) ≡ false) → Stops l rest
+  stops-at zero rest h = tt
+  stops-at (suc l) rest h = (h (suc l) (omega arith), stops-at l rest (λ m g. h m (omega arith)))
+
   operator-stops : (l : ℕ) (w : List ℕ) (ts : List (List ℕ)) → isOperatorAt (suc l) (symbol w) ≡ true → Stops l (w ∷ ts)
-  operator-stops zero w ts j = tt
-  operator-stops (suc zero) w ts j = (looser 1 (symbol w) j, tt)
-  operator-stops (suc (suc l)) w ts j = false-true j
+  operator-stops l w ts j = stops-at l (w ∷ ts) (λ m h. other-level m (symbol w) (λ e. omega (arith, level-is (suc l) (symbol w) j)))
 
   complete : {l d : ℕ} {ts : List (List ℕ)} {t : Tree} → Derives env l d ts t → Complete l d ts t
   complete (number {d} {w} b a h) = λ rest. number-read env d w rest (digits-no-parenthesis w a) a h
   complete (name {d} {w} {t} o a h) = λ rest. name-read env d w rest (λ e. o (lone-is w 40 (omega arith) e)) a h
   complete (parentheses {d} {ts} {t} h) = λ rest.
-      let r = full expression d ts t (complete h) ((41 ∷ []) ∷ rest) (refl, (refl, tt)) in
+      let r = full expression d ts t (complete h) ((41 ∷ []) ∷ rest) (stops-at expression ((41 ∷ []) ∷ rest) (λ m g. no-level m 41 (omega arith))) in
       rw append-assoc (closes env (40 ∷ []) (ts ++ (41 ∷ []) ∷ rest) refl d (41 ∷ []) r refl)
   complete (alone {l} {d} {ts} {t} h) = λ rest s. starts (full l d ts t (complete h) rest s)
   complete (join {l} {d} {ts} {us} {w} {op} {t} {u} h o g) = λ rest s.
@@ -223,7 +230,7 @@ accepted-derives env ts t b e =
 
 derives-accepted : (env : Env) (ts : List (List ℕ)) (t : Tree) → Derives env expression depth ts t → parsed env ts ≡ is (t, [])
 derives-accepted env ts t h =
-    let r = full env expression depth ts t (complete env h) [] (refl, (refl, tt)) in
+    let r = full env expression depth ts t (complete env h) [] (stops-at env expression [] (λ m g. no-level m 0 (omega arith))) in
     let e = append-nil ts in
     subst (λ (x : List (List ℕ)). parsed env x ≡ is (t, [])) e (r .same (enough expression (ts ++ [])) (omega arith))
 

@@ -1,8 +1,8 @@
 -- Steps of the parser's definition, each for every fuel that is enough.
 use Prim.Native.Nat.{ℕ, zero, suc, _+_, _*_, _^_, _<_, _≤_}
-use mathlib.Core.Path.{_≡_, refl, ap, _∙_}
+use mathlib.Core.Path.{_≡_, refl, sym, ap, _∙_}
 use mathlib.Core.List.{List, [], _∷_}
-use mathlib.Core.Bool.{true, false}
+use mathlib.Core.Bool.{true, false, cond, _&&_}
 use mathlib.Core.Option.{some, none}
 use native.Mathlib.Omega.{arith}
 use borrow.Author.Tests.{lt-ltb, le-ltb, eqb-true, eq-eqb, ne-eqb}
@@ -10,34 +10,63 @@ use lib.Dec.{eqb}
 use lib.ListN.{length}
 use Rattle.base.specs.Outcome.{is, refused, andThen}
 use Rattle.base.specs.Lists.{all}
-use Rattle.base.proofs.Tests.{false-true, by-or}
+use Rattle.base.proofs.Tests.{false-true, by-bool, by-or, and-left, and-right}
 use Rattle.numbered.specs.declared.Numbered.{Numbered}
 use Rattle.numbered.specs.Numbered.{plain}
 use Rattle.decimal.specs.Decimal.{value, digit}
+use Rattle.word.specs.Apply.{div}
 use Rattle.token.specs.Code.Places.{first}
 use Rattle.grammar.specs.Tree.{Tree, num, bin}
 use Rattle.grammar.specs.Parse.{Env, lookup, Parse, symbol, isOperatorAt, operator, joined, closed, nested, atom, parseF, moreF, enough, factor, expression}
+use Rattle.grammar.specs.Grammar.{levels}
+use Rattle.grammar.specs.Code.Operator.{levelOf}
 use Rattle.grammar.specs.Code.Reads.{Reads, Refuses}
 
-pub lone-is : (w : List ℕ) (a : ℕ) → 0 < a → symbol w ≡ a → w ≡ a ∷ []
-lone-is [] a h e = absurd (omega arith)
-lone-is (b ∷ []) a h e = ap (λ (x : ℕ). x ∷ []) e
-lone-is (b ∷ c ∷ w) a h e = absurd (omega arith)
+-- the token of a sign
+abbrev pub signToken : ℕ → List ℕ
+signToken a = cond (eqb a 61) (61 ∷ 61 ∷ []) (a ∷ [])
 
--- only factors and terms are joined
-pub level-low : (l a : ℕ) → isOperatorAt (suc l) a ≡ true → l ≤ 1
+pub lone-is : (w : List ℕ) (a : ℕ) → 0 < a → symbol w ≡ a → w ≡ signToken a
+lone-is [] a h e = absurd (omega arith)
+lone-is (b ∷ []) a h e =
+    by-bool (eqb b 61)
+    (λ p. absurd (let q : 0 ≡ a = sym (simp p) ∙ e in omega arith))
+    (λ p. let q : b ≡ a = sym (simp p) ∙ e in rw (← q) (simp p))
+lone-is (b ∷ c ∷ []) a h e =
+    by-bool (eqb b 61 && eqb c 61)
+    (λ p.
+    let q : 61 ≡ a = sym (simp p) ∙ e in
+    rw (← q, eqb-true b 61 (and-left (eqb b 61) (eqb c 61) p), eqb-true c 61 (and-right (eqb b 61) (eqb c 61) p)) refl)
+    (λ p. absurd (let q : 0 ≡ a = sym (simp p) ∙ e in omega arith))
+lone-is (b ∷ c ∷ d ∷ w) a h e = absurd (omega arith)
+
+-- an operator joins to one level alone
+pub level-low : (l a : ℕ) → isOperatorAt l a ≡ true → l ≤ levels
 level-low zero a e = omega arith
 level-low (suc zero) a e = omega arith
-level-low (suc (suc l)) a e = false-true e
+level-low (suc (suc zero)) a e = omega arith
+level-low (suc (suc (suc zero))) a e = omega arith
+level-low (suc (suc (suc (suc l)))) a e = false-true e
 
--- an operator is no operator of a tighter level
-pub looser : (l a : ℕ) → isOperatorAt (suc l) a ≡ true → isOperatorAt l a ≡ false
-looser zero a e = refl
-looser (suc zero) a e =
-    by-or (eqb a 43) (eqb a 45) e
-    (λ p. let q = eqb-true a 43 p in simp (ne-eqb a 42 (λ (x : a ≡ 42). omega arith), ne-eqb a 47 (λ (x : a ≡ 47). omega arith)))
-    (λ p. let q = eqb-true a 45 p in simp (ne-eqb a 42 (λ (x : a ≡ 42). omega arith), ne-eqb a 47 (λ (x : a ≡ 47). omega arith)))
-looser (suc (suc l)) a e = false-true e
+sign-level : (l a x : ℕ) → levelOf x ≡ l → eqb a x ≡ true → levelOf a ≡ l
+sign-level l a x h e = ap levelOf (eqb-true a x e) ∙ h
+
+pub level-is : (l a : ℕ) → isOperatorAt l a ≡ true → levelOf a ≡ l
+level-is zero a e = false-true e
+level-is (suc zero) a e = by-or (eqb a 42) (eqb a 47) e (sign-level 1 a 42 refl) (sign-level 1 a 47 refl)
+level-is (suc (suc zero)) a e = by-or (eqb a 43) (eqb a 45) e (sign-level 2 a 43 refl) (sign-level 2 a 45 refl)
+level-is (suc (suc (suc zero))) a e = by-or (eqb a 60) (eqb a 61) e (sign-level 3 a 60 refl) (sign-level 3 a 61 refl)
+level-is (suc (suc (suc (suc l)))) a e = false-true e
+
+pub other-level : (l a : ℕ) → (l ≡ levelOf a → ⊥) → isOperatorAt l a ≡ false
+other-level l a h = by-bool (isOperatorAt l a) (λ e. absurd (h (sym (level-is l a e)))) (λ e. e)
+
+pub no-level : (l a : ℕ) → levels < levelOf a → isOperatorAt l a ≡ false
+no-level l a h = by-bool (isOperatorAt l a) (λ e. absurd (omega (arith, level-is l a e, level-low l a e))) (λ e. e)
+
+-- every sign but the other five is taken for `/`
+pub operator-div : (a : ℕ) → (a ≡ 43 → ⊥) → (a ≡ 45 → ⊥) → (a ≡ 42 → ⊥) → (a ≡ 60 → ⊥) → (a ≡ 61 → ⊥) → operator a ≡ div
+operator-div a b c d e f = simp (ne-eqb a 43 b, ne-eqb a 45 c, ne-eqb a 42 d, ne-eqb a 60 e, ne-eqb a 61 f)
 
 module _ (env : Env) (l d : ℕ) (ts : List (List ℕ)) where
   -- level l + 1 has read the tree t so far, and rest is left
@@ -85,14 +114,14 @@ module _ {env : Env} {l d : ℕ} {ts : List (List ℕ)} where
         go : (f : ℕ) → (e : ℕ) × ((8 * length (w ∷ us) + 1 ≤ e) × (parseF f (suc l) env d ts ≡ moreF e l env d (t, w ∷ us)))
             → (e : ℕ) × ((8 * length rest + 1 ≤ e) × (parseF f (suc l) env d ts ≡ moreF e l env d (bin (operator (symbol w)) t u, rest)))
         go f (zero, (h, p)) = absurd (omega arith)
-        go f (suc g, (h, p)) = (g, (omega (arith, q .fewer), p ∙ more-joins g l env d t w us e ∙ ap (λ (x : Parse). andThen x (λ r. moreF g l env d (joined (operator (symbol w)) t r))) (q .same g (omega (arith, level-low l (symbol w) e)))))
+        go f (suc g, (h, p)) = (g, (omega (arith, q .fewer), p ∙ more-joins g l env d t w us e ∙ ap (λ (x : Parse). andThen x (λ r. moreF g l env d (joined (operator (symbol w)) t r))) (q .same g (omega (arith, level-low (suc l) (symbol w) e)))))
 
     pub turns-refused : {n : Numbered} → Refuses env l d us n → Refuses env (suc l) d ts n
     turns-refused {n} q = record { same = λ f h. go f (r .same f h) }
       where
         go : (f : ℕ) → (e : ℕ) × ((8 * length (w ∷ us) + 1 ≤ e) × (parseF f (suc l) env d ts ≡ moreF e l env d (t, w ∷ us))) → parseF f (suc l) env d ts ≡ refused n
         go f (zero, (h, p)) = absurd (omega arith)
-        go f (suc g, (h, p)) = p ∙ more-joins g l env d t w us e ∙ ap (λ (x : Parse). andThen x (λ r. moreF g l env d (joined (operator (symbol w)) t r))) (q .same g (omega (arith, level-low l (symbol w) e)))
+        go f (suc g, (h, p)) = p ∙ more-joins g l env d t w us e ∙ ap (λ (x : Parse). andThen x (λ r. moreF g l env d (joined (operator (symbol w)) t r))) (q .same g (omega (arith, level-low (suc l) (symbol w) e)))
 
 -- a factor: one step of the definition
 module _ (f : ℕ) (env : Env) (w : List ℕ) (ts : List (List ℕ)) where

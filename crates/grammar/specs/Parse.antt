@@ -1,41 +1,43 @@
--- The parser, by recursive descent over the list of tokens, with document 01's refusals 13 to 19.
+-- The parser, by recursive descent over the list of tokens, with document 01's refusals 13 to 19 and document 02's comparisons.
 use Prim.Native.Nat.{ℕ, zero, suc, _+_, _*_, _^_}
 use mathlib.Core.List.{List, [], _∷_}
-use mathlib.Core.Bool.{Bool, true, false, cond, _||_}
+use mathlib.Core.Bool.{Bool, true, false, cond, _&&_, _||_}
 use mathlib.Core.Option.{Option, some, none}
 use lib.Dec.{eqb, ltb}
 use lib.ListN.{length}
 use Rattle.numbered.specs.Numbered.{plain}
 use Rattle.numbered.specs.declared.Numbered.{Numbered}
 use Rattle.base.specs.Outcome.{Outcome, is, refused, andThen}
-use Rattle.word.specs.Apply.{Binary, add, sub, mul, div}
+use Rattle.word.specs.Apply.{Binary, add, sub, mul, div, eq, lt}
 use Rattle.base.specs.Lists.{all}
 use Rattle.decimal.specs.Decimal.{digit, value}
 use Rattle.token.specs.Token.{allowed, tokens}
 use Rattle.grammar.specs.Tree.{Tree, num, bin}
 pub use Rattle.grammar.specs.Environment.{Binding, Env, lookup}
-pub use Rattle.grammar.specs.Grammar.{factor, term, expression, depth}
+pub use Rattle.grammar.specs.Grammar.{factor, term, sum, expression, depth}
 
 -- the tree that is read and the tokens that follow, or the refusal
 abbrev pub Parse : Type 0
 Parse = Outcome Numbered (Tree × List (List ℕ))
 
--- the byte of a token of one byte, else 0
+-- the byte of a token of one byte; that of `=` for `==`, since a `=` alone is no token; else 0
 abbrev pub symbol : List ℕ → ℕ
 symbol [] = 0
-symbol (a ∷ []) = a
-symbol (a ∷ b ∷ w) = 0
+symbol (a ∷ []) = cond (eqb a 61) 0 a
+symbol (a ∷ b ∷ []) = cond (eqb a 61 && eqb b 61) 61 0
+symbol (a ∷ b ∷ c ∷ w) = 0
 
 -- whether a sign is an operator of a level, which joins what is one level below:
--- `*` and `/` join factors to a term, `+` and `-` terms to an expression
+-- `*` and `/` join factors to a term, `+` and `-` terms to a sum, `<` and `==` sums to an expression
 abbrev pub isOperatorAt : ℕ → ℕ → Bool
 isOperatorAt zero a = false
 isOperatorAt (suc zero) a = eqb a 42 || eqb a 47
 isOperatorAt (suc (suc zero)) a = eqb a 43 || eqb a 45
-isOperatorAt (suc (suc (suc l))) a = false
+isOperatorAt (suc (suc (suc zero))) a = eqb a 60 || eqb a 61
+isOperatorAt (suc (suc (suc (suc l)))) a = false
 
 abbrev pub operator : ℕ → Binary
-operator a = cond (eqb a 43) add (cond (eqb a 45) sub (cond (eqb a 42) mul div))
+operator a = cond (eqb a 43) add (cond (eqb a 45) sub (cond (eqb a 42) mul (cond (eqb a 60) lt (cond (eqb a 61) eq div))))
 
 abbrev pub joined : Binary → Tree → Tree × List (List ℕ) → Tree × List (List ℕ)
 joined op l (r, ts) = (bin op l r, ts)

@@ -11,18 +11,21 @@ use Rattle.decimal.specs.Decimal.{digit}
 use Rattle.token.specs.Token.{space, nameStart, namePart, sign}
 use Rattle.token.specs.Code.Bytes.{goesOn}
 
--- bytes that part tokens come first, then signs, digits, letters
+-- bytes that part tokens come first, then most signs, digits, `<`, letters
 pub space-bound : (a : ℕ) → space a ≡ true → a ≤ 32
 space-bound a e =
     by-or (within 9 10 a || within 12 13 a) (eqb a 32) e
     (λ p. by-or (within 9 10 a) (within 12 13 a) p (λ q. let b = between 9 10 a q in omega arith) (λ q. let b = between 12 13 a q in omega arith))
     (λ p. let q = eqb-true a 32 p in omega arith)
 
-pub sign-bounds : (a : ℕ) → sign a ≡ true → (40 ≤ a) × (a ≤ 47)
-sign-bounds a e =
-    by-or (within 40 43 a || eqb a 45) (eqb a 47) e
-    (λ p. by-or (within 40 43 a) (eqb a 45) p (λ q. let b = between 40 43 a q in (omega arith, omega arith)) (λ q. let b = eqb-true a 45 q in (omega arith, omega arith)))
-    (λ p. let q = eqb-true a 47 p in (omega arith, omega arith))
+-- a sign is from 40 to 47, or 60
+pub sign-bounds : {P : Type 0} (a : ℕ) → sign a ≡ true → (40 ≤ a → a ≤ 47 → P) → (a ≡ 60 → P) → P
+sign-bounds a e low less =
+    by-or (within 40 43 a || eqb a 45 || eqb a 47) (eqb a 60) e
+    (λ p. by-or (within 40 43 a || eqb a 45) (eqb a 47) p
+    (λ q. by-or (within 40 43 a) (eqb a 45) q (λ r. let b = between 40 43 a r in low (omega arith) (omega arith)) (λ r. let b = eqb-true a 45 r in low (omega arith) (omega arith)))
+    (λ q. let b = eqb-true a 47 q in low (omega arith) (omega arith)))
+    (λ p. less (eqb-true a 60 p))
 
 pub start-bound : (a : ℕ) → nameStart a ≡ true → 65 ≤ a
 start-bound a e =
@@ -48,3 +51,6 @@ goes-no-space a b e =
 -- no token goes on past the text's end, where a place reads 0
 pub goesOn-end : (a : ℕ) → goesOn a 0 ≡ false
 goesOn-end a = simp and-false
+
+pub goesOn-equals : (a : ℕ) → goesOn a 61 ≡ false
+goesOn-equals a = simp and-false

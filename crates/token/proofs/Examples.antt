@@ -2,6 +2,7 @@
 use mathlib.Core.Path.{_≡_, refl}
 use mathlib.Core.List.{[], _∷_}
 use mathlib.Core.Bool.{true, false}
+use Rattle.base.specs.Ascii.{ascii}
 use Rattle.token.specs.Token.{allowed, scan, tokens}
 use Rattle.token.specs.Code.Places.{tokenAt}
 
@@ -28,3 +29,31 @@ vertical-tab = refl
 
 spaces : allowed (9 ∷ 10 ∷ 12 ∷ 13 ∷ 32 ∷ 97 ∷ []) ≡ true
 spaces = refl
+
+-- `a<b==c`, and runs of `=`
+comparing : tokens (ascii "a<b==c") ≡ ascii "a" ∷ ascii "<" ∷ ascii "b" ∷ ascii "==" ∷ ascii "c" ∷ []
+unfolding scan
+comparing = refl
+
+four : tokens (ascii "====") ≡ ascii "==" ∷ ascii "==" ∷ []
+unfolding scan
+four = refl
+
+four-allowed : allowed (ascii "====") ≡ true
+four-allowed = refl
+
+three : allowed (ascii "===") ≡ false
+three = refl
+
+one : allowed (ascii "a = b") ≡ false
+one = refl
+
+parted : allowed (ascii "= =") ≡ false
+parted = refl
+
+less-equal : allowed (ascii "<=") ≡ false
+less-equal = refl
+
+less-equals : tokens (ascii "<==") ≡ ascii "<" ∷ ascii "==" ∷ []
+unfolding scan
+less-equals = refl

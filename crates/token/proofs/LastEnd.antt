@@ -16,7 +16,7 @@ none-last [] e = refl
 none-last (a ∷ s) e =
     by-bool (space a)
     (λ p. let n = none-last s (sym (tokens-space a s p) ∙ e) in simp (n, p))
-    (λ p. absurd (let l = ap length (sym (scan-token a [] s) ∙ sym (tokens-start a s p) ∙ e) in omega arith))
+    (λ p. absurd (let l = ap length (sym (scan-token a s) ∙ sym (tokens-start a s p) ∙ e) in omega arith))
 
 pub last-end : (s : List ℕ) (n : ℕ) → n < length s → space (getD s n 0) ≡ false → tokens (drop (suc n) s) ≡ [] → lastEnd s ≡ suc n
 last-end [] n h p e = absurd (omega arith)

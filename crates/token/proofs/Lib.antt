@@ -1,4 +1,5 @@
 pub mod Classes
+pub mod Allowed
 pub mod Tokens
 pub mod LongestMatch
 pub mod LastEnd

@@ -5,17 +5,20 @@ use mathlib.Core.List.{List, [], _∷_, _++_, append-assoc, append-nil}
 use mathlib.Core.Bool.{true, false, _||_}
 use mathlib.Core.Logic.{_↔_}
 use native.Mathlib.Omega.{arith}
-use lib.ListN.{length, drop}
+use borrow.Author.Tests.{eqb-true}
+use lib.Dec.{eqb}
+use lib.ListN.{length, drop, length-append}
 use lib.Seq.{drop-at}
 use Rattle.base.specs.Lists.{all, takeWhile}
 use Rattle.base.proofs.Tests.{false-true, by-bool, by-or, and-left, and-right, and-both, or-by-left, or-by-right, between}
 use Rattle.base.proofs.Lists.{all-weaker, all-append, all-behind, takeWhile-append}
 use Rattle.decimal.specs.Decimal.{digit}
-use Rattle.token.specs.Token.{space, nameStart, namePart, sign, allowed, scan, tokens}
+use Rattle.token.specs.Token.{space, nameStart, namePart, sign, allowed, paired, extends, scan, tokens}
 use Rattle.token.specs.Code.Bytes.{allowedByte, goesOn}
-use Rattle.token.specs.Tokens.{IsToken, digits, name, single, Longest, Tokens, none, parted, token}
-use Rattle.token.proofs.Classes.{space-bound, sign-bounds, start-bound, not-so}
-use Rattle.token.proofs.Tokens.{tokens-space, tokens-start, scan-more, scan-ended, scan-token, goes-on-digits}
+use Rattle.token.specs.Tokens.{IsToken, digits, name, single, equals, Longest, Tokens, none, parted, token}
+use Rattle.token.proofs.Classes.{space-bound, sign-bounds, start-bound, not-so, goesOn-equals}
+use Rattle.token.proofs.Allowed.{no-equals, allowed-other, allowed-equals, allowed-byte, allowed-bytes}
+use Rattle.token.proofs.Tokens.{tokens-space, tokens-start, scan-more, scan-ended, extends-run, scan-run, scan-pair, goes-on-digits}
 
 -- what goes on with a name, and with a sign
 name-goes : (a b : ℕ) → nameStart a ≡ true → goesOn a b ≡ namePart b
@@ -25,10 +28,12 @@ name-goes a b e =
 
 sign-goes : (a b : ℕ) → sign a ≡ true → goesOn a b ≡ false
 sign-goes a b e =
-    let x = sign-bounds a e in
-    let d = not-so (digit a) (λ q. let y = between 48 57 a q in omega arith) in
-    let n = not-so (nameStart a) (λ q. let y = start-bound a q in omega arith) in
-    simp (d, n)
+    sign-bounds a e
+    (λ x y.
+    let d = not-so (digit a) (λ q. let z = between 48 57 a q in omega arith) in
+    let n = not-so (nameStart a) (λ q. let z = start-bound a q in omega arith) in
+    simp (d, n))
+    (λ x. rw x refl)
 
 part-allowed : (a : ℕ) → namePart a ≡ true → allowedByte a ≡ true
 part-allowed a e = or-by-left (space a || namePart a) (sign a) (or-by-right (space a) (namePart a) e)
@@ -37,20 +42,45 @@ digit-allowed : (a : ℕ) → digit a ≡ true → allowedByte a ≡ true
 digit-allowed a e = part-allowed a (or-by-right (nameStart a) (digit a) e)
 
 -- what is known of a token by its first byte
-token-allowed : {w : List ℕ} → IsToken w → all allowedByte w ≡ true
-token-allowed (digits {w} h e) = all-weaker digit allowedByte digit-allowed w e
-token-allowed (name {a} {w} e f) = and-both (allowedByte a) (all allowedByte w) (part-allowed a (or-by-left (nameStart a) (digit a) e)) (all-weaker namePart allowedByte part-allowed w f)
-token-allowed (single {a} e) = and-both (allowedByte a) true (or-by-right (space a || namePart a) (sign a) e) refl
+token-allowed : {w : List ℕ} → IsToken w → (s : List ℕ) → allowed (w ++ s) ≡ allowed s
+token-allowed (digits {w} h e) s = allowed-bytes w s (all-weaker digit allowedByte digit-allowed w e)
+token-allowed (name {a} {w} e f) s = allowed-bytes (a ∷ w) s (and-both (allowedByte a) (all allowedByte w) (part-allowed a (or-by-left (nameStart a) (digit a) e)) (all-weaker namePart allowedByte part-allowed w f))
+token-allowed (single {a} e) s = allowed-byte a s (or-by-right (space a || namePart a) (sign a) e)
+token-allowed equals s = refl
 
 token-starts : {a : ℕ} {w : List ℕ} → IsToken (a ∷ w) → space a ≡ false
 token-starts {a} {w} (digits h e) = not-so (space a) (λ q. let x = space-bound a q in let y = between 48 57 a (and-left (digit a) (all digit w) e) in omega arith)
 token-starts {a} (name e f) = not-so (space a) (λ q. let x = space-bound a q in let y = start-bound a e in omega arith)
-token-starts {a} (single e) = not-so (space a) (λ q. let x = space-bound a q in let y = sign-bounds a e in omega arith)
+token-starts {a} (single e) = not-so (space a) (λ q. let x = space-bound a q in sign-bounds a e (λ y z. omega arith) (λ y. omega arith))
+token-starts equals = refl
 
-token-goes : {a : ℕ} {w : List ℕ} → IsToken (a ∷ w) → all (goesOn a) w ≡ true
-token-goes {a} {w} (digits h e) = all-weaker digit (goesOn a) (λ b p. goes-on-digits a (and-left (digit a) (all digit w) e) b ∙ p) w (and-right (digit a) (all digit w) e)
-token-goes {a} {w} (name e f) = all-weaker namePart (goesOn a) (λ b p. name-goes a b e ∙ p) w f
-token-goes (single e) = refl
+-- a token but `==` doesn't start with `=`; what follows its first byte goes on with it
+token-run : {P : Type 0} {a : ℕ} {w : List ℕ} → IsToken (a ∷ w) → (eqb a 61 ≡ false → all (goesOn a) w ≡ true → P) → (a ∷ w ≡ 61 ∷ 61 ∷ [] → P) → P
+token-run {a = a} {w = w} (digits h e) run pair =
+    let d = and-left (digit a) (all digit w) e in
+    run (no-equals a (digit-allowed a d)) (all-weaker digit (goesOn a) (λ b p. goes-on-digits a d b ∙ p) w (and-right (digit a) (all digit w) e))
+token-run {a = a} {w = w} (name e f) run pair = run (no-equals a (part-allowed a (or-by-left (nameStart a) (digit a) e))) (all-weaker namePart (goesOn a) (λ b p. name-goes a b e ∙ p) w f)
+token-run {a = a} (single e) run pair = run (no-equals a (or-by-right (space a || namePart a) (sign a) e)) refl
+token-run equals run pair = pair refl
+
+-- what goes on with a token by longest match goes on with its first byte
+token-extends : {a : ℕ} {w : List ℕ} (b : ℕ) → IsToken (a ∷ w) → extends (a ∷ w) b ≡ goesOn a b
+token-extends {a} {w} b t = token-run t (λ n g. extends-run a n w b) (λ e. let p : a ≡ 61 = cc in let q : w ≡ 61 ∷ [] = cc in rw (p, q) refl)
+
+token-goes : {a : ℕ} {w : List ℕ} (b : ℕ) (v : List ℕ) → IsToken (a ∷ w ++ b ∷ v) → IsToken (a ∷ w) → goesOn a b ≡ true
+token-goes {a} {w} b v t u =
+    token-run t
+    (λ n g. and-left (goesOn a b) (all (goesOn a) v) (and-right (all (goesOn a) w) (all (goesOn a) (b ∷ v)) (sym (all-append (goesOn a) w (b ∷ v)) ∙ g)))
+    (λ e. absurd (no-part w e u))
+  where
+    no-single : IsToken (61 ∷ []) → ⊥
+    no-single (digits h e) = false-true e
+    no-single (name e f) = false-true e
+    no-single (single e) = false-true e
+
+    no-part : (x : List ℕ) → a ∷ x ++ b ∷ v ≡ 61 ∷ 61 ∷ [] → IsToken (a ∷ x) → ⊥
+    no-part [] e u = let p : a ≡ 61 = cc in no-single (rw p at u)
+    no-part (c ∷ x) e u = let l = ap length e in let m = length-append x (b ∷ v) in omega arith
 
 token-more : {a : ℕ} {w : List ℕ} (b : ℕ) → goesOn a b ≡ true → IsToken (a ∷ w) → IsToken (a ∷ w ++ b ∷ [])
 token-more {a} {w} b g (digits h e) =
@@ -58,6 +88,7 @@ token-more {a} {w} b g (digits h e) =
     digits {w = a ∷ w ++ b ∷ []} (omega arith) (all-behind digit (a ∷ w) (b ∷ []) e ∙ (and-both (digit b) true (sym (goes-on-digits a d b) ∙ g) refl))
 token-more {a} {w} b g (name e f) = name e (all-behind namePart w (b ∷ []) f ∙ (and-both (namePart b) true (sym (name-goes a b e) ∙ g) refl))
 token-more {a} b g (single e) = false-true (sym (sign-goes a b e) ∙ g)
+token-more b g equals = false-true g
 
 token-first : (a : ℕ) → space a ≡ false → allowedByte a ≡ true → IsToken (a ∷ [])
 token-first a n e =
@@ -81,21 +112,24 @@ run-none a w (b ∷ s) t l =
 token-list : (w s : List ℕ) → IsToken w → Longest w s → tokens (w ++ s) ≡ w ∷ tokens s
 token-list [] s t l = absurd (no-empty t)
 token-list (a ∷ w) s t l =
-    let r = takeWhile-append (goesOn a) w s (token-goes t) ∙ ap (λ (v : List ℕ). w ++ v) (run-none a w s t l) ∙ append-nil w in
     tokens-start a (w ++ s) (token-starts t)
-    ∙ scan-token a [] (w ++ s)
+    ∙ token-run t
+    (λ n g.
+    let r = takeWhile-append (goesOn a) w s g ∙ ap (λ (v : List ℕ). w ++ v) (run-none a w s t l) ∙ append-nil w in
+    scan-run a n [] (w ++ s)
     ∙ ap (λ (v : List ℕ). (a ∷ v) ∷ tokens (drop (length v) (w ++ s))) r
-    ∙ ap (λ (v : List ℕ). (a ∷ w) ∷ tokens v) (drop-at w s (length w) refl)
+    ∙ ap (λ (v : List ℕ). (a ∷ w) ∷ tokens v) (drop-at w s (length w) refl))
+    (λ e. let p : a ≡ 61 = cc in let q : w ≡ 61 ∷ [] = cc in rw (p, q) (scan-more 61 61 [] s refl ∙ scan-pair s))
 
 derived : {s : List ℕ} {ts : List (List ℕ)} → Tokens s ts → (allowed s ≡ true) × (tokens s ≡ ts)
 unfolding scan
 derived none = (refl, refl)
 derived (parted {a} {s} e h) =
     let more = derived h in
-    (and-both (allowedByte a) (allowed s) (or-by-left (space a || namePart a) (sign a) (or-by-left (space a) (namePart a) e)) (more .0), tokens-space a s e ∙ more .1)
+    (allowed-byte a s (or-by-left (space a || namePart a) (sign a) (or-by-left (space a) (namePart a) e)) ∙ more .0, tokens-space a s e ∙ more .1)
 derived (token {w} {s} t l h) =
     let more = derived h in
-    (all-behind allowedByte w s (token-allowed t) ∙ more .0, token-list w s t l ∙ ap (λ (x : List (List ℕ)). w ∷ x) (more .1))
+    (token-allowed t s ∙ more .0, token-list w s t l ∙ ap (λ (x : List (List ℕ)). w ∷ x) (more .1))
 
 -- the tokens of a text are derivable: from its start, and where a token is read up to w
 record Both (s : List ℕ) : Type 0 where
@@ -106,11 +140,15 @@ longest-end : (w : List ℕ) → Longest w []
 longest-end w [] u e h t = omega arith
 longest-end w (a ∷ v) u e h t = let z = ap length e in omega arith
 
-longest-here : (a b : ℕ) (w s : List ℕ) → goesOn a b ≡ false → Longest (a ∷ w) (b ∷ s)
-longest-here a b w s n [] u e h t = omega arith
-longest-here a b w s n (c ∷ v) u e h t =
+longest-here : (a b : ℕ) (w s : List ℕ) → IsToken (a ∷ w) → goesOn a b ≡ false → Longest (a ∷ w) (b ∷ s)
+longest-here a b w s u n [] r e h t = omega arith
+longest-here a b w s u n (c ∷ v) r e h t =
     let p : b ≡ c = cc in
-    false-true (sym n ∙ ap (goesOn a) p ∙ and-left (goesOn a c) (all (goesOn a) v) (and-right (all (goesOn a) w) (all (goesOn a) (c ∷ v)) (sym (all-append (goesOn a) w (c ∷ v)) ∙ token-goes t)))
+    false-true (sym n ∙ ap (goesOn a) p ∙ token-goes c v t u)
+
+longest-pair : (s : List ℕ) → Longest (61 ∷ 61 ∷ []) s
+longest-pair [] = longest-end (61 ∷ 61 ∷ [])
+longest-pair (b ∷ s) = longest-here 61 b (61 ∷ []) s equals refl
 
 starting : (a : ℕ) (s : List ℕ) → allowedByte a ≡ true → Both s → Tokens (a ∷ s) (tokens (a ∷ s))
 starting a s e h =
@@ -118,20 +156,37 @@ starting a s e h =
     (λ p. subst (Tokens (a ∷ s)) (sym (tokens-space a s p)) (parted p (h .start)))
     (λ p. subst (Tokens (a ∷ s)) (sym (tokens-start a s p)) (h .going a [] (token-first a p e)))
 
-going-on : (b : ℕ) (s : List ℕ) → Both s → Tokens (b ∷ s) (tokens (b ∷ s)) → (a : ℕ) (w : List ℕ) → IsToken (a ∷ w) → Tokens (a ∷ w ++ b ∷ s) (scan (a ∷ w) (b ∷ s))
+going-on : (b : ℕ) (s : List ℕ) → (eqb b 61 ≡ false → Both s) → Tokens (b ∷ s) (tokens (b ∷ s)) → (a : ℕ) (w : List ℕ) → IsToken (a ∷ w) → Tokens (a ∷ w ++ b ∷ s) (scan (a ∷ w) (b ∷ s))
 going-on b s h p a w t =
     by-bool (goesOn a b)
-    (λ e. subst (Tokens (a ∷ w ++ b ∷ s)) (sym (scan-more a b w s e)) (rw append-assoc at (h .going a (w ++ b ∷ []) (token-more b e t))))
-    (λ e. subst (Tokens (a ∷ w ++ b ∷ s)) (sym (scan-ended a b w s e)) (token t (longest-here a b w s e) p))
+    (λ e.
+    let n = not-so (eqb b 61) (λ q. false-true (sym (ap (goesOn a) (eqb-true b 61 q) ∙ goesOn-equals a) ∙ e)) in
+    subst (Tokens (a ∷ w ++ b ∷ s)) (sym (scan-more a b w s (token-extends b t ∙ e))) (rw append-assoc at (h n .going a (w ++ b ∷ []) (token-more b e t))))
+    (λ e. subst (Tokens (a ∷ w ++ b ∷ s)) (sym (scan-ended a b w s (token-extends b t ∙ e))) (token t (longest-here a b w s t e) p))
 
-derives : (s : List ℕ) → allowed s ≡ true → Both s
+-- the second part is of a text behind a `=`
+derives : (s : List ℕ) → (allowed s ≡ true → Both s) × (paired s ≡ true → Tokens (61 ∷ s) (tokens (61 ∷ s)))
 unfolding scan
-derives [] e = record { start = none; going = λ a w t. token t (longest-end (a ∷ w)) none }
-derives (b ∷ s) e =
-    let h = derives s (and-right (allowedByte b) (allowed s) e) in
-    let p = starting b s (and-left (allowedByte b) (allowed s) e) h in
-    record { start = p; going = going-on b s h p }
+derives [] = (λ e. record { start = none; going = λ a w t. token t (longest-end (a ∷ w)) none }, λ e. false-true e)
+derives (b ∷ s) =
+    let ih = derives s in
+    (λ e. record { start = begins ih e; going = going-on b s (behind ih e) (begins ih e) }, λ e. pair ih e)
+  where
+    behind : (allowed s ≡ true → Both s) × (paired s ≡ true → Tokens (61 ∷ s) (tokens (61 ∷ s))) → allowed (b ∷ s) ≡ true → eqb b 61 ≡ false → Both s
+    behind ih e n = ih .0 (and-right (allowedByte b) (allowed s) (sym (allowed-other b s n) ∙ e))
+
+    begins : (allowed s ≡ true → Both s) × (paired s ≡ true → Tokens (61 ∷ s) (tokens (61 ∷ s))) → allowed (b ∷ s) ≡ true → Tokens (b ∷ s) (tokens (b ∷ s))
+    begins ih e =
+        by-bool (eqb b 61)
+        (λ q. subst (λ (x : ℕ). Tokens (x ∷ s) (tokens (x ∷ s))) (sym (eqb-true b 61 q)) (ih .1 (sym (allowed-equals b s q) ∙ e)))
+        (λ n. starting b s (and-left (allowedByte b) (allowed s) (sym (allowed-other b s n) ∙ e)) (behind ih e n))
+
+    pair : (allowed s ≡ true → Both s) × (paired s ≡ true → Tokens (61 ∷ s) (tokens (61 ∷ s))) → paired (b ∷ s) ≡ true → Tokens (61 ∷ b ∷ s) (tokens (61 ∷ b ∷ s))
+    pair ih e =
+        let p = eqb-true b 61 (and-left (eqb b 61) (allowed s) e) in
+        let h = ih .0 (and-right (eqb b 61) (allowed s) e) in
+        subst (λ (x : ℕ). Tokens (61 ∷ x ∷ s) (tokens (61 ∷ x ∷ s))) (sym p) (subst (Tokens (61 ∷ 61 ∷ s)) (sym (scan-more 61 61 [] s refl ∙ scan-pair s)) (token equals (longest-pair s) (h .start)))
 
 -- a text has the tokens ts exactly where all its bytes part tokens or are in one, and `tokens` gives ts
 pub longest-match : (s : List ℕ) (ts : List (List ℕ)) → Tokens s ts ↔ ((allowed s ≡ true) × (tokens s ≡ ts))
-longest-match s ts = (derived, λ h. subst (Tokens s) (h .1) (derives s (h .0) .start))
+longest-match s ts = (derived, λ h. subst (Tokens s) (h .1) (derives s .0 (h .0) .start))

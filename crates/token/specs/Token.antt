@@ -1,10 +1,11 @@
--- The tokens of an expression: digit runs; names, an ASCII letter or `_` and then those or digits; signs. A token is its bytes.
+-- The tokens of an expression: digit runs; names, an ASCII letter or `_` and then those or digits; signs; `==`. A token is its bytes.
 use Prim.Native.Nat.{ℕ}
 use mathlib.Core.List.{List, [], _∷_, _++_}
 use mathlib.Core.Bool.{Bool, true, false, _&&_, _||_}
 use lib.Dec.{eqb}
 use Rattle.base.specs.Range.{within}
-use Rattle.base.specs.Lists.{all}
+use Rattle.base.specs.Ascii.{ascii}
+use Rattle.base.specs.Equal.{equal}
 use Rattle.base.specs.Texts.{unlessEmpty}
 use Rattle.decimal.specs.Decimal.{digit}
 
@@ -18,18 +19,24 @@ nameStart a = within 65 90 a || within 97 122 a || eqb a 95
 abbrev pub namePart : ℕ → Bool
 namePart a = nameStart a || digit a
 
--- ( ) * + and - and /
+-- ( ) * + and - and / and <
 abbrev pub sign : ℕ → Bool
-sign a = within 40 43 a || eqb a 45 || eqb a 47
+sign a = within 40 43 a || eqb a 45 || eqb a 47 || eqb a 60
 
--- whether every byte parts tokens or is in one
-abbrev pub allowed : List ℕ → Bool
-allowed s = all (λ a. space a || namePart a || sign a) s
+-- whether every byte parts tokens or is in one; a `=` is in one as the first or the second byte of `==`
+abbrev mutual
+  pub allowed : List ℕ → Bool
+  allowed [] = true
+  allowed (a ∷ s) = elim (eqb a 61) [ true ↦ paired s | false ↦ (space a || namePart a || sign a) && allowed s ]
 
--- whether b goes on with the token w
+  pub paired : List ℕ → Bool
+  paired [] = false
+  paired (b ∷ s) = eqb b 61 && allowed s
+
+-- whether b goes on with the token w: digits go on with digits, a name with letters, `_` and digits, a `=` that is alone with a second one
 abbrev pub extends : List ℕ → ℕ → Bool
 extends [] b = false
-extends (a ∷ w) b = (digit a && digit b) || (nameStart a && namePart b)
+extends (a ∷ w) b = (digit a && digit b) || (nameStart a && namePart b) || (equal (a ∷ w) (ascii "=") && eqb b 61)
 
 -- the tokens where w is read of the first; where nothing was read there is none
 unfoldable pub scan : List ℕ → List ℕ → List (List ℕ)

@@ -4,6 +4,7 @@ use mathlib.Core.Path.{_≡_}
 use mathlib.Core.List.{List, [], _∷_, _++_}
 use mathlib.Core.Bool.{true}
 use lib.ListN.{length}
+use Rattle.base.specs.Ascii.{ascii}
 use Rattle.base.specs.Lists.{all}
 use Rattle.decimal.specs.Decimal.{digit}
 use Rattle.token.specs.Token.{space, nameStart, namePart, sign}
@@ -13,6 +14,7 @@ pub data IsToken : List ℕ → Type 0 where
   digits : {w : List ℕ} → 0 < length w → all digit w ≡ true → IsToken w
   name : {a : ℕ} {w : List ℕ} → nameStart a ≡ true → all namePart w ≡ true → IsToken (a ∷ w)
   single : {a : ℕ} → sign a ≡ true → IsToken (a ∷ [])
+  equals : IsToken (ascii "==")
 
 -- no token starts with w and goes on into s
 abbrev pub Longest : List ℕ → List ℕ → Type 0

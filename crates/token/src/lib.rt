@@ -1,11 +1,13 @@
 // Tokens of an expression, found in its bytes.
 ghost use mathlib.Core.Path.{_≡_};
-ghost use Prim.Native.Nat.{_+_, _<_};
+ghost use mathlib.Core.Bool.{_&&_};
+ghost use Prim.Native.Nat.{_+_, _<_, _≤_};
+ghost use lib.Dec.{eqb};
 ghost use lib.ListN.{length, getD, drop};
 ghost use Rattle.base.specs.Lists.{takeWhile};
 ghost use Rattle.decimal.specs.Decimal.{digit};
 ghost use Rattle.token.specs.Token.{space, nameStart, namePart, sign, allowed};
-ghost use Rattle.token.specs.Code.Bytes.{allowedByte, goesOn};
+ghost use Rattle.token.specs.Code.Bytes.{allowedByte, goesOn, second, rest};
 ghost use Rattle.token.specs.Code.Places.{startAt, tokenAt};
 use base::both;
 use base::either;
@@ -35,10 +37,14 @@ pub fn is_all_tokens(text: &[u8], at: usize) -> bool
 {
     let mut i = at;
     while i < text.len() {
-        if !is_allowed(text[i]) {
-            return false;
+        if is_allowed(text[i]) {
+            i += 1;
+        } else {
+            if !is_pair_at(text, i) {
+                return false;
+            }
+            i += 2;
         }
-        i += 1;
     }
     true
 }
@@ -61,15 +67,33 @@ fn token_start(text: &[u8], at: usize) -> usize
 
 fn token_end(text: &[u8], start: usize) -> usize
     requires { ⌜ start < length (now text) ⌝ }
-    ensures { λ r. ⌜ r ≡ start + 1
-        + length (takeWhile (goesOn (getD (now (text .entry)) start 0)) (drop (start + 1) (now (text .entry)))) ⌝ }
+    ensures { λ r. ⌜ r ≡ start + 1 + length (rest (getD (now (text .entry)) start 0) (drop (start + 1) (now (text .entry)))) ⌝ }
 {
     let first = text[start];
-    let mut i = start + 1;
+    if first == b'=' {
+        return second_end(text, start + 1);
+    }
+    run_end(first, text, start + 1)
+}
+
+// Where the digits or the name that a byte starts end.
+fn run_end(first: u8, text: &[u8], at: usize) -> usize
+    requires { ⌜ at ≤ length (now text) ⌝ }
+    ensures { λ r. ⌜ r ≡ at + length (takeWhile (goesOn first) (drop at (now (text .entry)))) ⌝ }
+{
+    let mut i = at;
     while goes_on_at(first, text, i) {
         i += 1;
     }
     i
+}
+
+// The offset behind the second = of ==, where there is one.
+fn second_end(text: &[u8], at: usize) -> usize
+    requires { ⌜ at ≤ length (now text) ⌝ }
+    ensures { λ r. ⌜ r ≡ at + length (second (drop at (now (text .entry)))) ⌝ }
+{
+    if is_equals_at(text, at) { at + 1 } else { at }
 }
 
 fn is_space_at(text: &[u8], i: usize) -> bool
@@ -77,6 +101,23 @@ fn is_space_at(text: &[u8], i: usize) -> bool
 {
     if i < text.len() {
         return is_space(text[i]);
+    }
+    false
+}
+
+// Whether == stands at an offset of the text.
+fn is_pair_at(text: &[u8], i: usize) -> bool
+    requires { ⌜ i < length (now text) ⌝ }
+    ensures { λ r. ⌜ r ≡ (eqb (getD (now (text .entry)) i 0) 61 && eqb (getD (now (text .entry)) (i + 1) 0) 61) ⌝ }
+{
+    both(text[i] == b'=', is_equals_at(text, i + 1))
+}
+
+fn is_equals_at(text: &[u8], i: usize) -> bool
+    ensures { λ r. ⌜ r ≡ eqb (getD (now (text .entry)) i 0) 61 ⌝ }
+{
+    if i < text.len() {
+        return text[i] == b'=';
     }
     false
 }
@@ -114,7 +155,10 @@ fn is_name_part(a: u8) -> bool
 fn is_sign(a: u8) -> bool
     ensures { λ r. ⌜ r ≡ sign a ⌝ }
 {
-    either(either(in_range(b'(', b'+', a), a == b'-'), a == b'/')
+    either(
+        either(either(in_range(b'(', b'+', a), a == b'-'), a == b'/'),
+        a == b'<',
+    )
 }
 
 fn is_allowed(a: u8) -> bool

@@ -101,3 +101,8 @@ hasTag tags from (suc n) tag = hasTag tags from n tag || eqb (getD tags (from + 
 -- whether there are 16 bindings before a place, none of which has a tag
 abbrev pub isFree : List ℕ → ℕ → ℕ → Bool
 isFree tags left tag = cond (ltb left 16) false (not (hasTag tags (left - 16) 16 tag))
+
+-- of n bindings those from r on, r being at most n, all have another tag: a name with that tag is found among the first r alone
+pub record Passes (tags : List ℕ) (n tag r : ℕ) : Type 0 where
+  pub fewer : r ≤ n
+  pub same : (s names lens w : List ℕ) → tag ≡ tagOf w → found n s names lens tags w ≡ found r s names lens tags w

@@ -10,10 +10,11 @@ use Rattle.token.specs.Token.{tokens}
 use Rattle.token.specs.Code.Places.{tokenAt, first}
 use Rattle.grammar.specs.Grammar.{levels}
 use Rattle.grammar.specs.Parse.{symbol}
+use Rattle.grammar.specs.Code.Operator.{levelOf}
 use Rattle.writer.specs.Code.Overwrites.{Overwrites}
 use Rattle.emission.specs.Code.Lines.{operatorsText}
 use Rattle.emission.specs.declared.operator.Turn.{Turn}
-use Rattle.emission.specs.Code.Waiting.{levelOf, most, popped, left}
+use Rattle.emission.specs.Code.Waiting.{most, popped, left}
 
 -- the sign at or after an offset, in an expression that ends at an offset of the text; 0 where no token is left
 abbrev pub signAt : List ℕ → ℕ → ℕ → ℕ

@@ -2,24 +2,20 @@
 use Prim.Native.Nat.{ℕ, _+_, _*_, _≤_}
 use mathlib.Core.Path.{_≡_}
 use mathlib.Core.List.{List, [], _∷_}
-use mathlib.Core.Bool.{true, false, cond}
+use mathlib.Core.Bool.{true, false}
 use lib.Dec.{leb}
 use Rattle.base.specs.Code.Stack.{stackOf}
-use Rattle.grammar.specs.Grammar.{levels, term, expression, depth}
-use Rattle.grammar.specs.Parse.{isOperatorAt}
+use Rattle.grammar.specs.Grammar.{levels, depth}
+use Rattle.grammar.specs.Code.Operator.{levelOf}
 use Rattle.writer.specs.Code.Overwrites.{Overwrites}
 use Rattle.emission.specs.Code.Lines.{operatorsText}
 use Rattle.emission.specs.declared.waiting.Popped.{Popped}
-
--- the level that an operator joins to; for every other byte, the mark among them, one above all levels
-abbrev pub levelOf : ℕ → ℕ
-levelOf a = cond (isOperatorAt term a) term (cond (isOperatorAt expression a) expression (levels + 1))
 
 -- the most that can wait: an operator of each level, and for each open parenthesis its mark and an operator of each level
 abbrev pub most : ℕ
 most = levels + (levels + 1) * depth
 
--- the operators on top of a stack that bind at least as tightly as a level, and the stack without them
+-- the operators on top of a stack that bind at least as tightly as a level, and the stack without them; a mark binds more loosely than all
 unfoldable pub popped : ℕ → List ℕ → List ℕ
 popped p [] = []
 popped p (y ∷ st) = elim (leb (levelOf y) p) [ true ↦ y ∷ popped p st | false ↦ [] ]

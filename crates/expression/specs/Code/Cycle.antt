@@ -1,4 +1,4 @@
--- What expression, term and factor promise: at level l, starting at an offset of a text, with d more parentheses that may be open.
+-- What expression, sum, term and factor promise: at level l, starting at an offset of a text, with d more parentheses that may be open.
 use Prim.Native.Nat.{ℕ, _-_, _*_, _^_, _<_, _≤_}
 use mathlib.Core.Path.{_≡_}
 use mathlib.Core.List.{List}

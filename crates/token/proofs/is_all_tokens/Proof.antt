@@ -1,20 +1,14 @@
 -- `token::is_all_tokens` meets its contract: what is left is allowed exactly where all of it is.
-use mathlib.Core.Bool.{Bool, true, false, _&&_}
-use borrow.Author.Tests.{not-true, not-false}
-use Prim.Native.Nat.{ℕ, _+_, _-_, _<_}
+use Prim.Native.Nat.{_-_}
 use mathlib.Core.Path.{_≡_, sym, _∙_}
-use mathlib.Core.List.{List}
-use lib.ListN.{length, getD, drop}
-use Rattle.base.proofs.Lists.{all-more, all-end}
+use borrow.Author.Tests.{not-true, not-false}
+use native.Mathlib.Omega.{arith}
+use lib.ListN.{length, drop}
 use Rattle.token.specs.Token.{allowed}
-use Rattle.token.specs.Code.Bytes.{allowedByte}
+use Rattle.token.proofs.Allowed.{one-more, pair-more, none-more, none-left}
 use borrow.Author.Needs.{needs}
 use Rattle.token.proofs.is_all_tokens.Statement.{statement}
 use Rattle.token.proofs.is_all_tokens.Tie as tie
-
--- one byte more
-allowed-more : (s : List ℕ) (i : ℕ) → i < length s → (b : Bool) → b ≡ allowedByte (getD s i 0) → allowed (drop i s) ≡ (b && allowed (drop (i + 1) s))
-allowed-more s i h b e = rw e (all-more allowedByte s i h)
 
 abbrev Inv-loop : tie.InvT-loop
 Inv-loop text at i₀ i = allowed (drop at text) ≡ allowed (drop i text)
@@ -31,9 +25,6 @@ shared-slice-read-is-allowed c = search needs
 is-allowed-requires : tie.Need-is-allowed-requires Inv-loop μ-loop
 is-allowed-requires c κs = search needs
 
-returns : tie.Need-returns Inv-loop μ-loop
-returns c = let s = c .before .before .before .before .before .before .args .text .now in let i = c .before .before .before .before .loop .i in let h = c .before .before .before .loop-test .taken in sym (c .before .before .before .before .loop .inv ∙ allowed-more s i h false (sym (not-true _ (c .if1 .taken)) ∙ c .before .is-allowed .ensures))
-
 add-i : tie.Need-add-i Inv-loop μ-loop
 add-i c = search needs
 
@@ -41,10 +32,25 @@ loop-less : tie.Need-loop-less Inv-loop μ-loop
 loop-less c = search needs
 
 loop-again : tie.Need-loop-again Inv-loop μ-loop
-loop-again c = let s = c .before .before .before .before .before .before .args .text .now in let i = c .before .before .before .before .loop .i in let h = c .before .before .before .loop-test .taken in c .before .before .before .before .loop .inv ∙ allowed-more s i h true (sym (not-false _ (c .if1 .left)) ∙ c .before .is-allowed .ensures)
+loop-again c = c .before .before .before .before .loop .inv ∙ one-more (c .before .before .before .before .before .before .args .text .now) (c .before .before .before .before .loop .i) (c .before .before .before .loop-test .taken) (sym (c .before .is-allowed .ensures) ∙ c .if1 .taken)
+
+is-pair-at-requires : tie.Need-is-pair-at-requires Inv-loop μ-loop
+is-pair-at-requires c κs = search needs
+
+returns : tie.Need-returns Inv-loop μ-loop
+returns c = sym (c .before .before .before .before .before .before .loop .inv ∙ none-more (c .before .before .before .before .before .before .before .before .args .text .now) (c .before .before .before .before .before .before .loop .i) (c .before .before .before .before .before .loop-test .taken) (sym (c .before .before .before .is-allowed .ensures) ∙ c .before .before .if1 .left) (sym (c .before .is-pair-at .ensures) ∙ not-true _ (c .if2 .taken)))
+
+add-i-2 : tie.Need-add-i-2 Inv-loop μ-loop
+add-i-2 c = search needs
+
+loop-less-2 : tie.Need-loop-less-2 Inv-loop μ-loop
+loop-less-2 c = search needs
+
+loop-again-2 : tie.Need-loop-again-2 Inv-loop μ-loop
+loop-again-2 c = c .before .before .before .before .before .before .loop .inv ∙ pair-more (c .before .before .before .before .before .before .before .before .args .text .now) (c .before .before .before .before .before .before .loop .i) (c .before .before .before .before .before .loop-test .taken) (sym (c .before .is-pair-at .ensures) ∙ not-false _ (c .if2 .left)) .1
 
 returns-2 : tie.Need-returns-2 Inv-loop μ-loop
-returns-2 c = sym (c .before .loop .inv ∙ all-end allowedByte (c .before .before .before .args .text .now) (c .before .loop .i) (c .loop-test .left))
+returns-2 c = sym (c .before .loop .inv ∙ none-left (c .before .before .before .args .text .now) (c .before .loop .i) (c .loop-test .left))
 
 pub is-all-tokens-spec : {M : Type 1} → statement M
 is-all-tokens-spec =
@@ -55,8 +61,12 @@ is-all-tokens-spec =
     loop-holds
     shared-slice-read-is-allowed
     is-allowed-requires
-    returns
     add-i
     loop-less
     loop-again
+    is-pair-at-requires
+    returns
+    add-i-2
+    loop-less-2
+    loop-again-2
     returns-2)

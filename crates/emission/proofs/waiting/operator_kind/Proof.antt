@@ -1,5 +1,5 @@
 -- `emission::waiting::operator_kind` meets its contract: by the sign.
-use borrow.Author.Tests.{ne-eqb}
+use Rattle.grammar.proofs.Steps.{operator-div}
 use Rattle.emission.proofs.waiting.operator_kind.Statement.{statement}
 use Rattle.emission.proofs.waiting.operator_kind.Tie as tie
 
@@ -13,10 +13,13 @@ returns-3 : tie.Need-returns-3
 returns-3 c = rw (c .match .keys3)
 
 returns-4 : tie.Need-returns-4
-returns-4 c =
-    let a = c .before .args .sign in
-    let n = c .match .rest in
-    simp (ne-eqb a 43 (n .0 .0 .1), ne-eqb a 45 (n .0 .1), ne-eqb a 42 (n .1))
+returns-4 c = rw (c .match .keys4)
+
+returns-5 : tie.Need-returns-5
+returns-5 c = rw (c .match .keys5)
+
+returns-6 : tie.Need-returns-6
+returns-6 c = let n = c .match .rest in rw (operator-div (c .before .args .sign) (n .0 .0 .0 .0 .1) (n .0 .0 .0 .1) (n .0 .0 .1) (n .0 .1) (n .1))
 
 pub operator-kind-spec : {M : Type 1} → statement M
-operator-kind-spec = tie.close (tie.spec returns returns-2 returns-3 returns-4)
+operator-kind-spec = tie.close (tie.spec returns returns-2 returns-3 returns-4 returns-5 returns-6)

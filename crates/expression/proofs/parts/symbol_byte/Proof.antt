@@ -1,21 +1,30 @@
--- `expression::parts::symbol_byte` meets its contract.
+-- `expression::parts::symbol_byte` meets its contract: by the token's first byte and its length.
 use native.Mathlib.Omega.{arith}
-use Rattle.expression.proofs.Signs.{lone-one, lone-more}
+use borrow.Author.Tests.{ne-eqb}
+use Rattle.expression.proofs.Signs.{symbol-one, symbol-more}
 use borrow.Author.Needs.{needs}
 use Rattle.expression.proofs.parts.symbol_byte.Statement.{statement}
 use Rattle.expression.proofs.parts.symbol_byte.Tie as tie
 
-sub-if1 : tie.Need-sub-if1
-sub-if1 c = search needs
+shared-slice-read-first : tie.Need-shared-slice-read-first
+shared-slice-read-first c = search needs
 
-shared-slice-read-result : tie.Need-shared-slice-read-result
-shared-slice-read-result c = search needs
+sub-len : tie.Need-sub-len
+sub-len c = search needs
+
+equals-byte-requires : tie.Need-equals-byte-requires
+equals-byte-requires c κs = (omega (arith, c .before .before .before .pre), c .if1 .taken)
 
 returns : tie.Need-returns
-returns c = let a = c .before .before .args in lone-one (a .text .now) (a .start) (a .end) (omega arith) (c .before .if1 .taken)
+returns c = search needs
 
 returns-2 : tie.Need-returns-2
-returns-2 c = let a = c .before .args in lone-more (a .text .now) (a .start) (a .end) (omega arith) (omega arith) (c .if1 .left)
+returns-2 c = let a = c .before .before .before .before .args in symbol-one (a .text .now) (a .start) (omega arith) (ne-eqb _ 61 (c .before .if1 .left)) (c .if2 .taken)
+
+returns-3 : tie.Need-returns-3
+returns-3 c = let a = c .before .before .before .before .args in symbol-more (a .text .now) (a .start) (omega arith) (ne-eqb _ 61 (c .before .if1 .left)) _ (omega arith) (omega arith) (c .if2 .left)
 
 pub symbol-byte-spec : {M : Type 1} → statement M
-symbol-byte-spec = tie.close (tie.spec sub-if1 shared-slice-read-result returns returns-2)
+symbol-byte-spec =
+    tie.close
+    (tie.spec shared-slice-read-first sub-len equals-byte-requires returns returns-2 returns-3)

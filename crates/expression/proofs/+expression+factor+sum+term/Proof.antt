@@ -1,4 +1,4 @@
--- expression, term and factor meet their contracts: every call is at a later byte, or at the same byte and of a lower rank.
+-- expression, sum, term and factor meet their contracts: every call is at a later byte, or at the same byte and of a lower rank.
 use Prim.Native.Nat.{ℕ, suc, _+_, _-_, _*_, _<_}
 use mathlib.Core.Path.{_≡_, refl, sym, ap, subst, _∙_}
 use native.Mathlib.Omega.{arith}
@@ -15,15 +15,19 @@ use borrow.Fn.Kinds.{In}
 use borrow.Fn.PlainCycle.{Measures, is, falls, and}
 use Rattle.expression.proofs.expression.Reads as expression
 use Rattle.expression.proofs.expression.Kinds as expression-kinds
-use Rattle.expression.proofs.+expression+factor+term.Lts-expression as expression-lts
+use Rattle.expression.proofs.+expression+factor+sum+term.Lts-expression as expression-lts
 use Rattle.expression.proofs.factor.Reads as factor
 use Rattle.expression.proofs.factor.Kinds as factor-kinds
-use Rattle.expression.proofs.+expression+factor+term.Lts-factor as factor-lts
+use Rattle.expression.proofs.+expression+factor+sum+term.Lts-factor as factor-lts
+use Rattle.expression.proofs.sum.Reads as sum
+use Rattle.expression.proofs.sum.Kinds as sum-kinds
+use Rattle.expression.proofs.+expression+factor+sum+term.Lts-sum as sum-lts
 use Rattle.expression.proofs.term.Reads as term
 use Rattle.expression.proofs.term.Kinds as term-kinds
-use Rattle.expression.proofs.+expression+factor+term.Lts-term as term-lts
+use Rattle.expression.proofs.+expression+factor+sum+term.Lts-term as term-lts
 use Rattle.expression.proofs.operands.close.Reads as close-reads
 use Rattle.figures.proofs.joining.join.Reads as join-reads
+use Rattle.expression.proofs.parts.is_comparison.Reads as is-comparison-reads
 use Rattle.expression.proofs.parts.is_product.Reads as is-product-reads
 use Rattle.expression.proofs.parts.is_sum.Reads as is-sum-reads
 use Rattle.expression.proofs.operands.literal.Reads as literal-reads
@@ -32,14 +36,17 @@ use Rattle.expression.proofs.operands.name.Reads as name-reads
 use Rattle.expression.proofs.parts.sign_at.Reads as sign-at-reads
 use Rattle.token.proofs.is_digit.Reads as is-digit-reads
 use Rattle.token.proofs.token_at.Reads as token-at-reads
-use Rattle.expression.proofs.+expression+factor+term.{statement}
-use Rattle.expression.proofs.+expression+factor+term.Tie.{close}
+use Rattle.expression.proofs.+expression+factor+sum+term.{statement}
+use Rattle.expression.proofs.+expression+factor+sum+term.Tie.{close}
 
 abbrev μ-expression : Measures 1 expression-kinds.ps ℕ
-μ-expression κs a = 8 * (length (a .0 .now) - a .1 .0) + 3
+μ-expression κs a = 8 * (length (a .0 .now) - a .1 .0) + 4
 
 abbrev μ-factor : Measures 1 factor-kinds.ps ℕ
 μ-factor κs a = 8 * (length (a .0 .now) - a .1 .0) + 1
+
+abbrev μ-sum : Measures 1 sum-kinds.ps ℕ
+μ-sum κs a = 8 * (length (a .0 .now) - a .1 .0) + 3
 
 abbrev μ-term : Measures 1 term-kinds.ps ℕ
 μ-term κs a = 8 * (length (a .0 .now) - a .1 .0) + 2
@@ -58,6 +65,12 @@ factor-at t = and 1 factor-kinds.ps (is 1 factor-kinds.ps μ-factor t) factor.Pr
 abbrev factor-below : ℕ → In 1 factor-kinds.ps
 factor-below t = and 1 factor-kinds.ps (falls 1 factor-kinds.ps _<_ μ-factor t) factor.Pre
 
+abbrev sum-at : ℕ → In 1 sum-kinds.ps
+sum-at t = and 1 sum-kinds.ps (is 1 sum-kinds.ps μ-sum t) sum.Pre
+
+abbrev sum-below : ℕ → In 1 sum-kinds.ps
+sum-below t = and 1 sum-kinds.ps (falls 1 sum-kinds.ps _<_ μ-sum t) sum.Pre
+
 abbrev term-at : ℕ → In 1 term-kinds.ps
 term-at t = and 1 term-kinds.ps (is 1 term-kinds.ps μ-term t) term.Pre
 
@@ -65,22 +78,25 @@ abbrev term-below : ℕ → In 1 term-kinds.ps
 term-below t = and 1 term-kinds.ps (falls 1 term-kinds.ps _<_ μ-term t) term.Pre
 
 abbrev E : ℕ → expression-lts.Claims
-E t = (term-below t, term.Post, sign-at-reads.Asked, sign-at-reads.Learnt, is-sum-reads.Asked, is-sum-reads.Learnt, join-reads.Asked, join-reads.Learnt)
+E t = (sum-below t, sum.Post, sign-at-reads.Asked, sign-at-reads.Learnt, is-comparison-reads.Asked, is-comparison-reads.Learnt, join-reads.Asked, join-reads.Learnt)
 
 abbrev F : ℕ → factor-lts.Claims
 F t = (token-at-reads.Asked, token-at-reads.Learnt, symbol-byte-reads.Asked, symbol-byte-reads.Learnt, expression-below t, expression.Post, close-reads.Asked, close-reads.Learnt, is-digit-reads.Asked, is-digit-reads.Learnt, literal-reads.Asked, literal-reads.Learnt, name-reads.Asked, name-reads.Learnt)
+
+abbrev S : ℕ → sum-lts.Claims
+S t = (term-below t, term.Post, sign-at-reads.Asked, sign-at-reads.Learnt, is-sum-reads.Asked, is-sum-reads.Learnt, join-reads.Asked, join-reads.Learnt)
 
 abbrev T : ℕ → term-lts.Claims
 T t = (factor-below t, factor.Post, sign-at-reads.Asked, sign-at-reads.Learnt, is-product-reads.Asked, is-product-reads.Learnt, join-reads.Asked, join-reads.Learnt)
 
 abbrev expression-Inv-loop : expression-lts.InvT-loop
-expression-Inv-loop text at room count names lens tags ks ps values nones sizes left₀ sign₀ left sign = Going text at (columnsOf count names lens tags ks ps values nones sizes) 1 room left × (sign ≡ signAt text (left .next))
+expression-Inv-loop text at room count names lens tags ks ps values nones sizes left₀ sign₀ left sign = Going text at (columnsOf count names lens tags ks ps values nones sizes) 2 room left × (sign ≡ signAt text (left .next))
 
 abbrev expression-μ-loop : expression-lts.MeasureT-loop
 expression-μ-loop text at room count names lens tags ks ps values nones sizes left₀ sign₀ left sign = length text - left .next
 
-expression-term-requires : (t : ℕ) → expression-lts.Need-term-requires (E t) (expression-at t) expression.Post expression-Inv-loop expression-μ-loop
-expression-term-requires t c κs = search needs
+expression-sum-requires : (t : ℕ) → expression-lts.Need-sum-requires (E t) (expression-at t) expression.Post expression-Inv-loop expression-μ-loop
+expression-sum-requires t c κs = search needs
 
 expression-enum-known-e : (t : ℕ) → expression-lts.Need-enum-known-e (E t) (expression-at t) expression.Post expression-Inv-loop expression-μ-loop
 expression-enum-known-e t c = search needs
@@ -92,40 +108,40 @@ expression-sign-at-requires : (t : ℕ) → expression-lts.Need-sign-at-requires
 expression-sign-at-requires t c κs = search needs
 
 expression-loop-holds : (t : ℕ) → expression-lts.Need-loop-holds (E t) (expression-at t) expression.Post expression-Inv-loop expression-μ-loop
-expression-loop-holds t c = (begins (carry (c .before .before .first .given .1) (c .before .before .before .before .term .ensures)), c .sign-at .ensures)
+expression-loop-holds t c = (begins (carry (c .before .before .first .given .1) (c .before .before .before .before .sum .ensures)), c .sign-at .ensures)
 
-expression-is-sum-requires : (t : ℕ) → expression-lts.Need-is-sum-requires (E t) (expression-at t) expression.Post expression-Inv-loop expression-μ-loop
-expression-is-sum-requires t c κs = search needs
+expression-is-comparison-requires : (t : ℕ) → expression-lts.Need-is-comparison-requires (E t) (expression-at t) expression.Post expression-Inv-loop expression-μ-loop
+expression-is-comparison-requires t c κs = search needs
 
-expression-term-requires-2 : (t : ℕ) → expression-lts.Need-term-requires-2 (E t) (expression-at t) expression.Post expression-Inv-loop expression-μ-loop
-expression-term-requires-2 t c κs = let o = operator-next (c .before .before .before .before .before .before .before .before .before .args .text .now) (c .before .before .loop .left .next) 2 (c .before .before .loop .sign) (c .before .before .loop .inv .1) (sym (c .before .is-sum .ensures) ∙ c .if1 .taken) in omega (arith, o .past, o .inside, c .before .before .loop .inv .0 .placed .past)
+expression-sum-requires-2 : (t : ℕ) → expression-lts.Need-sum-requires-2 (E t) (expression-at t) expression.Post expression-Inv-loop expression-μ-loop
+expression-sum-requires-2 t c κs = let o = operator-next (c .before .before .before .before .before .before .before .before .before .args .text .now) (c .before .before .loop .left .next) 3 (c .before .before .loop .sign) (c .before .before .loop .inv .1) (sym (c .before .is-comparison .ensures) ∙ c .if1 .taken) in omega (arith, o .past, o .inside, c .before .before .loop .inv .0 .placed .past)
 
 expression-enum-known-e-2 : (t : ℕ) → expression-lts.Need-enum-known-e-2 (E t) (expression-at t) expression.Post expression-Inv-loop expression-μ-loop
 expression-enum-known-e-2 t c = search needs
 
 expression-returns : (t : ℕ) → expression-lts.Need-returns (E t) (expression-at t) expression.Post expression-Inv-loop expression-μ-loop
-expression-returns t c = goes-refused (c .before .before .before .before .before .before .loop .sign) (c .before .before .before .before .before .before .loop .inv .1) (sym (c .before .before .before .before .before .is-sum .ensures) ∙ c .before .before .before .before .if1 .taken) (c .before .before .before .before .before .before .loop .inv .0) (carry (c .before .e2 .given .1) (c .before .before .before .term2 .ensures))
+expression-returns t c = goes-refused (c .before .before .before .before .before .before .loop .sign) (c .before .before .before .before .before .before .loop .inv .1) (sym (c .before .before .before .before .before .is-comparison .ensures) ∙ c .before .before .before .before .if1 .taken) (c .before .before .before .before .before .before .loop .inv .0) (carry (c .before .e2 .given .1) (c .before .before .before .sum2 .ensures))
 
 expression-enum-known-right : (t : ℕ) → expression-lts.Need-enum-known-right (E t) (expression-at t) expression.Post expression-Inv-loop expression-μ-loop
 expression-enum-known-right t c = search needs
 
 expression-join-requires : (t : ℕ) → expression-lts.Need-join-requires (E t) (expression-at t) expression.Post expression-Inv-loop expression-μ-loop
-expression-join-requires t c κs = (small (c .before .before .before .before .before .before .before .before .before .before .before .before .before .pre .1 .short) (c .before .before .before .before .before .before .loop .inv .0 .placed), small (c .before .before .before .before .before .before .before .before .before .before .before .before .before .pre .1 .short) (carry (c .before .right .given .1) (c .before .before .before .term2 .ensures) .fine))
+expression-join-requires t c κs = (small (c .before .before .before .before .before .before .before .before .before .before .before .before .before .pre .1 .short) (c .before .before .before .before .before .before .loop .inv .0 .placed), small (c .before .before .before .before .before .before .before .before .before .before .before .before .before .pre .1 .short) (carry (c .before .right .given .1) (c .before .before .before .sum2 .ensures) .fine))
 
 expression-sign-at-requires-2 : (t : ℕ) → expression-lts.Need-sign-at-requires-2 (E t) (expression-at t) expression.Post expression-Inv-loop expression-μ-loop
 expression-sign-at-requires-2 t c κs = search needs
 
 expression-loop-less : (t : ℕ) → expression-lts.Need-loop-less (E t) (expression-at t) expression.Post expression-Inv-loop expression-μ-loop
-expression-loop-less t c = let o = operator-next (c .before .before .before .before .before .before .before .before .before .before .before .before .before .before .before .args .text .now) (c .before .before .before .before .before .before .before .before .loop .left .next) 2 (c .before .before .before .before .before .before .before .before .loop .sign) (c .before .before .before .before .before .before .before .before .loop .inv .1) (sym (c .before .before .before .before .before .before .before .is-sum .ensures) ∙ c .before .before .before .before .before .before .if1 .taken) in let n = carry (c .before .before .before .right .given .1) (c .before .before .before .before .before .term2 .ensures) .fine in omega (arith, c .before .join .ensures .next, n .past, n .within, o .past)
+expression-loop-less t c = let o = operator-next (c .before .before .before .before .before .before .before .before .before .before .before .before .before .before .before .args .text .now) (c .before .before .before .before .before .before .before .before .loop .left .next) 3 (c .before .before .before .before .before .before .before .before .loop .sign) (c .before .before .before .before .before .before .before .before .loop .inv .1) (sym (c .before .before .before .before .before .before .before .is-comparison .ensures) ∙ c .before .before .before .before .before .before .if1 .taken) in let n = carry (c .before .before .before .right .given .1) (c .before .before .before .before .before .sum2 .ensures) .fine in omega (arith, c .before .join .ensures .next, n .past, n .within, o .past)
 
 expression-loop-again : (t : ℕ) → expression-lts.Need-loop-again (E t) (expression-at t) expression.Post expression-Inv-loop expression-μ-loop
-expression-loop-again t c = (goes-on (c .before .before .before .before .before .before .before .before .loop .sign) (c .before .before .before .before .before .before .before .before .loop .inv .1) (sym (c .before .before .before .before .before .before .before .is-sum .ensures) ∙ c .before .before .before .before .before .before .if1 .taken) (c .before .before .before .before .before .before .before .before .loop .inv .0) (carry (c .before .before .before .right .given .1) (c .before .before .before .before .before .term2 .ensures)) (c .before .join .ensures), c .sign-at2 .ensures)
+expression-loop-again t c = (goes-on (c .before .before .before .before .before .before .before .before .loop .sign) (c .before .before .before .before .before .before .before .before .loop .inv .1) (sym (c .before .before .before .before .before .before .before .is-comparison .ensures) ∙ c .before .before .before .before .before .before .if1 .taken) (c .before .before .before .before .before .before .before .before .loop .inv .0) (carry (c .before .before .before .right .given .1) (c .before .before .before .before .before .sum2 .ensures)) (c .before .join .ensures), c .sign-at2 .ensures)
 
 expression-returns-2 : (t : ℕ) → expression-lts.Need-returns-2 (E t) (expression-at t) expression.Post expression-Inv-loop expression-μ-loop
-expression-returns-2 t c = begins-refused (carry (c .before .e .given .1) (c .before .before .before .term .ensures))
+expression-returns-2 t c = begins-refused (carry (c .before .e .given .1) (c .before .before .before .sum .ensures))
 
 expression-returns-3 : (t : ℕ) → expression-lts.Need-returns-3 (E t) (expression-at t) expression.Post expression-Inv-loop expression-μ-loop
-expression-returns-3 t c = finishes (c .before .before .loop .sign) (c .before .before .loop .inv .1) (sym (c .before .is-sum .ensures) ∙ c .if1 .left) (c .before .before .loop .inv .0)
+expression-returns-3 t c = finishes (c .before .before .loop .sign) (c .before .before .loop .inv .1) (sym (c .before .is-comparison .ensures) ∙ c .if1 .left) (c .before .before .loop .inv .0)
 
 -- the token that factor reads, and whether it is `(`
 factor-token : (t : ℕ) (c : factor-lts.Else1 (F t) (factor-at t) factor.Post) →
@@ -195,6 +211,60 @@ factor-name-requires t c κs = let n = factor-token t (c .before .before .before
 factor-returns-6 : (t : ℕ) → factor-lts.Need-returns-6 (F t) (factor-at t) factor.Post
 factor-returns-6 t c = let e = c .name .ensures in carry (sym (e .1)) (name-meets _ (factor-token t (c .before .before .before .before .before .before)) _ (factor-no-opens t (c .before .before .before .before)) (sym (c .before .before .is-digit .ensures) ∙ c .before .if4 .left) _ refl (subst AllFit (e .1) (e .0)))
 
+abbrev sum-Inv-loop : sum-lts.InvT-loop
+sum-Inv-loop text at room count names lens tags ks ps values nones sizes left₀ sign₀ left sign = Going text at (columnsOf count names lens tags ks ps values nones sizes) 1 room left × (sign ≡ signAt text (left .next))
+
+abbrev sum-μ-loop : sum-lts.MeasureT-loop
+sum-μ-loop text at room count names lens tags ks ps values nones sizes left₀ sign₀ left sign = length text - left .next
+
+sum-term-requires : (t : ℕ) → sum-lts.Need-term-requires (S t) (sum-at t) sum.Post sum-Inv-loop sum-μ-loop
+sum-term-requires t c κs = search needs
+
+sum-enum-known-e : (t : ℕ) → sum-lts.Need-enum-known-e (S t) (sum-at t) sum.Post sum-Inv-loop sum-μ-loop
+sum-enum-known-e t c = search needs
+
+sum-enum-known-first : (t : ℕ) → sum-lts.Need-enum-known-first (S t) (sum-at t) sum.Post sum-Inv-loop sum-μ-loop
+sum-enum-known-first t c = search needs
+
+sum-sign-at-requires : (t : ℕ) → sum-lts.Need-sign-at-requires (S t) (sum-at t) sum.Post sum-Inv-loop sum-μ-loop
+sum-sign-at-requires t c κs = search needs
+
+sum-loop-holds : (t : ℕ) → sum-lts.Need-loop-holds (S t) (sum-at t) sum.Post sum-Inv-loop sum-μ-loop
+sum-loop-holds t c = (begins (carry (c .before .before .first .given .1) (c .before .before .before .before .term .ensures)), c .sign-at .ensures)
+
+sum-is-sum-requires : (t : ℕ) → sum-lts.Need-is-sum-requires (S t) (sum-at t) sum.Post sum-Inv-loop sum-μ-loop
+sum-is-sum-requires t c κs = search needs
+
+sum-term-requires-2 : (t : ℕ) → sum-lts.Need-term-requires-2 (S t) (sum-at t) sum.Post sum-Inv-loop sum-μ-loop
+sum-term-requires-2 t c κs = let o = operator-next (c .before .before .before .before .before .before .before .before .before .args .text .now) (c .before .before .loop .left .next) 2 (c .before .before .loop .sign) (c .before .before .loop .inv .1) (sym (c .before .is-sum .ensures) ∙ c .if1 .taken) in omega (arith, o .past, o .inside, c .before .before .loop .inv .0 .placed .past)
+
+sum-enum-known-e-2 : (t : ℕ) → sum-lts.Need-enum-known-e-2 (S t) (sum-at t) sum.Post sum-Inv-loop sum-μ-loop
+sum-enum-known-e-2 t c = search needs
+
+sum-returns : (t : ℕ) → sum-lts.Need-returns (S t) (sum-at t) sum.Post sum-Inv-loop sum-μ-loop
+sum-returns t c = goes-refused (c .before .before .before .before .before .before .loop .sign) (c .before .before .before .before .before .before .loop .inv .1) (sym (c .before .before .before .before .before .is-sum .ensures) ∙ c .before .before .before .before .if1 .taken) (c .before .before .before .before .before .before .loop .inv .0) (carry (c .before .e2 .given .1) (c .before .before .before .term2 .ensures))
+
+sum-enum-known-right : (t : ℕ) → sum-lts.Need-enum-known-right (S t) (sum-at t) sum.Post sum-Inv-loop sum-μ-loop
+sum-enum-known-right t c = search needs
+
+sum-join-requires : (t : ℕ) → sum-lts.Need-join-requires (S t) (sum-at t) sum.Post sum-Inv-loop sum-μ-loop
+sum-join-requires t c κs = (small (c .before .before .before .before .before .before .before .before .before .before .before .before .before .pre .1 .short) (c .before .before .before .before .before .before .loop .inv .0 .placed), small (c .before .before .before .before .before .before .before .before .before .before .before .before .before .pre .1 .short) (carry (c .before .right .given .1) (c .before .before .before .term2 .ensures) .fine))
+
+sum-sign-at-requires-2 : (t : ℕ) → sum-lts.Need-sign-at-requires-2 (S t) (sum-at t) sum.Post sum-Inv-loop sum-μ-loop
+sum-sign-at-requires-2 t c κs = search needs
+
+sum-loop-less : (t : ℕ) → sum-lts.Need-loop-less (S t) (sum-at t) sum.Post sum-Inv-loop sum-μ-loop
+sum-loop-less t c = let o = operator-next (c .before .before .before .before .before .before .before .before .before .before .before .before .before .before .before .args .text .now) (c .before .before .before .before .before .before .before .before .loop .left .next) 2 (c .before .before .before .before .before .before .before .before .loop .sign) (c .before .before .before .before .before .before .before .before .loop .inv .1) (sym (c .before .before .before .before .before .before .before .is-sum .ensures) ∙ c .before .before .before .before .before .before .if1 .taken) in let n = carry (c .before .before .before .right .given .1) (c .before .before .before .before .before .term2 .ensures) .fine in omega (arith, c .before .join .ensures .next, n .past, n .within, o .past)
+
+sum-loop-again : (t : ℕ) → sum-lts.Need-loop-again (S t) (sum-at t) sum.Post sum-Inv-loop sum-μ-loop
+sum-loop-again t c = (goes-on (c .before .before .before .before .before .before .before .before .loop .sign) (c .before .before .before .before .before .before .before .before .loop .inv .1) (sym (c .before .before .before .before .before .before .before .is-sum .ensures) ∙ c .before .before .before .before .before .before .if1 .taken) (c .before .before .before .before .before .before .before .before .loop .inv .0) (carry (c .before .before .before .right .given .1) (c .before .before .before .before .before .term2 .ensures)) (c .before .join .ensures), c .sign-at2 .ensures)
+
+sum-returns-2 : (t : ℕ) → sum-lts.Need-returns-2 (S t) (sum-at t) sum.Post sum-Inv-loop sum-μ-loop
+sum-returns-2 t c = begins-refused (carry (c .before .e .given .1) (c .before .before .before .term .ensures))
+
+sum-returns-3 : (t : ℕ) → sum-lts.Need-returns-3 (S t) (sum-at t) sum.Post sum-Inv-loop sum-μ-loop
+sum-returns-3 t c = finishes (c .before .before .loop .sign) (c .before .before .loop .inv .1) (sym (c .before .is-sum .ensures) ∙ c .if1 .left) (c .before .before .loop .inv .0)
+
 abbrev term-Inv-loop : term-lts.InvT-loop
 term-Inv-loop text at room count names lens tags ks ps values nones sizes left₀ sign₀ left sign = Going text at (columnsOf count names lens tags ks ps values nones sizes) 0 room left × (sign ≡ signAt text (left .next))
 
@@ -249,19 +319,19 @@ term-returns-2 t c = begins-refused (carry (c .before .e .given .1) (c .before .
 term-returns-3 : (t : ℕ) → term-lts.Need-returns-3 (T t) (term-at t) term.Post term-Inv-loop term-μ-loop
 term-returns-3 t c = finishes (c .before .before .loop .sign) (c .before .before .loop .inv .1) (sym (c .before .is-product .ensures) ∙ c .if1 .left) (c .before .before .loop .inv .0)
 
-pub +expression+factor+term-spec : {M : Type 1} → statement M
-+expression+factor+term-spec = close μ-expression μ-factor μ-term (λ t. expression-lts.spec (E t)
+pub +expression+factor+sum+term-spec : {M : Type 1} → statement M
++expression+factor+sum+term-spec = close μ-expression μ-factor μ-sum μ-term (λ t. expression-lts.spec (E t)
     (expression-at t)
     expression.Post
     expression-Inv-loop
     expression-μ-loop
-    (expression-term-requires t)
+    (expression-sum-requires t)
     (expression-enum-known-e t)
     (expression-enum-known-first t)
     (expression-sign-at-requires t)
     (expression-loop-holds t)
-    (expression-is-sum-requires t)
-    (expression-term-requires-2 t)
+    (expression-is-comparison-requires t)
+    (expression-sum-requires-2 t)
     (expression-enum-known-e-2 t)
     (expression-returns t)
     (expression-enum-known-right t)
@@ -291,6 +361,27 @@ pub +expression+factor+term-spec : {M : Type 1} → statement M
     (factor-returns-5 t)
     (factor-name-requires t)
     (factor-returns-6 t))
+    (λ t. sum-lts.spec (S t)
+    (sum-at t)
+    sum.Post
+    sum-Inv-loop
+    sum-μ-loop
+    (sum-term-requires t)
+    (sum-enum-known-e t)
+    (sum-enum-known-first t)
+    (sum-sign-at-requires t)
+    (sum-loop-holds t)
+    (sum-is-sum-requires t)
+    (sum-term-requires-2 t)
+    (sum-enum-known-e-2 t)
+    (sum-returns t)
+    (sum-enum-known-right t)
+    (sum-join-requires t)
+    (sum-sign-at-requires-2 t)
+    (sum-loop-less t)
+    (sum-loop-again t)
+    (sum-returns-2 t)
+    (sum-returns-3 t))
     λ t. term-lts.spec (T t)
     (term-at t)
     term.Post

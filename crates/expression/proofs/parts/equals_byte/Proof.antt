@@ -1,0 +1,29 @@
+-- `expression::parts::equals_byte` meets its contract: a token that starts with `=` is a sign where it is `==`.
+use mathlib.Core.Path.{_∙_}
+use native.Mathlib.Omega.{arith}
+use Rattle.expression.proofs.Signs.{inside, symbol-pair, symbol-no-pair}
+use borrow.Author.Needs.{needs}
+use Rattle.expression.proofs.parts.equals_byte.Statement.{statement}
+use Rattle.expression.proofs.parts.equals_byte.Tie as tie
+
+add-pick : tie.Need-add-pick
+add-pick c = search needs
+
+shared-slice-read-pick : tie.Need-shared-slice-read-pick
+shared-slice-read-pick c = omega (arith, c .before .before .before .pre .0, c .before .if1 .taken)
+
+pick-requires : tie.Need-pick-requires
+pick-requires c κs = search needs
+
+returns : tie.Need-returns
+returns c =
+    let a = c .before .before .before .before .args in
+    let p = c .before .before .before .before .pre in
+    c .pick .ensures ∙ symbol-pair (a .text .now) (a .start) (omega (arith, p .0, c .before .before .if1 .taken)) (p .1) (c .before .before .if1 .taken) (omega (arith, p .0, c .before .before .if1 .taken))
+
+returns-2 : tie.Need-returns-2
+returns-2 c = let a = c .before .before .args in symbol-no-pair (a .text .now) (a .start) (inside (a .text .now) (a .start) (c .before .before .pre .1)) (c .before .before .pre .1) (a .len) (c .before .before .pre .0) (c .if1 .left)
+
+pub equals-byte-spec : {M : Type 1} → statement M
+equals-byte-spec =
+    tie.close (tie.spec add-pick shared-slice-read-pick pick-requires returns returns-2)
