@@ -15,6 +15,9 @@ use Rattle.token.proofs.LastEnd.{last-end}
 use Rattle.figures.specs.declared.Figures.{Figures}
 use Rattle.expression.specs.declared.ExprError.{ExprError}
 use Rattle.expression.specs.declared.ExprError.the-variants.{InvalidCharacter, UnconsumedTokens}
+use Rattle.expression.specs.declared.Operand.{Operand}
+use Rattle.expression.specs.declared.OperandResult.{OperandResult}
+use Rattle.expression.specs.declared.OperandResult.the-variants as OperandResult
 use Rattle.expression.specs.declared.ParseResult.{ParseResult}
 use Rattle.expression.specs.declared.ParseResult.the-variants.{Done, Refused}
 use Rattle.grammar.specs.Tree.{Tree}
@@ -70,13 +73,13 @@ module _ (s : List ℕ) (at : ℕ) (c : Columns) (n : ℕ) (few-is : n ≡ atMos
   holds : (env : Env) → RowsFor s c (atMost256 (c .count)) env → TableFor s (recount n c) env
   holds env h = record { room = omega arith; told = told-recount s c n n env (rw few-is h) }
 
-  pub refused-answers : {e : ExprError} → ParsesAs s at (recount n c) expression depth (Refused e) → Answers s at c (Refused e)
+  pub refused-answers : {e : ExprError} → ParsesAs s at (recount n c) expression depth (OperandResult.Refused e) → Answers s at c (Refused e)
   refused-answers {e} m = means s at c _ tt (λ env h.
       let x = m .means env (holds env h) in
       (refused (exprErrorNumbered e), (meaning-whole env (drop at s) a ∙ ap (λ (p : Parse). andThen p allRead) (x .same (enough expression (tokens (drop at s))) (omega arith)), (refl, tt))))
 
-  pub done-answers : {v : Figures} (ts : List (List ℕ)) → tokens (drop (v .next) s) ≡ ts → ParsesAs s at (recount n c) expression depth (Done v) → Answers s at c (wholeRead ts v)
-  done-answers {v} [] q m = means s at c _ (read-ends (m .fine) q) (λ env h.
+  pub done-answers : {o : Operand} (ts : List (List ℕ)) → tokens (drop (o .figures .next) s) ≡ ts → ParsesAs s at (recount n c) expression depth (OperandResult.Done o) → Answers s at c (wholeRead ts (o .figures))
+  done-answers [] q m = means s at c _ (read-ends (m .fine .0) q) (λ env h.
       let x = m .means env (holds env h) in
       let f = x .1 .1 in (
         is (x .0),
@@ -85,7 +88,7 @@ module _ (s : List ℕ) (at : ℕ) (c : Columns) (n : ℕ) (few-is : n ≡ atMos
           (figures-said f, f .short),
         ),
       ))
-  done-answers {v} (w ∷ ts) q m = means s at c _ tt (λ env h.
+  done-answers (w ∷ ts) q m = means s at c _ tt (λ env h.
       let x = m .means env (holds env h) in
       (refused (plain 19), (meaning-whole env (drop at s) a ∙ ap (λ (p : Parse). andThen p allRead) (x .1 .0 .same (enough expression (tokens (drop at s))) (omega arith) ∙ ap (λ (ts : List (List ℕ)). is (x .0, ts)) q), (refl, tt))))
 

@@ -7,6 +7,8 @@ ghost use Rattle.expression.specs.Answer.{exprErrorNumbered};
 ghost use Rattle.expression.specs.Code.Answers.{Answers};
 ghost use Rattle.bindings.specs.Code.Table.{columnsOf, columns};
 ghost use Rattle.expression.specs.Code.Cycle.{CanParse, ParsesAs};
+ghost use Rattle.expression.specs.Code.Parts.{followedBy, nothingYet, JoinedTo};
+ghost use Rattle.figures.specs.Code.Figures.{SumsFit};
 
 mod operands;
 pub mod parts;
@@ -15,6 +17,7 @@ use base::min;
 use bindings::Bindings;
 use bindings::Values;
 use figures::Figures;
+use figures::TreeValue;
 use figures::joining::join;
 use numbered::Numbered;
 use numbered::plain;
@@ -22,6 +25,7 @@ use operands::close;
 use operands::literal;
 use operands::name;
 use operands::whole;
+use parts::Sign;
 use parts::is_comparison;
 use parts::is_product;
 use parts::is_sum;
@@ -62,6 +66,17 @@ pub enum ParseResult {
     Refused(ExprError),
 }
 
+// An operand that is read, and the sign behind it.
+pub struct Operand {
+    pub figures: Figures,
+    pub sign: Sign,
+}
+
+pub enum OperandResult {
+    Done(Operand),
+    Refused(ExprError),
+}
+
 // So many parentheses may be open at once.
 pub const DEPTH: usize = 64;
 
@@ -91,8 +106,11 @@ pub fn parse(text: &[u8], at: usize, table: Bindings, values: Values) -> ParseRe
         &values.none,
         &values.len,
     ) {
-        ParseResult::Refused(e) => ParseResult::Refused(e),
-        ParseResult::Done(read) => whole(text, read),
+        OperandResult::Refused(e) => ParseResult::Refused(e),
+        OperandResult::Done(read) => {
+            let figures = read.figures;
+            whole(text, figures)
+        }
     }
 }
 
@@ -110,54 +128,36 @@ fn expression<'a>(
     values: &'a [u64; 256],
     nones: &'a [bool; 256],
     sizes: &'a [u32; 256],
-) -> ParseResult
+) -> OperandResult
     requires { ⌜ CanParse (now text) count ⌝ }
     ensures { λ r. ⌜ ParsesAs (now (text .entry)) at (columnsOf count (now (names .entry)) (now (lens .entry)) (now (tags .entry))
         (now (ks .entry)) (now (ps .entry)) (now (values .entry)) (now (nones .entry)) (now (sizes .entry))) expression room r ⌝ }
 {
-    match sum(
-        text,
-        at,
-        room,
-        count,
-        names,
-        lens,
-        tags,
-        ks,
-        ps,
-        values,
-        nones,
-        sizes,
-    ) {
-        ParseResult::Refused(e) => ParseResult::Refused(e),
-        ParseResult::Done(first) => {
-            let mut left = first;
-            let mut sign = sign_at(text, left.next);
-            while is_comparison(sign.byte) {
-                match sum(
-                    text,
-                    sign.end,
-                    room,
-                    count,
-                    names,
-                    lens,
-                    tags,
-                    ks,
-                    ps,
-                    values,
-                    nones,
-                    sizes,
-                ) {
-                    ParseResult::Refused(e) => {
-                        return ParseResult::Refused(e);
-                    }
-                    ParseResult::Done(right) => {
-                        left = join(sign.byte, left, right);
-                        sign = sign_at(text, left.next);
-                    }
+    let mut left = nothing_yet(at);
+    loop {
+        match sum(
+            text,
+            left.sign.end,
+            room,
+            count,
+            names,
+            lens,
+            tags,
+            ks,
+            ps,
+            values,
+            nones,
+            sizes,
+        ) {
+            OperandResult::Refused(e) => {
+                return OperandResult::Refused(e);
+            }
+            OperandResult::Done(right) => {
+                left = joined(left, right);
+                if !is_comparison(left.sign.byte) {
+                    return OperandResult::Done(left);
                 }
             }
-            ParseResult::Done(left)
         }
     }
 }
@@ -176,54 +176,36 @@ fn sum<'a>(
     values: &'a [u64; 256],
     nones: &'a [bool; 256],
     sizes: &'a [u32; 256],
-) -> ParseResult
+) -> OperandResult
     requires { ⌜ CanParse (now text) count ⌝ }
     ensures { λ r. ⌜ ParsesAs (now (text .entry)) at (columnsOf count (now (names .entry)) (now (lens .entry)) (now (tags .entry))
         (now (ks .entry)) (now (ps .entry)) (now (values .entry)) (now (nones .entry)) (now (sizes .entry))) sum room r ⌝ }
 {
-    match term(
-        text,
-        at,
-        room,
-        count,
-        names,
-        lens,
-        tags,
-        ks,
-        ps,
-        values,
-        nones,
-        sizes,
-    ) {
-        ParseResult::Refused(e) => ParseResult::Refused(e),
-        ParseResult::Done(first) => {
-            let mut left = first;
-            let mut sign = sign_at(text, left.next);
-            while is_sum(sign.byte) {
-                match term(
-                    text,
-                    sign.end,
-                    room,
-                    count,
-                    names,
-                    lens,
-                    tags,
-                    ks,
-                    ps,
-                    values,
-                    nones,
-                    sizes,
-                ) {
-                    ParseResult::Refused(e) => {
-                        return ParseResult::Refused(e);
-                    }
-                    ParseResult::Done(right) => {
-                        left = join(sign.byte, left, right);
-                        sign = sign_at(text, left.next);
-                    }
+    let mut left = nothing_yet(at);
+    loop {
+        match term(
+            text,
+            left.sign.end,
+            room,
+            count,
+            names,
+            lens,
+            tags,
+            ks,
+            ps,
+            values,
+            nones,
+            sizes,
+        ) {
+            OperandResult::Refused(e) => {
+                return OperandResult::Refused(e);
+            }
+            OperandResult::Done(right) => {
+                left = joined(left, right);
+                if !is_sum(left.sign.byte) {
+                    return OperandResult::Done(left);
                 }
             }
-            ParseResult::Done(left)
         }
     }
 }
@@ -242,54 +224,36 @@ fn term<'a>(
     values: &'a [u64; 256],
     nones: &'a [bool; 256],
     sizes: &'a [u32; 256],
-) -> ParseResult
+) -> OperandResult
     requires { ⌜ CanParse (now text) count ⌝ }
     ensures { λ r. ⌜ ParsesAs (now (text .entry)) at (columnsOf count (now (names .entry)) (now (lens .entry)) (now (tags .entry))
         (now (ks .entry)) (now (ps .entry)) (now (values .entry)) (now (nones .entry)) (now (sizes .entry))) term room r ⌝ }
 {
-    match factor(
-        text,
-        at,
-        room,
-        count,
-        names,
-        lens,
-        tags,
-        ks,
-        ps,
-        values,
-        nones,
-        sizes,
-    ) {
-        ParseResult::Refused(e) => ParseResult::Refused(e),
-        ParseResult::Done(first) => {
-            let mut left = first;
-            let mut sign = sign_at(text, left.next);
-            while is_product(sign.byte) {
-                match factor(
-                    text,
-                    sign.end,
-                    room,
-                    count,
-                    names,
-                    lens,
-                    tags,
-                    ks,
-                    ps,
-                    values,
-                    nones,
-                    sizes,
-                ) {
-                    ParseResult::Refused(e) => {
-                        return ParseResult::Refused(e);
-                    }
-                    ParseResult::Done(right) => {
-                        left = join(sign.byte, left, right);
-                        sign = sign_at(text, left.next);
-                    }
+    let mut left = nothing_yet(at);
+    loop {
+        match factor(
+            text,
+            left.sign.end,
+            room,
+            count,
+            names,
+            lens,
+            tags,
+            ks,
+            ps,
+            values,
+            nones,
+            sizes,
+        ) {
+            OperandResult::Refused(e) => {
+                return OperandResult::Refused(e);
+            }
+            OperandResult::Done(right) => {
+                left = joined(left, right);
+                if !is_product(left.sign.byte) {
+                    return OperandResult::Done(left);
                 }
             }
-            ParseResult::Done(left)
         }
     }
 }
@@ -308,7 +272,7 @@ fn factor<'a>(
     values: &'a [u64; 256],
     nones: &'a [bool; 256],
     sizes: &'a [u32; 256],
-) -> ParseResult
+) -> OperandResult
     requires { ⌜ CanParse (now text) count ⌝ }
     ensures { λ r. ⌜ ParsesAs (now (text .entry)) at (columnsOf count (now (names .entry)) (now (lens .entry)) (now (tags .entry))
         (now (ks .entry)) (now (ps .entry)) (now (values .entry)) (now (nones .entry)) (now (sizes .entry))) factor room r ⌝ }
@@ -317,11 +281,11 @@ fn factor<'a>(
     let start = token.start;
     let end = token.end;
     if start == end {
-        return ParseResult::Refused(ExprError::UnexpectedEnd);
+        return OperandResult::Refused(ExprError::UnexpectedEnd);
     }
     if symbol_byte(text, start, end) == b'(' {
         if room == 0 {
-            return ParseResult::Refused(ExprError::TooDeep);
+            return OperandResult::Refused(ExprError::TooDeep);
         }
         return match expression(
             text,
@@ -337,14 +301,17 @@ fn factor<'a>(
             nones,
             sizes,
         ) {
-            ParseResult::Refused(e) => ParseResult::Refused(e),
-            ParseResult::Done(inner) => close(text, inner),
+            OperandResult::Refused(e) => OperandResult::Refused(e),
+            OperandResult::Done(inner) => {
+                let figures = inner.figures;
+                followed(text, close(text, figures))
+            }
         };
     }
     if is_digit(text[start]) {
-        return literal(text, start);
+        return followed(text, literal(text, start));
     }
-    name(
+    let read = name(
         text,
         start,
         end,
@@ -357,5 +324,53 @@ fn factor<'a>(
         values,
         nones,
         sizes,
-    )
+    );
+    followed(text, read)
+}
+
+// Before the first operand: no sign stands before it.
+fn nothing_yet(at: usize) -> Operand
+    ensures { λ r. ⌜ r ≡ nothingYet at ⌝ }
+{
+    Operand {
+        figures: Figures {
+            next: at,
+            k: 0,
+            p: 0,
+            len: 0,
+            value: TreeValue::None,
+        },
+        sign: Sign { byte: 0, end: at },
+    }
+}
+
+// The right operand alone where no sign stands before it, else two operands joined by the sign between them. The figures of what is
+// read from at most 65,536 bytes are small.
+fn joined(left: Operand, right: Operand) -> Operand
+    requires { ⌜ SumsFit (left .figures) × SumsFit (right .figures) ⌝ }
+    ensures { λ r. ⌜ JoinedTo left right r ⌝ }
+{
+    if left.sign.byte == 0 {
+        return right;
+    }
+    let a = left.figures;
+    let b = right.figures;
+    let sign = right.sign;
+    Operand {
+        figures: join(left.sign.byte, a, b),
+        sign,
+    }
+}
+
+// A factor with the sign behind it.
+fn followed(text: &[u8], read: ParseResult) -> OperandResult
+    ensures { λ r. ⌜ r ≡ followedBy (now (text .entry)) read ⌝ }
+{
+    match read {
+        ParseResult::Refused(e) => OperandResult::Refused(e),
+        ParseResult::Done(figures) => OperandResult::Done(Operand {
+            figures,
+            sign: sign_at(text, figures.next),
+        }),
+    }
 }

@@ -7,7 +7,7 @@ use lib.ListN.{replicate}
 use Rattle.numbered.specs.Numbered.{plain}
 use Rattle.base.specs.Outcome.{is, refused}
 use Rattle.decimal.specs.Decimal.{decimal}
-use Rattle.word.specs.Apply.{add, sub, mul, div, eq, lt}
+use Rattle.word.specs.Apply.{add, sub, mul, eq, lt}
 use Rattle.base.specs.Ascii.{ascii}
 use Rattle.token.specs.Token.{scan}
 use Rattle.grammar.specs.Tree.{Tree, num, bin}

@@ -13,7 +13,7 @@ use Rattle.numbered.specs.declared.Numbered.{Numbered}
 use Rattle.numbered.specs.Numbered.{plain}
 use Rattle.base.specs.Outcome.{Outcome, is, refused, andThen}
 use Rattle.base.specs.Lists.{all}
-use Rattle.base.proofs.Tests.{false-true, by-bool, by-or, between, and-left}
+use Rattle.base.proofs.Tests.{false-true, by-bool, by-or}
 use Rattle.base.proofs.Outcome.{not-is, is-same, then-is}
 use Rattle.word.specs.Apply.{Binary, add, sub, mul, div, eq, lt}
 use Rattle.decimal.specs.Decimal.{digit, value}

@@ -1,5 +1,5 @@
-// Replays answers of the original, and document 01's own where the original can't be asked. A case is a line of standard input:
-// who answers (`o` the original, `d` document 01), the call's letter, and the call's arguments, with a space between them. A text
+// Replays answers of the original, and document 01's and 02's own where the original can't be asked. A case is a line of standard input:
+// who answers (`o` the original, `d` document 01 or 02), the call's letter, and the call's arguments, with a space between them. A text
 // is in hexadecimal; eight texts have the byte FF between them. A list of numbers has a comma between them, and `n*v` is n times v.
 // `-` is an empty text or list. What the call gives is written on a line of its own: document 01's number and the values carried,
 // up to the last that isn't 0; then, each behind a bar, what is left in the buffers, in the same forms.

@@ -2,9 +2,9 @@
 use Prim.Native.Nat.{ℕ, _+_, _<_, _≤_}
 use mathlib.Core.Path.{_≡_, refl, sym, ap, _∙_}
 use mathlib.Core.List.{List, [], _∷_, _++_}
-use mathlib.Core.Bool.{Bool, true, false, _&&_, _||_}
+use mathlib.Core.Bool.{Bool, true, false, _&&_}
 use native.Mathlib.Omega.{arith}
-use borrow.Author.Tests.{eqb-true, eq-eqb}
+use borrow.Author.Tests.{eqb-true}
 use lib.Dec.{eqb}
 use lib.ListN.{length, getD, drop, drop-of-length-le, List·getD-eq-default}
 use Rattle.base.specs.Lists.{all}
@@ -47,13 +47,12 @@ module _ (s : List ℕ) (i : ℕ) (h : i < length s) where
   pub pair-more : (eqb (getD s i 0) 61 && eqb (getD s (i + 1) 0) 61) ≡ true → (i + 1 < length s) × (allowed (drop i s) ≡ allowed (drop (i + 2) s))
   pair-more e =
       let f = and-right (eqb (getD s i 0) 61) (eqb (getD s (i + 1) 0) 61) e in
-      let g = inside s (i + 1) f in
-      (
+      let g = inside s (i + 1) f in (
         g,
         here
-        ∙ allowed-equals (getD s i 0) (drop (i + 1) s) (and-left (eqb (getD s i 0) 61) (eqb (getD s (i + 1) 0) 61) e)
-        ∙ ap paired (drop-cons-at s (i + 1) (i + 2) g (omega arith))
-        ∙ ap (λ (b : Bool). b && allowed (drop (i + 2) s)) f,
+            ∙ allowed-equals (getD s i 0) (drop (i + 1) s) (and-left (eqb (getD s i 0) 61) (eqb (getD s (i + 1) 0) 61) e)
+            ∙ ap paired (drop-cons-at s (i + 1) (i + 2) g (omega arith))
+            ∙ ap (λ (b : Bool). b && allowed (drop (i + 2) s)) f,
       )
 
   unpaired : eqb (getD s (i + 1) 0) 61 ≡ false → paired (drop (i + 1) s) ≡ false

@@ -6,10 +6,10 @@ use native.Mathlib.Omega.{arith}
 use borrow.Author.Tests.{eqb-true}
 use lib.Dec.{eqb}
 use Rattle.base.specs.Range.{within}
-use Rattle.base.proofs.Tests.{by-bool, by-or, and-right, between}
+use Rattle.base.proofs.Tests.{by-bool, by-or, and-right, or-by-left, or-by-right, between}
 use Rattle.decimal.specs.Decimal.{digit}
 use Rattle.token.specs.Token.{space, nameStart, namePart, sign}
-use Rattle.token.specs.Code.Bytes.{goesOn}
+use Rattle.token.specs.Code.Bytes.{allowedByte, goesOn}
 
 -- bytes that part tokens come first, then most signs, digits, `<`, letters
 pub space-bound : (a : ℕ) → space a ≡ true → a ≤ 32
@@ -54,3 +54,10 @@ goesOn-end a = simp and-false
 
 pub goesOn-equals : (a : ℕ) → goesOn a 61 ≡ false
 goesOn-equals a = simp and-false
+
+-- bytes of names and digits are in a token whatever stands beside them
+pub part-allowed : (a : ℕ) → namePart a ≡ true → allowedByte a ≡ true
+part-allowed a e = or-by-left (space a || namePart a) (sign a) (or-by-right (space a) (namePart a) e)
+
+pub digit-allowed : (a : ℕ) → digit a ≡ true → allowedByte a ≡ true
+digit-allowed a e = part-allowed a (or-by-right (nameStart a) (digit a) e)

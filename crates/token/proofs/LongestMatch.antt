@@ -16,7 +16,7 @@ use Rattle.decimal.specs.Decimal.{digit}
 use Rattle.token.specs.Token.{space, nameStart, namePart, sign, allowed, paired, extends, scan, tokens}
 use Rattle.token.specs.Code.Bytes.{allowedByte, goesOn}
 use Rattle.token.specs.Tokens.{IsToken, digits, name, single, equals, Longest, Tokens, none, parted, token}
-use Rattle.token.proofs.Classes.{space-bound, sign-bounds, start-bound, not-so, goesOn-equals}
+use Rattle.token.proofs.Classes.{space-bound, sign-bounds, start-bound, not-so, goesOn-equals, part-allowed, digit-allowed}
 use Rattle.token.proofs.Allowed.{no-equals, allowed-other, allowed-equals, allowed-byte, allowed-bytes}
 use Rattle.token.proofs.Tokens.{tokens-space, tokens-start, scan-more, scan-ended, extends-run, scan-run, scan-pair, goes-on-digits}
 
@@ -34,12 +34,6 @@ sign-goes a b e =
     let n = not-so (nameStart a) (λ q. let z = start-bound a q in omega arith) in
     simp (d, n))
     (λ x. rw x refl)
-
-part-allowed : (a : ℕ) → namePart a ≡ true → allowedByte a ≡ true
-part-allowed a e = or-by-left (space a || namePart a) (sign a) (or-by-right (space a) (namePart a) e)
-
-digit-allowed : (a : ℕ) → digit a ≡ true → allowedByte a ≡ true
-digit-allowed a e = part-allowed a (or-by-right (nameStart a) (digit a) e)
 
 -- what is known of a token by its first byte
 token-allowed : {w : List ℕ} → IsToken w → (s : List ℕ) → allowed (w ++ s) ≡ allowed s

@@ -9,15 +9,16 @@ use lib.Dec.{eqb}
 use lib.ListN.{length, getD, take, drop, length-drop, drop-of-length-le, List·getD-eq-default}
 use lib.Seq.{drop-drop, getD-drop, append-snoc, length-take-le}
 use Rattle.base.specs.Lists.{takeWhile}
-use Rattle.base.proofs.Tests.{false-true, by-bool, by-leb, by-eqb, below, between}
+use Rattle.base.proofs.Tests.{false-true, by-bool, by-leb, by-eqb, or-left, or-right, below, between}
 use Rattle.base.proofs.Parts.{drop-cons-at}
 use Rattle.base.proofs.Lists.{takeWhile-same, length-takeWhile, take-takeWhile, takeWhile-last, takeWhile-stops}
 use Rattle.decimal.specs.Decimal.{digit}
 use Rattle.token.specs.declared.Token.{Token}
-use Rattle.token.specs.Token.{space, nameStart, extends, scan, tokens}
+use Rattle.token.specs.Token.{space, nameStart, namePart, extends, scan, tokens}
 use Rattle.token.specs.Code.Bytes.{goesOn, second, rest}
 use Rattle.token.specs.Code.Places.{first, startAt, tokenAt}
-use Rattle.token.proofs.Classes.{goes-no-space}
+use Rattle.token.proofs.Classes.{goes-no-space, part-allowed, digit-allowed}
+use Rattle.token.proofs.Allowed.{no-equals}
 
 pub tokens-space : (a : ℕ) (s : List ℕ) → space a ≡ true → tokens (a ∷ s) ≡ tokens s
 unfolding scan
@@ -68,6 +69,17 @@ scan-token a s =
     by-eqb a 61
     (λ e. rw e (scan-equals s))
     (λ e. let n = ne-eqb a 61 e in simp n (scan-run a n [] s))
+
+-- the rest of a token, by its first byte
+pub rest-run : (a : ℕ) (s : List ℕ) → namePart a ≡ true → rest a s ≡ takeWhile (goesOn a) s
+rest-run a s e = let n = no-equals a (part-allowed a e) in simp n
+
+pub rest-none : (a : ℕ) (s : List ℕ) → namePart a ≡ false → eqb a 61 ≡ false → rest a s ≡ []
+rest-none a s e n = simp n (none s)
+  where
+    none : (t : List ℕ) → takeWhile (goesOn a) t ≡ []
+    none [] = refl
+    none (b ∷ t) = let d = or-right (nameStart a) (digit a) e in let m = or-left (nameStart a) (digit a) e in simp (d, m)
 
 -- what a token has behind its first byte stands in the text, and ends with no space
 rest-laws : (a : ℕ) (s : List ℕ) → (length (rest a s) ≤ length s) × (take (length (rest a s)) s ≡ rest a s)
@@ -209,11 +221,8 @@ module _ (a : ℕ) (e : digit a ≡ true) where
   no-name : nameStart a ≡ false
   no-name = let b = between 48 57 a e in simp (below 65 90 a (omega arith), below 97 122 a (omega arith), ne-eqb a 95 (λ q. omega arith))
 
-  no-equals : eqb a 61 ≡ false
-  no-equals = let b = between 48 57 a e in ne-eqb a 61 (λ q. omega arith)
-
   pub goes-on-digits : (b : ℕ) → goesOn a b ≡ digit b
   goes-on-digits b = simp (e, no-name, or-false)
 
   pub digit-token : (s : List ℕ) → a ∷ rest a s ≡ takeWhile digit (a ∷ s)
-  digit-token s = simp (e, no-equals) (ap (λ (w : List ℕ). a ∷ w) (takeWhile-same (goesOn a) digit goes-on-digits s))
+  digit-token s = let n = no-equals a (digit-allowed a e) in simp (e, n) (ap (λ (w : List ℕ). a ∷ w) (takeWhile-same (goesOn a) digit goes-on-digits s))

@@ -70,10 +70,13 @@ fn token_end(text: &[u8], start: usize) -> usize
     ensures { λ r. ⌜ r ≡ start + 1 + length (rest (getD (now (text .entry)) start 0) (drop (start + 1) (now (text .entry)))) ⌝ }
 {
     let first = text[start];
+    if is_name_part(first) {
+        return run_end(first, text, start + 1);
+    }
     if first == b'=' {
         return second_end(text, start + 1);
     }
-    run_end(first, text, start + 1)
+    start + 1
 }
 
 // Where the digits or the name that a byte starts end.

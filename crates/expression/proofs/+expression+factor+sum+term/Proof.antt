@@ -5,11 +5,12 @@ use native.Mathlib.Omega.{arith}
 use lib.ListN.{length}
 use Rattle.grammar.specs.Parse.{symbol}
 use Rattle.bindings.specs.Code.Table.{columnsOf}
-use Rattle.expression.specs.Code.Parts.{signAt, AllFit}
+use Rattle.expression.specs.Code.Parts.{followedBy, AllFit}
 use Rattle.token.proofs.Tokens.{Next, tokenFrom}
 use Rattle.expression.proofs.Signs.{none-of, next-of}
-use Rattle.expression.proofs.Reading.{carry, small, operator-next, Going, begins, begins-refused, finishes, goes-on, goes-refused}
+use Rattle.expression.proofs.Reading.{carry, small, finishes, Chain, starting, behind, chain-past, chain-fits, chain-refused, chain-joined, chain-falls}
 use Rattle.expression.proofs.Factors.{none-meets, deep-meets, inner-refused, inner-closed, literal-meets, name-meets}
+use borrow.Author.Tests.{not-true, not-false}
 use borrow.Author.Needs.{needs}
 use borrow.Fn.Kinds.{In}
 use borrow.Fn.PlainCycle.{Measures, is, falls, and}
@@ -26,14 +27,15 @@ use Rattle.expression.proofs.term.Reads as term
 use Rattle.expression.proofs.term.Kinds as term-kinds
 use Rattle.expression.proofs.+expression+factor+sum+term.Lts-term as term-lts
 use Rattle.expression.proofs.operands.close.Reads as close-reads
-use Rattle.figures.proofs.joining.join.Reads as join-reads
+use Rattle.expression.proofs.joined.Reads as joined-reads
+use Rattle.expression.proofs.nothing_yet.Reads as nothing-yet-reads
+use Rattle.expression.proofs.followed.Reads as followed-reads
 use Rattle.expression.proofs.parts.is_comparison.Reads as is-comparison-reads
 use Rattle.expression.proofs.parts.is_product.Reads as is-product-reads
 use Rattle.expression.proofs.parts.is_sum.Reads as is-sum-reads
 use Rattle.expression.proofs.operands.literal.Reads as literal-reads
 use Rattle.expression.proofs.parts.symbol_byte.Reads as symbol-byte-reads
 use Rattle.expression.proofs.operands.name.Reads as name-reads
-use Rattle.expression.proofs.parts.sign_at.Reads as sign-at-reads
 use Rattle.token.proofs.is_digit.Reads as is-digit-reads
 use Rattle.token.proofs.token_at.Reads as token-at-reads
 use Rattle.expression.proofs.+expression+factor+sum+term.{statement}
@@ -78,70 +80,55 @@ abbrev term-below : ℕ → In 1 term-kinds.ps
 term-below t = and 1 term-kinds.ps (falls 1 term-kinds.ps _<_ μ-term t) term.Pre
 
 abbrev E : ℕ → expression-lts.Claims
-E t = (sum-below t, sum.Post, sign-at-reads.Asked, sign-at-reads.Learnt, is-comparison-reads.Asked, is-comparison-reads.Learnt, join-reads.Asked, join-reads.Learnt)
+E t = (nothing-yet-reads.Asked, nothing-yet-reads.Learnt, sum-below t, sum.Post, joined-reads.Asked, joined-reads.Learnt, is-comparison-reads.Asked, is-comparison-reads.Learnt)
 
 abbrev F : ℕ → factor-lts.Claims
-F t = (token-at-reads.Asked, token-at-reads.Learnt, symbol-byte-reads.Asked, symbol-byte-reads.Learnt, expression-below t, expression.Post, close-reads.Asked, close-reads.Learnt, is-digit-reads.Asked, is-digit-reads.Learnt, literal-reads.Asked, literal-reads.Learnt, name-reads.Asked, name-reads.Learnt)
+F t = (token-at-reads.Asked, token-at-reads.Learnt, symbol-byte-reads.Asked, symbol-byte-reads.Learnt, expression-below t, expression.Post, close-reads.Asked, close-reads.Learnt, followed-reads.Asked, followed-reads.Learnt, is-digit-reads.Asked, is-digit-reads.Learnt, literal-reads.Asked, literal-reads.Learnt, name-reads.Asked, name-reads.Learnt)
 
 abbrev S : ℕ → sum-lts.Claims
-S t = (term-below t, term.Post, sign-at-reads.Asked, sign-at-reads.Learnt, is-sum-reads.Asked, is-sum-reads.Learnt, join-reads.Asked, join-reads.Learnt)
+S t = (nothing-yet-reads.Asked, nothing-yet-reads.Learnt, term-below t, term.Post, joined-reads.Asked, joined-reads.Learnt, is-sum-reads.Asked, is-sum-reads.Learnt)
 
 abbrev T : ℕ → term-lts.Claims
-T t = (factor-below t, factor.Post, sign-at-reads.Asked, sign-at-reads.Learnt, is-product-reads.Asked, is-product-reads.Learnt, join-reads.Asked, join-reads.Learnt)
+T t = (nothing-yet-reads.Asked, nothing-yet-reads.Learnt, factor-below t, factor.Post, joined-reads.Asked, joined-reads.Learnt, is-product-reads.Asked, is-product-reads.Learnt)
 
 abbrev expression-Inv-loop : expression-lts.InvT-loop
-expression-Inv-loop text at room count names lens tags ks ps values nones sizes left₀ sign₀ left sign = Going text at (columnsOf count names lens tags ks ps values nones sizes) 2 room left × (sign ≡ signAt text (left .next))
+expression-Inv-loop text at room count names lens tags ks ps values nones sizes left₀ left = Chain text at (columnsOf count names lens tags ks ps values nones sizes) 2 room left
 
 abbrev expression-μ-loop : expression-lts.MeasureT-loop
-expression-μ-loop text at room count names lens tags ks ps values nones sizes left₀ sign₀ left sign = length text - left .next
+expression-μ-loop text at room count names lens tags ks ps values nones sizes left₀ left = length text - left .sign .end
+
+expression-nothing-yet-requires : (t : ℕ) → expression-lts.Need-nothing-yet-requires (E t) (expression-at t) expression.Post expression-Inv-loop expression-μ-loop
+expression-nothing-yet-requires t c κs = search needs
+
+expression-loop-holds : (t : ℕ) → expression-lts.Need-loop-holds (E t) (expression-at t) expression.Post expression-Inv-loop expression-μ-loop
+expression-loop-holds t c = subst (Chain _ _ _ _ _) (sym (c .nothing-yet .ensures)) starting
 
 expression-sum-requires : (t : ℕ) → expression-lts.Need-sum-requires (E t) (expression-at t) expression.Post expression-Inv-loop expression-μ-loop
-expression-sum-requires t c κs = search needs
+expression-sum-requires t c κs = omega (arith, chain-past (c .loop .inv))
 
 expression-enum-known-e : (t : ℕ) → expression-lts.Need-enum-known-e (E t) (expression-at t) expression.Post expression-Inv-loop expression-μ-loop
 expression-enum-known-e t c = search needs
 
-expression-enum-known-first : (t : ℕ) → expression-lts.Need-enum-known-first (E t) (expression-at t) expression.Post expression-Inv-loop expression-μ-loop
-expression-enum-known-first t c = search needs
-
-expression-sign-at-requires : (t : ℕ) → expression-lts.Need-sign-at-requires (E t) (expression-at t) expression.Post expression-Inv-loop expression-μ-loop
-expression-sign-at-requires t c κs = search needs
-
-expression-loop-holds : (t : ℕ) → expression-lts.Need-loop-holds (E t) (expression-at t) expression.Post expression-Inv-loop expression-μ-loop
-expression-loop-holds t c = (begins (carry (c .before .before .first .given .1) (c .before .before .before .before .sum .ensures)), c .sign-at .ensures)
-
-expression-is-comparison-requires : (t : ℕ) → expression-lts.Need-is-comparison-requires (E t) (expression-at t) expression.Post expression-Inv-loop expression-μ-loop
-expression-is-comparison-requires t c κs = search needs
-
-expression-sum-requires-2 : (t : ℕ) → expression-lts.Need-sum-requires-2 (E t) (expression-at t) expression.Post expression-Inv-loop expression-μ-loop
-expression-sum-requires-2 t c κs = let o = operator-next (c .before .before .before .before .before .before .before .before .before .args .text .now) (c .before .before .loop .left .next) 3 (c .before .before .loop .sign) (c .before .before .loop .inv .1) (sym (c .before .is-comparison .ensures) ∙ c .if1 .taken) in omega (arith, o .past, o .inside, c .before .before .loop .inv .0 .placed .past)
-
-expression-enum-known-e-2 : (t : ℕ) → expression-lts.Need-enum-known-e-2 (E t) (expression-at t) expression.Post expression-Inv-loop expression-μ-loop
-expression-enum-known-e-2 t c = search needs
-
 expression-returns : (t : ℕ) → expression-lts.Need-returns (E t) (expression-at t) expression.Post expression-Inv-loop expression-μ-loop
-expression-returns t c = goes-refused (c .before .before .before .before .before .before .loop .sign) (c .before .before .before .before .before .before .loop .inv .1) (sym (c .before .before .before .before .before .is-comparison .ensures) ∙ c .before .before .before .before .if1 .taken) (c .before .before .before .before .before .before .loop .inv .0) (carry (c .before .e2 .given .1) (c .before .before .before .sum2 .ensures))
+expression-returns t c = chain-refused (c .before .before .before .before .loop .inv) (carry (c .before .e .given .1) (c .before .before .before .sum .ensures))
 
 expression-enum-known-right : (t : ℕ) → expression-lts.Need-enum-known-right (E t) (expression-at t) expression.Post expression-Inv-loop expression-μ-loop
 expression-enum-known-right t c = search needs
 
-expression-join-requires : (t : ℕ) → expression-lts.Need-join-requires (E t) (expression-at t) expression.Post expression-Inv-loop expression-μ-loop
-expression-join-requires t c κs = (small (c .before .before .before .before .before .before .before .before .before .before .before .before .before .pre .1 .short) (c .before .before .before .before .before .before .loop .inv .0 .placed), small (c .before .before .before .before .before .before .before .before .before .before .before .before .before .pre .1 .short) (carry (c .before .right .given .1) (c .before .before .before .sum2 .ensures) .fine))
+expression-joined-requires : (t : ℕ) → expression-lts.Need-joined-requires (E t) (expression-at t) expression.Post expression-Inv-loop expression-μ-loop
+expression-joined-requires t c κs = let short = c .before .before .before .before .before .before .before .pre .1 .short in (chain-fits short (c .before .before .before .before .loop .inv), small short (carry (c .before .right .given .1) (c .before .before .before .sum .ensures) .fine .0))
 
-expression-sign-at-requires-2 : (t : ℕ) → expression-lts.Need-sign-at-requires-2 (E t) (expression-at t) expression.Post expression-Inv-loop expression-μ-loop
-expression-sign-at-requires-2 t c κs = search needs
-
-expression-loop-less : (t : ℕ) → expression-lts.Need-loop-less (E t) (expression-at t) expression.Post expression-Inv-loop expression-μ-loop
-expression-loop-less t c = let o = operator-next (c .before .before .before .before .before .before .before .before .before .before .before .before .before .before .before .args .text .now) (c .before .before .before .before .before .before .before .before .loop .left .next) 3 (c .before .before .before .before .before .before .before .before .loop .sign) (c .before .before .before .before .before .before .before .before .loop .inv .1) (sym (c .before .before .before .before .before .before .before .is-comparison .ensures) ∙ c .before .before .before .before .before .before .if1 .taken) in let n = carry (c .before .before .before .right .given .1) (c .before .before .before .before .before .sum2 .ensures) .fine in omega (arith, c .before .join .ensures .next, n .past, n .within, o .past)
-
-expression-loop-again : (t : ℕ) → expression-lts.Need-loop-again (E t) (expression-at t) expression.Post expression-Inv-loop expression-μ-loop
-expression-loop-again t c = (goes-on (c .before .before .before .before .before .before .before .before .loop .sign) (c .before .before .before .before .before .before .before .before .loop .inv .1) (sym (c .before .before .before .before .before .before .before .is-comparison .ensures) ∙ c .before .before .before .before .before .before .if1 .taken) (c .before .before .before .before .before .before .before .before .loop .inv .0) (carry (c .before .before .before .right .given .1) (c .before .before .before .before .before .sum2 .ensures)) (c .before .join .ensures), c .sign-at2 .ensures)
+expression-is-comparison-requires : (t : ℕ) → expression-lts.Need-is-comparison-requires (E t) (expression-at t) expression.Post expression-Inv-loop expression-μ-loop
+expression-is-comparison-requires t c κs = search needs
 
 expression-returns-2 : (t : ℕ) → expression-lts.Need-returns-2 (E t) (expression-at t) expression.Post expression-Inv-loop expression-μ-loop
-expression-returns-2 t c = begins-refused (carry (c .before .e .given .1) (c .before .before .before .sum .ensures))
+expression-returns-2 t c = finishes (sym (c .before .is-comparison .ensures) ∙ not-true _ (c .if1 .taken)) (chain-joined (c .before .before .before .before .before .before .before .loop .inv) (carry (c .before .before .before .before .right .given .1) (c .before .before .before .before .before .before .sum .ensures)) (c .before .before .joined .ensures))
 
-expression-returns-3 : (t : ℕ) → expression-lts.Need-returns-3 (E t) (expression-at t) expression.Post expression-Inv-loop expression-μ-loop
-expression-returns-3 t c = finishes (c .before .before .loop .sign) (c .before .before .loop .inv .1) (sym (c .before .is-comparison .ensures) ∙ c .if1 .left) (c .before .before .loop .inv .0)
+expression-loop-less : (t : ℕ) → expression-lts.Need-loop-less (E t) (expression-at t) expression.Post expression-Inv-loop expression-μ-loop
+expression-loop-less t c = chain-falls (carry (c .before .before .before .before .right .given .1) (c .before .before .before .before .before .before .sum .ensures)) (c .before .before .joined .ensures)
+
+expression-loop-again : (t : ℕ) → expression-lts.Need-loop-again (E t) (expression-at t) expression.Post expression-Inv-loop expression-μ-loop
+expression-loop-again t c = behind (chain-joined (c .before .before .before .before .before .before .before .loop .inv) (carry (c .before .before .before .before .right .given .1) (c .before .before .before .before .before .before .sum .ensures)) (c .before .before .joined .ensures)) (sym (c .before .is-comparison .ensures) ∙ not-false _ (c .if1 .left))
 
 -- the token that factor reads, and whether it is `(`
 factor-token : (t : ℕ) (c : factor-lts.Else1 (F t) (factor-at t) factor.Post) →
@@ -187,11 +174,14 @@ factor-enum-known-inner t c = search needs
 factor-close-requires : (t : ℕ) → factor-lts.Need-close-requires (F t) (factor-at t) factor.Post
 factor-close-requires t c κs = search needs
 
+factor-followed-requires : (t : ℕ) → factor-lts.Need-followed-requires (F t) (factor-at t) factor.Post
+factor-followed-requires t c κs = search needs
+
 factor-returns-3 : (t : ℕ) → factor-lts.Need-returns-3 (F t) (factor-at t) factor.Post
 factor-returns-3 t c = inner-refused _ (factor-token t (c .before .before .before .before .before .before .before)) (less-one _ (c .before .before .before .before .if3 .left)) (factor-opens t (c .before .before .before .before .before)) (carry (c .before .e .given .1) (c .before .before .before .expression .ensures))
 
 factor-returns-4 : (t : ℕ) → factor-lts.Need-returns-4 (F t) (factor-at t) factor.Post
-factor-returns-4 t c = carry (sym (c .close .ensures)) (inner-closed _ (factor-token t (c .before .before .before .before .before .before .before .before)) (less-one _ (c .before .before .before .before .before .if3 .left)) (factor-opens t (c .before .before .before .before .before .before)) (carry (c .before .before .inner .given .1) (c .before .before .before .before .expression .ensures)))
+factor-returns-4 t c = carry (sym (c .followed .ensures ∙ ap (followedBy (c .before .before .before .before .before .before .before .before .before .before .before .before .before .args .text .now)) (c .before .close .ensures))) (inner-closed _ (factor-token t (c .before .before .before .before .before .before .before .before .before .before)) (less-one _ (c .before .before .before .before .before .before .before .if3 .left)) (factor-opens t (c .before .before .before .before .before .before .before .before)) (carry (c .before .before .before .before .inner .given .1) (c .before .before .before .before .before .before .expression .ensures)))
 
 factor-shared-slice-read-is-digit : (t : ℕ) → factor-lts.Need-shared-slice-read-is-digit (F t) (factor-at t) factor.Post
 factor-shared-slice-read-is-digit t c = let n = factor-token t (c .before .before .before) in omega (arith, n .some, n .inside)
@@ -202,122 +192,98 @@ factor-is-digit-requires t c κs = search needs
 factor-literal-requires : (t : ℕ) → factor-lts.Need-literal-requires (F t) (factor-at t) factor.Post
 factor-literal-requires t c κs = let n = factor-token t (c .before .before .before .before .before) in omega (arith, n .some, n .inside)
 
+factor-followed-requires-2 : (t : ℕ) → factor-lts.Need-followed-requires-2 (F t) (factor-at t) factor.Post
+factor-followed-requires-2 t c κs = search needs
+
 factor-returns-5 : (t : ℕ) → factor-lts.Need-returns-5 (F t) (factor-at t) factor.Post
-factor-returns-5 t c = carry (sym (c .literal .ensures)) (literal-meets _ (factor-token t (c .before .before .before .before .before .before)) _ (factor-no-opens t (c .before .before .before .before)) (sym (c .before .before .is-digit .ensures) ∙ c .before .if4 .taken))
+factor-returns-5 t c = carry (sym (c .followed2 .ensures ∙ ap (followedBy (c .before .before .before .before .before .before .before .before .before .before .args .text .now)) (c .before .literal .ensures))) (literal-meets _ (factor-token t (c .before .before .before .before .before .before .before)) _ (factor-no-opens t (c .before .before .before .before .before)) (sym (c .before .before .before .is-digit .ensures) ∙ c .before .before .if4 .taken))
 
 factor-name-requires : (t : ℕ) → factor-lts.Need-name-requires (F t) (factor-at t) factor.Post
 factor-name-requires t c κs = let n = factor-token t (c .before .before .before .before .before) in omega (arith, n .some, n .inside)
 
+factor-followed-requires-3 : (t : ℕ) → factor-lts.Need-followed-requires-3 (F t) (factor-at t) factor.Post
+factor-followed-requires-3 t c κs = search needs
+
 factor-returns-6 : (t : ℕ) → factor-lts.Need-returns-6 (F t) (factor-at t) factor.Post
-factor-returns-6 t c = let e = c .name .ensures in carry (sym (e .1)) (name-meets _ (factor-token t (c .before .before .before .before .before .before)) _ (factor-no-opens t (c .before .before .before .before)) (sym (c .before .before .is-digit .ensures) ∙ c .before .if4 .left) _ refl (subst AllFit (e .1) (e .0)))
+factor-returns-6 t c = let e = c .before .name .ensures in carry (sym (c .followed3 .ensures ∙ ap (followedBy (c .before .before .before .before .before .before .before .before .before .before .args .text .now)) (e .1))) (name-meets _ (factor-token t (c .before .before .before .before .before .before .before)) _ (factor-no-opens t (c .before .before .before .before .before)) (sym (c .before .before .before .is-digit .ensures) ∙ c .before .before .if4 .left) _ refl (subst AllFit (e .1) (e .0)))
 
 abbrev sum-Inv-loop : sum-lts.InvT-loop
-sum-Inv-loop text at room count names lens tags ks ps values nones sizes left₀ sign₀ left sign = Going text at (columnsOf count names lens tags ks ps values nones sizes) 1 room left × (sign ≡ signAt text (left .next))
+sum-Inv-loop text at room count names lens tags ks ps values nones sizes left₀ left = Chain text at (columnsOf count names lens tags ks ps values nones sizes) 1 room left
 
 abbrev sum-μ-loop : sum-lts.MeasureT-loop
-sum-μ-loop text at room count names lens tags ks ps values nones sizes left₀ sign₀ left sign = length text - left .next
+sum-μ-loop text at room count names lens tags ks ps values nones sizes left₀ left = length text - left .sign .end
+
+sum-nothing-yet-requires : (t : ℕ) → sum-lts.Need-nothing-yet-requires (S t) (sum-at t) sum.Post sum-Inv-loop sum-μ-loop
+sum-nothing-yet-requires t c κs = search needs
+
+sum-loop-holds : (t : ℕ) → sum-lts.Need-loop-holds (S t) (sum-at t) sum.Post sum-Inv-loop sum-μ-loop
+sum-loop-holds t c = subst (Chain _ _ _ _ _) (sym (c .nothing-yet .ensures)) starting
 
 sum-term-requires : (t : ℕ) → sum-lts.Need-term-requires (S t) (sum-at t) sum.Post sum-Inv-loop sum-μ-loop
-sum-term-requires t c κs = search needs
+sum-term-requires t c κs = omega (arith, chain-past (c .loop .inv))
 
 sum-enum-known-e : (t : ℕ) → sum-lts.Need-enum-known-e (S t) (sum-at t) sum.Post sum-Inv-loop sum-μ-loop
 sum-enum-known-e t c = search needs
 
-sum-enum-known-first : (t : ℕ) → sum-lts.Need-enum-known-first (S t) (sum-at t) sum.Post sum-Inv-loop sum-μ-loop
-sum-enum-known-first t c = search needs
-
-sum-sign-at-requires : (t : ℕ) → sum-lts.Need-sign-at-requires (S t) (sum-at t) sum.Post sum-Inv-loop sum-μ-loop
-sum-sign-at-requires t c κs = search needs
-
-sum-loop-holds : (t : ℕ) → sum-lts.Need-loop-holds (S t) (sum-at t) sum.Post sum-Inv-loop sum-μ-loop
-sum-loop-holds t c = (begins (carry (c .before .before .first .given .1) (c .before .before .before .before .term .ensures)), c .sign-at .ensures)
-
-sum-is-sum-requires : (t : ℕ) → sum-lts.Need-is-sum-requires (S t) (sum-at t) sum.Post sum-Inv-loop sum-μ-loop
-sum-is-sum-requires t c κs = search needs
-
-sum-term-requires-2 : (t : ℕ) → sum-lts.Need-term-requires-2 (S t) (sum-at t) sum.Post sum-Inv-loop sum-μ-loop
-sum-term-requires-2 t c κs = let o = operator-next (c .before .before .before .before .before .before .before .before .before .args .text .now) (c .before .before .loop .left .next) 2 (c .before .before .loop .sign) (c .before .before .loop .inv .1) (sym (c .before .is-sum .ensures) ∙ c .if1 .taken) in omega (arith, o .past, o .inside, c .before .before .loop .inv .0 .placed .past)
-
-sum-enum-known-e-2 : (t : ℕ) → sum-lts.Need-enum-known-e-2 (S t) (sum-at t) sum.Post sum-Inv-loop sum-μ-loop
-sum-enum-known-e-2 t c = search needs
-
 sum-returns : (t : ℕ) → sum-lts.Need-returns (S t) (sum-at t) sum.Post sum-Inv-loop sum-μ-loop
-sum-returns t c = goes-refused (c .before .before .before .before .before .before .loop .sign) (c .before .before .before .before .before .before .loop .inv .1) (sym (c .before .before .before .before .before .is-sum .ensures) ∙ c .before .before .before .before .if1 .taken) (c .before .before .before .before .before .before .loop .inv .0) (carry (c .before .e2 .given .1) (c .before .before .before .term2 .ensures))
+sum-returns t c = chain-refused (c .before .before .before .before .loop .inv) (carry (c .before .e .given .1) (c .before .before .before .term .ensures))
 
 sum-enum-known-right : (t : ℕ) → sum-lts.Need-enum-known-right (S t) (sum-at t) sum.Post sum-Inv-loop sum-μ-loop
 sum-enum-known-right t c = search needs
 
-sum-join-requires : (t : ℕ) → sum-lts.Need-join-requires (S t) (sum-at t) sum.Post sum-Inv-loop sum-μ-loop
-sum-join-requires t c κs = (small (c .before .before .before .before .before .before .before .before .before .before .before .before .before .pre .1 .short) (c .before .before .before .before .before .before .loop .inv .0 .placed), small (c .before .before .before .before .before .before .before .before .before .before .before .before .before .pre .1 .short) (carry (c .before .right .given .1) (c .before .before .before .term2 .ensures) .fine))
+sum-joined-requires : (t : ℕ) → sum-lts.Need-joined-requires (S t) (sum-at t) sum.Post sum-Inv-loop sum-μ-loop
+sum-joined-requires t c κs = let short = c .before .before .before .before .before .before .before .pre .1 .short in (chain-fits short (c .before .before .before .before .loop .inv), small short (carry (c .before .right .given .1) (c .before .before .before .term .ensures) .fine .0))
 
-sum-sign-at-requires-2 : (t : ℕ) → sum-lts.Need-sign-at-requires-2 (S t) (sum-at t) sum.Post sum-Inv-loop sum-μ-loop
-sum-sign-at-requires-2 t c κs = search needs
-
-sum-loop-less : (t : ℕ) → sum-lts.Need-loop-less (S t) (sum-at t) sum.Post sum-Inv-loop sum-μ-loop
-sum-loop-less t c = let o = operator-next (c .before .before .before .before .before .before .before .before .before .before .before .before .before .before .before .args .text .now) (c .before .before .before .before .before .before .before .before .loop .left .next) 2 (c .before .before .before .before .before .before .before .before .loop .sign) (c .before .before .before .before .before .before .before .before .loop .inv .1) (sym (c .before .before .before .before .before .before .before .is-sum .ensures) ∙ c .before .before .before .before .before .before .if1 .taken) in let n = carry (c .before .before .before .right .given .1) (c .before .before .before .before .before .term2 .ensures) .fine in omega (arith, c .before .join .ensures .next, n .past, n .within, o .past)
-
-sum-loop-again : (t : ℕ) → sum-lts.Need-loop-again (S t) (sum-at t) sum.Post sum-Inv-loop sum-μ-loop
-sum-loop-again t c = (goes-on (c .before .before .before .before .before .before .before .before .loop .sign) (c .before .before .before .before .before .before .before .before .loop .inv .1) (sym (c .before .before .before .before .before .before .before .is-sum .ensures) ∙ c .before .before .before .before .before .before .if1 .taken) (c .before .before .before .before .before .before .before .before .loop .inv .0) (carry (c .before .before .before .right .given .1) (c .before .before .before .before .before .term2 .ensures)) (c .before .join .ensures), c .sign-at2 .ensures)
+sum-is-sum-requires : (t : ℕ) → sum-lts.Need-is-sum-requires (S t) (sum-at t) sum.Post sum-Inv-loop sum-μ-loop
+sum-is-sum-requires t c κs = search needs
 
 sum-returns-2 : (t : ℕ) → sum-lts.Need-returns-2 (S t) (sum-at t) sum.Post sum-Inv-loop sum-μ-loop
-sum-returns-2 t c = begins-refused (carry (c .before .e .given .1) (c .before .before .before .term .ensures))
+sum-returns-2 t c = finishes (sym (c .before .is-sum .ensures) ∙ not-true _ (c .if1 .taken)) (chain-joined (c .before .before .before .before .before .before .before .loop .inv) (carry (c .before .before .before .before .right .given .1) (c .before .before .before .before .before .before .term .ensures)) (c .before .before .joined .ensures))
 
-sum-returns-3 : (t : ℕ) → sum-lts.Need-returns-3 (S t) (sum-at t) sum.Post sum-Inv-loop sum-μ-loop
-sum-returns-3 t c = finishes (c .before .before .loop .sign) (c .before .before .loop .inv .1) (sym (c .before .is-sum .ensures) ∙ c .if1 .left) (c .before .before .loop .inv .0)
+sum-loop-less : (t : ℕ) → sum-lts.Need-loop-less (S t) (sum-at t) sum.Post sum-Inv-loop sum-μ-loop
+sum-loop-less t c = chain-falls (carry (c .before .before .before .before .right .given .1) (c .before .before .before .before .before .before .term .ensures)) (c .before .before .joined .ensures)
+
+sum-loop-again : (t : ℕ) → sum-lts.Need-loop-again (S t) (sum-at t) sum.Post sum-Inv-loop sum-μ-loop
+sum-loop-again t c = behind (chain-joined (c .before .before .before .before .before .before .before .loop .inv) (carry (c .before .before .before .before .right .given .1) (c .before .before .before .before .before .before .term .ensures)) (c .before .before .joined .ensures)) (sym (c .before .is-sum .ensures) ∙ not-false _ (c .if1 .left))
 
 abbrev term-Inv-loop : term-lts.InvT-loop
-term-Inv-loop text at room count names lens tags ks ps values nones sizes left₀ sign₀ left sign = Going text at (columnsOf count names lens tags ks ps values nones sizes) 0 room left × (sign ≡ signAt text (left .next))
+term-Inv-loop text at room count names lens tags ks ps values nones sizes left₀ left = Chain text at (columnsOf count names lens tags ks ps values nones sizes) 0 room left
 
 abbrev term-μ-loop : term-lts.MeasureT-loop
-term-μ-loop text at room count names lens tags ks ps values nones sizes left₀ sign₀ left sign = length text - left .next
+term-μ-loop text at room count names lens tags ks ps values nones sizes left₀ left = length text - left .sign .end
+
+term-nothing-yet-requires : (t : ℕ) → term-lts.Need-nothing-yet-requires (T t) (term-at t) term.Post term-Inv-loop term-μ-loop
+term-nothing-yet-requires t c κs = search needs
+
+term-loop-holds : (t : ℕ) → term-lts.Need-loop-holds (T t) (term-at t) term.Post term-Inv-loop term-μ-loop
+term-loop-holds t c = subst (Chain _ _ _ _ _) (sym (c .nothing-yet .ensures)) starting
 
 term-factor-requires : (t : ℕ) → term-lts.Need-factor-requires (T t) (term-at t) term.Post term-Inv-loop term-μ-loop
-term-factor-requires t c κs = search needs
+term-factor-requires t c κs = omega (arith, chain-past (c .loop .inv))
 
 term-enum-known-e : (t : ℕ) → term-lts.Need-enum-known-e (T t) (term-at t) term.Post term-Inv-loop term-μ-loop
 term-enum-known-e t c = search needs
 
-term-enum-known-first : (t : ℕ) → term-lts.Need-enum-known-first (T t) (term-at t) term.Post term-Inv-loop term-μ-loop
-term-enum-known-first t c = search needs
-
-term-sign-at-requires : (t : ℕ) → term-lts.Need-sign-at-requires (T t) (term-at t) term.Post term-Inv-loop term-μ-loop
-term-sign-at-requires t c κs = search needs
-
-term-loop-holds : (t : ℕ) → term-lts.Need-loop-holds (T t) (term-at t) term.Post term-Inv-loop term-μ-loop
-term-loop-holds t c = (begins (carry (c .before .before .first .given .1) (c .before .before .before .before .factor .ensures)), c .sign-at .ensures)
-
-term-is-product-requires : (t : ℕ) → term-lts.Need-is-product-requires (T t) (term-at t) term.Post term-Inv-loop term-μ-loop
-term-is-product-requires t c κs = search needs
-
-term-factor-requires-2 : (t : ℕ) → term-lts.Need-factor-requires-2 (T t) (term-at t) term.Post term-Inv-loop term-μ-loop
-term-factor-requires-2 t c κs = let o = operator-next (c .before .before .before .before .before .before .before .before .before .args .text .now) (c .before .before .loop .left .next) 1 (c .before .before .loop .sign) (c .before .before .loop .inv .1) (sym (c .before .is-product .ensures) ∙ c .if1 .taken) in omega (arith, o .past, o .inside, c .before .before .loop .inv .0 .placed .past)
-
-term-enum-known-e-2 : (t : ℕ) → term-lts.Need-enum-known-e-2 (T t) (term-at t) term.Post term-Inv-loop term-μ-loop
-term-enum-known-e-2 t c = search needs
-
 term-returns : (t : ℕ) → term-lts.Need-returns (T t) (term-at t) term.Post term-Inv-loop term-μ-loop
-term-returns t c = goes-refused (c .before .before .before .before .before .before .loop .sign) (c .before .before .before .before .before .before .loop .inv .1) (sym (c .before .before .before .before .before .is-product .ensures) ∙ c .before .before .before .before .if1 .taken) (c .before .before .before .before .before .before .loop .inv .0) (carry (c .before .e2 .given .1) (c .before .before .before .factor2 .ensures))
+term-returns t c = chain-refused (c .before .before .before .before .loop .inv) (carry (c .before .e .given .1) (c .before .before .before .factor .ensures))
 
 term-enum-known-right : (t : ℕ) → term-lts.Need-enum-known-right (T t) (term-at t) term.Post term-Inv-loop term-μ-loop
 term-enum-known-right t c = search needs
 
-term-join-requires : (t : ℕ) → term-lts.Need-join-requires (T t) (term-at t) term.Post term-Inv-loop term-μ-loop
-term-join-requires t c κs = (small (c .before .before .before .before .before .before .before .before .before .before .before .before .before .pre .1 .short) (c .before .before .before .before .before .before .loop .inv .0 .placed), small (c .before .before .before .before .before .before .before .before .before .before .before .before .before .pre .1 .short) (carry (c .before .right .given .1) (c .before .before .before .factor2 .ensures) .fine))
+term-joined-requires : (t : ℕ) → term-lts.Need-joined-requires (T t) (term-at t) term.Post term-Inv-loop term-μ-loop
+term-joined-requires t c κs = let short = c .before .before .before .before .before .before .before .pre .1 .short in (chain-fits short (c .before .before .before .before .loop .inv), small short (carry (c .before .right .given .1) (c .before .before .before .factor .ensures) .fine .0))
 
-term-sign-at-requires-2 : (t : ℕ) → term-lts.Need-sign-at-requires-2 (T t) (term-at t) term.Post term-Inv-loop term-μ-loop
-term-sign-at-requires-2 t c κs = search needs
-
-term-loop-less : (t : ℕ) → term-lts.Need-loop-less (T t) (term-at t) term.Post term-Inv-loop term-μ-loop
-term-loop-less t c = let o = operator-next (c .before .before .before .before .before .before .before .before .before .before .before .before .before .before .before .args .text .now) (c .before .before .before .before .before .before .before .before .loop .left .next) 1 (c .before .before .before .before .before .before .before .before .loop .sign) (c .before .before .before .before .before .before .before .before .loop .inv .1) (sym (c .before .before .before .before .before .before .before .is-product .ensures) ∙ c .before .before .before .before .before .before .if1 .taken) in let n = carry (c .before .before .before .right .given .1) (c .before .before .before .before .before .factor2 .ensures) .fine in omega (arith, c .before .join .ensures .next, n .past, n .within, o .past)
-
-term-loop-again : (t : ℕ) → term-lts.Need-loop-again (T t) (term-at t) term.Post term-Inv-loop term-μ-loop
-term-loop-again t c = (goes-on (c .before .before .before .before .before .before .before .before .loop .sign) (c .before .before .before .before .before .before .before .before .loop .inv .1) (sym (c .before .before .before .before .before .before .before .is-product .ensures) ∙ c .before .before .before .before .before .before .if1 .taken) (c .before .before .before .before .before .before .before .before .loop .inv .0) (carry (c .before .before .before .right .given .1) (c .before .before .before .before .before .factor2 .ensures)) (c .before .join .ensures), c .sign-at2 .ensures)
+term-is-product-requires : (t : ℕ) → term-lts.Need-is-product-requires (T t) (term-at t) term.Post term-Inv-loop term-μ-loop
+term-is-product-requires t c κs = search needs
 
 term-returns-2 : (t : ℕ) → term-lts.Need-returns-2 (T t) (term-at t) term.Post term-Inv-loop term-μ-loop
-term-returns-2 t c = begins-refused (carry (c .before .e .given .1) (c .before .before .before .factor .ensures))
+term-returns-2 t c = finishes (sym (c .before .is-product .ensures) ∙ not-true _ (c .if1 .taken)) (chain-joined (c .before .before .before .before .before .before .before .loop .inv) (carry (c .before .before .before .before .right .given .1) (c .before .before .before .before .before .before .factor .ensures)) (c .before .before .joined .ensures))
 
-term-returns-3 : (t : ℕ) → term-lts.Need-returns-3 (T t) (term-at t) term.Post term-Inv-loop term-μ-loop
-term-returns-3 t c = finishes (c .before .before .loop .sign) (c .before .before .loop .inv .1) (sym (c .before .is-product .ensures) ∙ c .if1 .left) (c .before .before .loop .inv .0)
+term-loop-less : (t : ℕ) → term-lts.Need-loop-less (T t) (term-at t) term.Post term-Inv-loop term-μ-loop
+term-loop-less t c = chain-falls (carry (c .before .before .before .before .right .given .1) (c .before .before .before .before .before .before .factor .ensures)) (c .before .before .joined .ensures)
+
+term-loop-again : (t : ℕ) → term-lts.Need-loop-again (T t) (term-at t) term.Post term-Inv-loop term-μ-loop
+term-loop-again t c = behind (chain-joined (c .before .before .before .before .before .before .before .loop .inv) (carry (c .before .before .before .before .right .given .1) (c .before .before .before .before .before .before .factor .ensures)) (c .before .before .joined .ensures)) (sym (c .before .is-product .ensures) ∙ not-false _ (c .if1 .left))
 
 pub +expression+factor+sum+term-spec : {M : Type 1} → statement M
 +expression+factor+sum+term-spec = close μ-expression μ-factor μ-sum μ-term (λ t. expression-lts.spec (E t)
@@ -325,22 +291,17 @@ pub +expression+factor+sum+term-spec : {M : Type 1} → statement M
     expression.Post
     expression-Inv-loop
     expression-μ-loop
+    (expression-nothing-yet-requires t)
+    (expression-loop-holds t)
     (expression-sum-requires t)
     (expression-enum-known-e t)
-    (expression-enum-known-first t)
-    (expression-sign-at-requires t)
-    (expression-loop-holds t)
-    (expression-is-comparison-requires t)
-    (expression-sum-requires-2 t)
-    (expression-enum-known-e-2 t)
     (expression-returns t)
     (expression-enum-known-right t)
-    (expression-join-requires t)
-    (expression-sign-at-requires-2 t)
-    (expression-loop-less t)
-    (expression-loop-again t)
+    (expression-joined-requires t)
+    (expression-is-comparison-requires t)
     (expression-returns-2 t)
-    (expression-returns-3 t))
+    (expression-loop-less t)
+    (expression-loop-again t))
     (λ t. factor-lts.spec (F t)
     (factor-at t)
     factor.Post
@@ -353,53 +314,46 @@ pub +expression+factor+sum+term-spec : {M : Type 1} → statement M
     (factor-enum-known-e t)
     (factor-enum-known-inner t)
     (factor-close-requires t)
+    (factor-followed-requires t)
     (factor-returns-3 t)
     (factor-returns-4 t)
     (factor-shared-slice-read-is-digit t)
     (factor-is-digit-requires t)
     (factor-literal-requires t)
+    (factor-followed-requires-2 t)
     (factor-returns-5 t)
     (factor-name-requires t)
+    (factor-followed-requires-3 t)
     (factor-returns-6 t))
     (λ t. sum-lts.spec (S t)
     (sum-at t)
     sum.Post
     sum-Inv-loop
     sum-μ-loop
+    (sum-nothing-yet-requires t)
+    (sum-loop-holds t)
     (sum-term-requires t)
     (sum-enum-known-e t)
-    (sum-enum-known-first t)
-    (sum-sign-at-requires t)
-    (sum-loop-holds t)
-    (sum-is-sum-requires t)
-    (sum-term-requires-2 t)
-    (sum-enum-known-e-2 t)
     (sum-returns t)
     (sum-enum-known-right t)
-    (sum-join-requires t)
-    (sum-sign-at-requires-2 t)
-    (sum-loop-less t)
-    (sum-loop-again t)
+    (sum-joined-requires t)
+    (sum-is-sum-requires t)
     (sum-returns-2 t)
-    (sum-returns-3 t))
+    (sum-loop-less t)
+    (sum-loop-again t))
     λ t. term-lts.spec (T t)
     (term-at t)
     term.Post
     term-Inv-loop
     term-μ-loop
+    (term-nothing-yet-requires t)
+    (term-loop-holds t)
     (term-factor-requires t)
     (term-enum-known-e t)
-    (term-enum-known-first t)
-    (term-sign-at-requires t)
-    (term-loop-holds t)
-    (term-is-product-requires t)
-    (term-factor-requires-2 t)
-    (term-enum-known-e-2 t)
     (term-returns t)
     (term-enum-known-right t)
-    (term-join-requires t)
-    (term-sign-at-requires-2 t)
+    (term-joined-requires t)
+    (term-is-product-requires t)
+    (term-returns-2 t)
     (term-loop-less t)
     (term-loop-again t)
-    (term-returns-2 t)
-    (term-returns-3 t)

@@ -39,8 +39,8 @@ returns-2 c =
 
 returns-3 : tie.Need-returns-3
 returns-3 c =
-    let a = c .before .before .before .before .before .before .before .before .before .before .before .before .before .before .before .before .before .before .before .args in
-    let m = done-answers (a .text .now) (a .at) (columns (a .t3) (a .t4)) _ (c .before .before .before .before .before .before .before .before .before .before .before .before .before .before .before .min .ensures) (sym (c .before .before .before .before .before .before .before .before .before .before .before .before .before .before .before .before .before .is-all-tokens .ensures) ∙ not-false _ (c .before .before .before .before .before .before .before .before .before .before .before .before .before .before .before .before .if1 .left)) _ refl (carry (c .before .before .read .given .1) (c .before .before .before .before .expression .ensures)) in
+    let a = c .before .before .before .before .before .before .before .before .before .before .before .before .before .before .before .before .before .before .before .before .args in
+    let m = done-answers (a .text .now) (a .at) (columns (a .t3) (a .t4)) _ (c .before .before .before .before .before .before .before .before .before .before .before .before .before .before .before .before .min .ensures) (sym (c .before .before .before .before .before .before .before .before .before .before .before .before .before .before .before .before .before .before .is-all-tokens .ensures) ∙ not-false _ (c .before .before .before .before .before .before .before .before .before .before .before .before .before .before .before .before .before .if1 .left)) _ refl (carry (c .before .before .before .read .given .1) (c .before .before .before .before .before .expression .ensures)) in
     subst (λ (r : ParseResult). Answers (a .text .now) (a .at) (columns (a .t3) (a .t4)) r) (sym (c .whole .ensures)) m
 
 pub parse-spec : {M : Type 1} → statement M

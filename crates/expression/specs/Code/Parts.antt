@@ -1,5 +1,6 @@
 -- What the code reads a factor from: signs, literals, names, closing parentheses and the end.
 use Prim.Native.Nat.{ℕ, _+_, _^_, _<_, _≤_}
+use mathlib.Core.Path.{_≡_}
 use mathlib.Core.List.{List, [], _∷_}
 use mathlib.Core.Bool.{Bool, true, false, cond}
 use lib.Dec.{eqb, ltb}
@@ -14,14 +15,33 @@ use Rattle.bindings.specs.declared.names.BoundName.{BoundName}
 use Rattle.bindings.specs.declared.names.BoundName.the-variants.{At, Nothing}
 use Rattle.expression.specs.declared.parts.Sign.{Sign}
 use Rattle.expression.specs.declared.ExprError.the-variants.{UnexpectedEnd, UnbalancedParenthesis, InvalidLiteral, UnknownIdentifier, UnconsumedTokens}
+use Rattle.expression.specs.declared.Operand.{Operand}
+use Rattle.expression.specs.declared.OperandResult.{OperandResult}
+use Rattle.expression.specs.declared.OperandResult.the-variants as OperandResult
 use Rattle.expression.specs.declared.ParseResult.{ParseResult}
 use Rattle.expression.specs.declared.ParseResult.the-variants.{Done, Refused}
 use Rattle.grammar.specs.Parse.{symbol}
 use Rattle.bindings.specs.Code.Table.{Columns, Entry, entryAt}
+use Rattle.figures.specs.Code.Figures.{Joined}
 
 -- the token at or after an offset as a sign
 abbrev pub signAt : List ℕ → ℕ → Sign
 signAt s at = record { byte = symbol (first (tokens (drop at s))); end = tokenAt s at .end }
+
+-- an operand with the sign behind it
+abbrev pub followedBy : List ℕ → ParseResult → OperandResult
+followedBy s (ParseResult.Done v) = OperandResult.Done (record { figures = v; sign = signAt s (v .next) })
+followedBy s (ParseResult.Refused e) = OperandResult.Refused e
+
+-- before the first operand
+abbrev pub nothingYet : ℕ → Operand
+nothingYet at = record { figures = record { next = at; k = 0; p = 0; len = 0; value = None }; sign = record { byte = 0; end = at } }
+
+-- r is the operand w alone where no sign stands before it, else what the sign behind o joins o and w to
+pub record JoinedTo (o w r : Operand) : Type 0 where
+  pub alone : o .sign .byte ≡ 0 → r ≡ w
+  pub figures : (o .sign .byte ≡ 0 → ⊥) → Joined (o .sign .byte) (o .figures) (w .figures) (r .figures)
+  pub sign : r .sign ≡ w .sign
 
 -- a literal, read from its digits
 abbrev pub literalRead : List ℕ → ℕ → ParseResult

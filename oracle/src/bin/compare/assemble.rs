@@ -2,6 +2,7 @@
 use crate::tally::*;
 use atc_vm::sys::{self, Answer};
 use original::assembler::{assemble, assemble_plain, assemble_text, Assembled};
+use original::domain::free_of_both_signs;
 use original::numbers::message_number;
 use std::fs;
 use std::path::PathBuf;
@@ -24,6 +25,9 @@ pub struct Comparison {
 }
 
 fn check(c: &Case, out: &mut Buffer<u8>) -> Result<Seen, String> {
+    if !free_of_both_signs(&c.contract) {
+        return Ok(Seen::Nothing);
+    }
     let original = assemble_text(&c.contract, &c.vector, &c.stem);
     let made = if let Assembled::Made { text, .. } = &original { text.len() as i64 } else { 0 };
     let room = (made + if made == 0 { c.room.abs() } else { c.room }).max(0);

@@ -1,13 +1,17 @@
 // The cases of crates/replay that assemble. The answers are those of the original's `assemble`, run on files in a folder of its
 // own. The original gives no number: `message_number` finds document 01's by the message. Nor does it give a key's place, a line, k or p: the place is that of the first key that the original's `json_u64_for_key` refuses, the
 // line the least number of body lines with which `assemble` refuses so, and k and p are counted in the output.
-// What only document 01 answers stands last and is marked (`added_cases`).
+// What only the documents answer stands last and is marked (`added_cases`, and `comparisons` for request 101: contracts with `<` or
+// `==` are not asked of the original).
 // A stem that is empty can't be made by a file, nor one of 252 to 255 bytes that is accepted (`.ops` is added to it).
+mod comparisons;
+
 use crate::cases::{self, list, told};
 use crate::draw::next;
 use crate::words::{words, words_of};
 use original::assembler::assemble;
 use original::assembler::private::{find_function, json_u64_for_key, tokenize};
+use original::domain::free_of_both_signs;
 use original::numbers::message_number;
 use std::collections::{HashMap, HashSet};
 use std::ffi::OsStr;
@@ -72,7 +76,7 @@ impl Cases<'_> {
 
     fn bytes(&mut self, contract: &[u8], vector: &[u8], stem: &[u8]) {
         let arguments = [contract, vector, stem].map(cases::text);
-        if !self.seen.insert(arguments.clone()) {
+        if !free_of_both_signs(contract) || !self.seen.insert(arguments.clone()) {
             return;
         }
         check_domain(contract, vector, stem);
@@ -569,5 +573,6 @@ pub fn make(all: &mut cases::Cases) {
     limit_cases(&mut c);
     drawn_cases(&mut c);
     added_cases(&mut c);
+    comparisons::make(&mut c);
     fs::remove_dir_all(&c.folder).unwrap();
 }

@@ -9,7 +9,7 @@ pub struct Cases {
 }
 
 impl Cases {
-    /// `who` is `o` where the original answers, and `d` where document 01 does.
+    /// `who` is `o` where the original answers, and `d` where document 01 or 02 does.
     pub fn add(&mut self, who: char, call: char, arguments: &[String], answer: &str) {
         self.copy(&format!("{who} {call} {}", arguments.join(" ")), answer);
     }
@@ -29,7 +29,7 @@ impl Cases {
             println!("{call} {who} {number}: {n}");
         }
         let of = |who| self.counts.iter().filter(|(k, _)| k.1 == who).map(|(_, n)| n).sum::<usize>();
-        println!("{} of the original, {} of document 01; {} bytes in, {} out", of('o'), of('d'), self.stdin.len(), self.stdout.len());
+        println!("{} of the original, {} of the documents; {} bytes in, {} out", of('o'), of('d'), self.stdin.len(), self.stdout.len());
     }
 }
 

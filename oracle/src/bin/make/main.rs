@@ -1,4 +1,4 @@
-//! Makes crates/replay/stdin and stdout: the cases that the program replays, and what the original, or document 01 where the
+//! Makes crates/replay/stdin and stdout: the cases that the program replays, and what the original, or document 01 or 02 where the
 //! original can't be asked, answers.
 mod assembler;
 mod cases;
