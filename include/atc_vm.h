@@ -55,9 +55,9 @@ extern "C" {
 #endif
 
 /* That of the Rust crate and of the release. */
-#define ATC_VM_VERSION "0.2.0"
+#define ATC_VM_VERSION "0.3.0"
 #define ATC_VM_VERSION_MAJOR 0
-#define ATC_VM_VERSION_MINOR 2
+#define ATC_VM_VERSION_MINOR 3
 #define ATC_VM_VERSION_PATCH 0
 
 /*

@@ -43,6 +43,24 @@ pub fn contracts() -> Vec<Contract> {
     ]
 }
 
+/// Comparisons (request 101), and what the original is asked for them: the same text with `-` for `<` and `+` for `==`.
+pub fn comparisons() -> Vec<(Contract, Contract)> {
+    let both = |name, body: String| {
+        let sums = valued(name, wrap(&body.replace('<', "-").replace("==", "+ "), ""), "");
+        let contract = wrap(&body, "");
+        let value = u64::from(atc_vm::assemble_text(&contract, "{\"expected\": 1}", "s").is_ok());
+        (Contract { name, contract, vector: format!("{{\"expected\": {value}}}") }, sums)
+    };
+    let flat: String = (0..12_000).map(|i| format!("{}{}", i % 10, ["<", "=="][i % 2])).collect();
+    let nested = format!("  return {}1{}\n", "1<(2==".repeat(64), ")".repeat(64));
+    let sums: String = (0..4000).map(|i| format!("{}+2{}", i % 10, ["<", "=="][i % 2])).collect();
+    vec![
+        both("12,000 literals compared", format!("  return {flat}1\n")),
+        both("4,000 sums of two compared", format!("  return {sums}1\n")),
+        both("64 parentheses with two comparisons each", nested),
+    ]
+}
+
 pub fn doubled(literal: &str) -> String {
     let lines: String = (1..16).map(|i| format!("  let x{i} = x{} + x{}\n", i - 1, i - 1)).collect();
     wrap(&format!("  let x0 = {literal}\n{lines}  return x15\n"), "")

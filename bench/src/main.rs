@@ -101,6 +101,24 @@ fn assemblies(title: &str, contracts: &[Contract]) {
     }
 }
 
+fn comparisons() {
+    head("Assembly, comparisons; the original reads the same text with `-` for `<` and `+` for `==`", false);
+    let mut out = vec![7u8; 1 << 20];
+    for (c, sums) in inputs::comparisons() {
+        let (contract, vector) = (c.contract.as_bytes(), c.vector.as_bytes());
+        assert!(contract.len() <= 65_536 && contract.len() == sums.contract.len());
+        assert_eq!(sys::assemble(contract, vector, b"tally", &mut out).number, 0, "{}", c.name);
+        let original = || assemble_plain(black_box(sums.contract.as_bytes()), sums.vector.as_bytes(), "tally");
+        assert!(original().is_ok());
+        row(
+            c.name,
+            &mut || drop(black_box(original())),
+            &mut || _ = black_box(sys::assemble(black_box(contract), vector, b"tally", &mut out).number),
+            None,
+        );
+    }
+}
+
 fn reading() {
     head("Reading 1 MB, UTF-8 checked on both sides", false);
     let (mut kinds, mut operands) = (vec![0u8; 1 << 20], vec![0u64; 1 << 20]);
@@ -328,6 +346,7 @@ fn main() {
     assemblies("Assembly", &inputs::contracts());
     assemblies("Assembly, unfriendly inputs", &inputs::unfriendly());
     assemblies("Assembly, many of one sort", &inputs::many());
+    comparisons();
     reading();
     verifying();
     runs();

@@ -5,8 +5,7 @@ use mathlib.Core.List.{List, [], _∷_}
 use mathlib.Core.Bool.{false, cond}
 use native.Mathlib.Omega.{arith}
 use lib.Dec.{eqb}
-use lib.ListN.{length, getD, take, drop, List·getD-eq-default}
-use Rattle.base.proofs.Tests.{by-leb}
+use lib.ListN.{length, getD, take, drop}
 use Rattle.base.proofs.Parts.{drop-cons-at}
 use Rattle.token.specs.Token.{tokens}
 use Rattle.token.specs.Code.Places.{first, tokenAt}
@@ -15,10 +14,6 @@ use Rattle.token.proofs.Tokens.{Next, token-none, token-next}
 use Rattle.expression.specs.declared.parts.Sign.{Sign}
 use Rattle.grammar.specs.Parse.{symbol}
 use Rattle.expression.specs.Code.Parts.{signAt}
-
--- a byte past the text's end reads 0
-pub inside : (s : List ℕ) (i : ℕ) → getD s i 0 ≡ 61 → i < length s
-inside s i e = by-leb (length s) i (λ h. absurd (let z : 0 ≡ 61 = sym (List·getD-eq-default {A = ℕ} s 0 h) ∙ e in omega arith)) (λ h. h)
 
 -- the part of a text from start to end, by its first byte
 module _ (s : List ℕ) (start : ℕ) (h : start < length s) where

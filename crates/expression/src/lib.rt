@@ -67,12 +67,12 @@ pub enum ParseResult {
 }
 
 // An operand that is read, and the sign behind it.
-pub struct Operand {
+struct Operand {
     pub figures: Figures,
     pub sign: Sign,
 }
 
-pub enum OperandResult {
+enum OperandResult {
     Done(Operand),
     Refused(ExprError),
 }

@@ -6,9 +6,10 @@ use mathlib.Core.Bool.{Bool, true, false, _&&_}
 use native.Mathlib.Omega.{arith}
 use borrow.Author.Tests.{eqb-true}
 use lib.Dec.{eqb}
-use lib.ListN.{length, getD, drop, drop-of-length-le, List·getD-eq-default}
+use lib.ListN.{length, getD, drop, drop-of-length-le}
 use Rattle.base.specs.Lists.{all}
 use Rattle.base.proofs.Tests.{false-true, by-bool, by-leb, and-left, and-right}
+use Rattle.base.proofs.Lists.{passes-inside}
 use Rattle.base.proofs.Parts.{drop-cons-at}
 use Rattle.token.specs.Token.{allowed, paired}
 use Rattle.token.specs.Code.Bytes.{allowedByte}
@@ -33,10 +34,7 @@ allowed-bytes (a ∷ w) s e =
     let more = allowed-bytes w s (and-right (allowedByte a) (all allowedByte w) e) in
     allowed-byte a (w ++ s) (and-left (allowedByte a) (all allowedByte w) e) ∙ more
 
--- at an offset of a text, past whose end a byte reads 0
-inside : (s : List ℕ) (i : ℕ) → eqb (getD s i 0) 61 ≡ true → i < length s
-inside s i e = by-leb (length s) i (λ h. false-true (sym (ap (λ (a : ℕ). eqb a 61) (List·getD-eq-default {A = ℕ} s 0 h)) ∙ e)) (λ h. h)
-
+-- at an offset of a text
 module _ (s : List ℕ) (i : ℕ) (h : i < length s) where
   here : allowed (drop i s) ≡ allowed (getD s i 0 ∷ drop (i + 1) s)
   here = ap allowed (drop-cons-at s i (i + 1) h refl)
@@ -47,7 +45,7 @@ module _ (s : List ℕ) (i : ℕ) (h : i < length s) where
   pub pair-more : (eqb (getD s i 0) 61 && eqb (getD s (i + 1) 0) 61) ≡ true → (i + 1 < length s) × (allowed (drop i s) ≡ allowed (drop (i + 2) s))
   pair-more e =
       let f = and-right (eqb (getD s i 0) 61) (eqb (getD s (i + 1) 0) 61) e in
-      let g = inside s (i + 1) f in (
+      let g = passes-inside (λ (a : ℕ). eqb a 61) refl s (i + 1) f in (
         g,
         here
             ∙ allowed-equals (getD s i 0) (drop (i + 1) s) (and-left (eqb (getD s i 0) 61) (eqb (getD s (i + 1) 0) 61) e)

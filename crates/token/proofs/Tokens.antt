@@ -6,12 +6,12 @@ use mathlib.Core.Bool.{true, false, or-false}
 use native.Mathlib.Omega.{arith}
 use borrow.Author.Tests.{eq-eqb, ne-eqb}
 use lib.Dec.{eqb}
-use lib.ListN.{length, getD, take, drop, length-drop, drop-of-length-le, List·getD-eq-default}
+use lib.ListN.{length, getD, take, drop, length-drop, drop-of-length-le}
 use lib.Seq.{drop-drop, getD-drop, append-snoc, length-take-le}
 use Rattle.base.specs.Lists.{takeWhile}
-use Rattle.base.proofs.Tests.{false-true, by-bool, by-leb, by-eqb, or-left, or-right, below, between}
+use Rattle.base.proofs.Tests.{by-bool, by-leb, by-eqb, or-left, or-right, below, between}
 use Rattle.base.proofs.Parts.{drop-cons-at}
-use Rattle.base.proofs.Lists.{takeWhile-same, length-takeWhile, take-takeWhile, takeWhile-last, takeWhile-stops}
+use Rattle.base.proofs.Lists.{passes-inside, takeWhile-same, length-takeWhile, take-takeWhile, takeWhile-last, takeWhile-stops}
 use Rattle.decimal.specs.Decimal.{digit}
 use Rattle.token.specs.declared.Token.{Token}
 use Rattle.token.specs.Token.{space, nameStart, namePart, extends, scan, tokens}
@@ -94,10 +94,7 @@ rest-laws a s =
 
 -- whether `==` goes on at an offset, past whose end a byte reads 0
 pub second-there : (s : List ℕ) (i : ℕ) → eqb (getD s i 0) 61 ≡ true → length (second (drop i s)) ≡ 1
-second-there s i e =
-    by-leb (length s) i
-    (λ h. false-true (sym (ap (λ (a : ℕ). eqb a 61) (List·getD-eq-default {A = ℕ} s 0 h)) ∙ e))
-    (λ h. rw (drop-cons-at s i (i + 1) h refl) (simp e))
+second-there s i e = rw (drop-cons-at s i (i + 1) (passes-inside (λ (a : ℕ). eqb a 61) refl s i e) refl) (simp e)
 
 pub second-not : (s : List ℕ) (i : ℕ) → eqb (getD s i 0) 61 ≡ false → length (second (drop i s)) ≡ 0
 second-not s i e =

@@ -27,6 +27,21 @@
 //! # Ok::<(), Box<dyn std::error::Error>>(())
 //! ```
 //!
+//! A rule chooses by `<` and `==`, which are 1 or 0: here a blank of 65 mm below 4 dioptres, else one of 70 mm.
+//!
+//! ```
+//! use atc_vm::{assemble_text, parse_ops, Vm};
+//!
+//! let rule = "fn blank (power) {\n  return (power < 400) * 65 + (400 < power + 1) * 70\n}\n";
+//! for (power, blank) in [(399, 65), (400, 70)] {
+//!     let vector = format!(r#"{{"power": {power}, "expected": {blank}}}"#);
+//!     let assembled = assemble_text(rule, vector, "blank")?;
+//!     let mut vm = Vm::with_context(parse_ops(&assembled.text)?, 7, vec![]);
+//!     assert_eq!(vm.run_with_gas(3 * assembled.k - 2)?, [blank]);
+//! }
+//! # Ok::<(), Box<dyn std::error::Error>>(())
+//! ```
+//!
 //! # Refusals
 //!
 //! Each error has a method `number`, which gives the number of the refusal in document 01; [`REFUSALS`] has them all with
@@ -43,6 +58,7 @@
 //! - [`VmError::StateTooLarge`] is new: it tells a storage that was too large before the run (43) from a `Store` past
 //!   the limit (50), which is [`VmError::StorageLimitExceeded`] alone.
 //! - Document 01 adds refusals 18, 20 and 21, and limits on the length of texts and stems (1, 2, 25).
+//! - Expressions have `<` and `==` (document 02, request 101).
 
 #![deny(unsafe_code)]
 #![deny(missing_docs)]

@@ -290,6 +290,37 @@ fn characters() {
 }
 
 #[test]
+fn comparisons() {
+    // A single `=`, behind a pair that is good; the odd one of three; and what other languages write.
+    body_refused(
+        13,
+        "  return (power == 75) + power = 2",
+        "5:32",
+        &["`=` is in no token.", "`a == b`"],
+    );
+    body_refused(13, "  return power === 75", "5:18", &["`a == b`"]);
+    body_refused(
+        13,
+        "  return power <= 75",
+        "5:17",
+        &["`=` is in no token.", "`(b < a) == 0`"],
+    );
+    body_refused(13, "  return power > 75", "5:16", &["`b < a`"]);
+    body_refused(13, "  return power != 75", "5:16", &["`(a == b) == 0`"]);
+    body_refused(13, "  let x == 5\n  return x", "5:10", &["`a == b`"]);
+    body_refused(13, "  return power == 75;", "5:21", &["`;`"]);
+    body_refused(
+        17,
+        "  return power ==== 75",
+        "5:18",
+        &["`==` stands where a number, a name or `(` is due."],
+    );
+    body_refused(17, "  let x === 5\n  return x", "5:10", &["`==` stands"]);
+    body_refused(14, "  return power <", "5:17", &["ends here"]);
+    body_refused(19, "  return 1 == 2 3", "5:17", &["`3` is left over"]);
+}
+
+#[test]
 fn names() {
     body_refused(
         17,

@@ -1,7 +1,11 @@
 -- `expression::parts::equals_byte` meets its contract: a token that starts with `=` is a sign where it is `==`.
-use mathlib.Core.Path.{_∙_}
+use Prim.Native.Nat.{ℕ}
+use mathlib.Core.Path.{refl, _∙_}
 use native.Mathlib.Omega.{arith}
-use Rattle.expression.proofs.Signs.{inside, symbol-pair, symbol-no-pair}
+use borrow.Author.Tests.{eq-eqb}
+use lib.Dec.{eqb}
+use Rattle.base.proofs.Lists.{passes-inside}
+use Rattle.expression.proofs.Signs.{symbol-pair, symbol-no-pair}
 use borrow.Author.Needs.{needs}
 use Rattle.expression.proofs.parts.equals_byte.Statement.{statement}
 use Rattle.expression.proofs.parts.equals_byte.Tie as tie
@@ -22,7 +26,7 @@ returns c =
     c .pick .ensures ∙ symbol-pair (a .text .now) (a .start) (omega (arith, p .0, c .before .before .if1 .taken)) (p .1) (c .before .before .if1 .taken) (omega (arith, p .0, c .before .before .if1 .taken))
 
 returns-2 : tie.Need-returns-2
-returns-2 c = let a = c .before .before .args in symbol-no-pair (a .text .now) (a .start) (inside (a .text .now) (a .start) (c .before .before .pre .1)) (c .before .before .pre .1) (a .len) (c .before .before .pre .0) (c .if1 .left)
+returns-2 c = let a = c .before .before .args in symbol-no-pair (a .text .now) (a .start) (passes-inside (λ (b : ℕ). eqb b 61) refl (a .text .now) (a .start) (eq-eqb _ 61 (c .before .before .pre .1))) (c .before .before .pre .1) (a .len) (c .before .before .pre .0) (c .if1 .left)
 
 pub equals-byte-spec : {M : Type 1} → statement M
 equals-byte-spec =

@@ -73,7 +73,7 @@ pub const CAUSES: [Cause; 51] = [
         Rule("fn blank (cyl) {\n  let half cyl / 2\n  return half\n}", r#"{"cyl": 75, "expected": 37}"#),
     ),
     of(
-        "A `;` at the end of the line, a decimal point, or a sign that expressions don't have.",
+        "A `;` at the end of the line, a decimal point, a single `=`, or a sign that expressions don't have.",
         Rule("fn blank (cyl) {\n  return cyl;\n}", r#"{"cyl": 75, "expected": 75}"#),
     ),
     of(

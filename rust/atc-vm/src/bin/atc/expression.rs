@@ -3,7 +3,7 @@
 use crate::ask;
 use crate::blame::Blame;
 use crate::contract::Case;
-use crate::layout::{parameter_name, token_ends, Line};
+use crate::layout::{parameter_name, pieces, token_ends, Line};
 use crate::nearest::nearest;
 use crate::place::{named, quoted};
 use std::ops::Range;
@@ -31,34 +31,31 @@ impl<'a> Case<'a> {
         }
     }
 
-    // 13: the shortest beginning of the expression that is refused so ends with the character. The digit behind it keeps
-    // white space at its end from being trimmed.
+    // 13: the shortest beginning of the expression, in tokens and single characters, that is refused so ends with the
+    // character. The digit behind it keeps white space at its end from being trimmed.
     fn character(&self, expression: Range<usize>) -> Blame<'a> {
-        let within = &self.text()[expression.clone()];
-        let ends: Vec<usize> = within
-            .char_indices()
-            .map(|(at, c)| expression.start + at + c.len_utf8())
-            .collect();
-        let found = ask::first(ends.len(), |i| {
-            ask::number(&self.cut(ends[i], "0"), self.vector) == 13
+        let pieces = pieces(self.text(), expression.clone());
+        let found = ask::first(pieces.len(), |i| {
+            ask::number(&self.cut(pieces[i].end, "0"), self.vector) == 13
         });
-        let Some(c) = found.and_then(|i| within.chars().nth(i)) else {
+        let piece = found.map(|i| pieces[i].clone());
+        let Some((piece, c)) = piece.and_then(|p| Some((p.clone(), self.text()[p].chars().next()?)))
+        else {
             return self.in_rule(expression, "A character of this is in no token.");
         };
-        let end = found.map_or(expression.end, |i| ends[i]);
         let help = match c {
             ';' => Some("An expression ends with its line, without a sign."),
             '.' => Some("Numbers are whole."),
-            '=' | '<' | '>' | '!' => {
-                Some("Expressions have `+`, `-`, `*`, `/` and parentheses alone.")
+            '=' if self.text()[..piece.start].ends_with('<') => {
+                Some("There is no `<=`: `a <= b` is `(b < a) == 0`.")
             }
+            '=' => Some("Two of them compare, as in `a == b`."),
+            '>' => Some("There is no `>`: `a > b` is `b < a`."),
+            '!' => Some("There is no `!`: `a != b` is `(a == b) == 0`."),
             _ => None,
         };
-        self.in_rule(
-            end - c.len_utf8()..end,
-            format!("{} is in no token.", named(c)),
-        )
-        .help_if(help.map(String::from))
+        self.in_rule(piece, format!("{} is in no token.", named(c)))
+            .help_if(help.map(String::from))
     }
 
     // 15 to 19: the shortest beginning of the expression, in tokens, that is refused so ends with the token.

@@ -128,22 +128,26 @@ pub fn trimmed(text: &str, span: Range<usize>) -> Range<usize> {
     start..start + text[start..span.end].trim_end().len()
 }
 
-/// Where the tokens of an expression end.
-pub fn token_ends(text: &str, expression: Range<usize>) -> Vec<usize> {
-    let mut ends = Vec::new();
+/// The tokens of an expression, and the characters between them one by one.
+pub fn pieces(text: &str, expression: Range<usize>) -> Vec<Range<usize>> {
+    let mut pieces = Vec::new();
     let mut at = expression.start;
     while at < expression.end {
-        let rest = &text[at..expression.end];
-        let length = token_length(rest);
+        let length = token_length(&text[at..expression.end]);
+        pieces.push(at..at + length);
         at += length;
-        if !rest[..length].trim().is_empty() {
-            ends.push(at);
-        }
     }
-    ends
+    pieces
 }
 
-// Of the token, or the white space, that a text starts with.
+/// Where the tokens of an expression end.
+pub fn token_ends(text: &str, expression: Range<usize>) -> Vec<usize> {
+    let pieces = pieces(text, expression).into_iter();
+    let tokens = pieces.filter(|piece| !text[piece.clone()].trim().is_empty());
+    tokens.map(|token| token.end).collect()
+}
+
+// Of the token, or of the character that is in none, that a text starts with.
 fn token_length(text: &str) -> usize {
     let run = |within: fn(char) -> bool| text.find(|c| !within(c)).unwrap_or(text.len());
     let digit = |c: char| c.is_ascii_digit();
@@ -151,6 +155,7 @@ fn token_length(text: &str) -> usize {
     match text.chars().next() {
         Some(c) if digit(c) => run(digit),
         Some(c) if name(c) => run(name),
+        Some('=') if text.starts_with("==") => 2,
         Some(c) => c.len_utf8(),
         None => 0,
     }
