@@ -54,13 +54,13 @@ figures-join a {t} {u} {v} {w} {r} f g j =
     }
 
 -- the sign of an operator is the next token
-pub record Operator (s : List ℕ) (at : ℕ) (sign : Sign) (w : List ℕ) : Type 0 where
-  pub past : at < sign .end
-  pub inside : sign .end ≤ length s
-  pub is : symbol w ≡ sign .byte
-  pub list : tokens (drop at s) ≡ w ∷ tokens (drop (sign .end) s)
+record NextOperator (s : List ℕ) (at : ℕ) (sign : Sign) (w : List ℕ) : Type 0 where
+  past : at < sign .end
+  inside : sign .end ≤ length s
+  is : symbol w ≡ sign .byte
+  list : tokens (drop at s) ≡ w ∷ tokens (drop (sign .end) s)
 
-operator-next : (s : List ℕ) (at l : ℕ) (sign : Sign) → sign ≡ signAt s at → isOperatorAt l (sign .byte) ≡ true → Operator s at sign (tokenFrom s (tokenAt s at .start))
+operator-next : (s : List ℕ) (at l : ℕ) (sign : Sign) → sign ≡ signAt s at → isOperatorAt l (sign .byte) ≡ true → NextOperator s at sign (tokenFrom s (tokenAt s at .start))
 operator-next s at l sign e j =
     let q : sign .end ≡ tokenAt s at .end = ap (λ (x : Sign). x .end) e in
     let b : sign .byte ≡ symbol (first (tokens (drop at s))) = ap (λ (x : Sign). x .byte) e in
@@ -97,7 +97,7 @@ module _ {s : List ℕ} {at : ℕ} {c : Columns} {l d : ℕ} where
   }
 
   module _ {o : Operand} (j : isOperatorAt (suc l) (o .sign .byte) ≡ true) (g : Going s at c l d o) where
-    next-operator : Operator s (o .figures .next) (o .sign) (tokenFrom s (tokenAt s (o .figures .next) .start))
+    next-operator : NextOperator s (o .figures .next) (o .sign) (tokenFrom s (tokenAt s (o .figures .next) .start))
     next-operator = operator-next s (o .figures .next) (suc l) (o .sign) (g .sign) j
 
     goes-on : {w r : Operand} → ParsesAs s (o .sign .end) c l d (Done w) → Joined (o .sign .byte) (o .figures) (w .figures) (r .figures) → r .sign ≡ w .sign → Going s at c l d r
@@ -120,7 +120,7 @@ module _ {s : List ℕ} {at : ℕ} {c : Columns} {l d : ℕ} where
       where
         joining : (env : Env) → (t : Tree) × (Left env l d (tokens (drop at s)) t (tokens (drop (o .figures .next) s)) × FiguresOf t (o .figures))
             → (u : Tree) × (Reads env l d (tokens (drop (o .sign .end) s)) u (tokens (drop (w .figures .next) s)) × FiguresOf u (w .figures))
-            → Operator s (o .figures .next) (o .sign) (tokenFrom s (tokenAt s (o .figures .next) .start))
+            → NextOperator s (o .figures .next) (o .sign) (tokenFrom s (tokenAt s (o .figures .next) .start))
             → (t : Tree) × (Left env l d (tokens (drop at s)) t (tokens (drop (r .figures .next) s)) × FiguresOf t (r .figures))
         joining env (t, (x, f)) (u, (y, k)) i =
             let z = tokenFrom s (tokenAt s (o .figures .next) .start) in

@@ -72,7 +72,7 @@ token-some : {w : List ℕ} → IsToken w → 0 < length w
 token-some (Tokens.digits h e) = h
 token-some (Tokens.name e f) = omega arith
 token-some (Tokens.single e) = omega arith
-token-some Tokens.equals = omega arith
+token-some Tokens.pair = omega arith
 
 tokens-some : {s : List ℕ} {ts : List (List ℕ)} → Tokens s ts → Some ts
 tokens-some Tokens.none = tt

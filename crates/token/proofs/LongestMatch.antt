@@ -15,7 +15,7 @@ use Rattle.base.proofs.Lists.{all-weaker, all-append, all-behind, takeWhile-app
 use Rattle.decimal.specs.Decimal.{digit}
 use Rattle.token.specs.Token.{space, nameStart, namePart, sign, allowed, paired, extends, scan, tokens}
 use Rattle.token.specs.Code.Bytes.{allowedByte, goesOn}
-use Rattle.token.specs.Tokens.{IsToken, digits, name, single, equals, Longest, Tokens, none, parted, token}
+use Rattle.token.specs.Tokens.{IsToken, digits, name, single, pair, Longest, Tokens, none, parted, token}
 use Rattle.token.proofs.Classes.{space-bound, sign-bounds, start-bound, not-so, goesOn-equals, part-allowed, digit-allowed}
 use Rattle.token.proofs.Allowed.{no-equals, allowed-other, allowed-equals, allowed-byte, allowed-bytes}
 use Rattle.token.proofs.Tokens.{tokens-space, tokens-start, scan-more, scan-ended, extends-run, scan-run, scan-pair, goes-on-digits}
@@ -40,22 +40,22 @@ token-allowed : {w : List ℕ} → IsToken w → (s : List ℕ) → allowed (w +
 token-allowed (digits {w} h e) s = allowed-bytes w s (all-weaker digit allowedByte digit-allowed w e)
 token-allowed (name {a} {w} e f) s = allowed-bytes (a ∷ w) s (and-both (allowedByte a) (all allowedByte w) (part-allowed a (or-by-left (nameStart a) (digit a) e)) (all-weaker namePart allowedByte part-allowed w f))
 token-allowed (single {a} e) s = allowed-byte a s (or-by-right (space a || namePart a) (sign a) e)
-token-allowed equals s = refl
+token-allowed pair s = refl
 
 token-starts : {a : ℕ} {w : List ℕ} → IsToken (a ∷ w) → space a ≡ false
 token-starts {a} {w} (digits h e) = not-so (space a) (λ q. let x = space-bound a q in let y = between 48 57 a (and-left (digit a) (all digit w) e) in omega arith)
 token-starts {a} (name e f) = not-so (space a) (λ q. let x = space-bound a q in let y = start-bound a e in omega arith)
 token-starts {a} (single e) = not-so (space a) (λ q. let x = space-bound a q in sign-bounds a e (λ y z. omega arith) (λ y. omega arith))
-token-starts equals = refl
+token-starts pair = refl
 
 -- a token but `==` doesn't start with `=`; what follows its first byte goes on with it
 token-run : {P : Type 0} {a : ℕ} {w : List ℕ} → IsToken (a ∷ w) → (eqb a 61 ≡ false → all (goesOn a) w ≡ true → P) → (a ∷ w ≡ 61 ∷ 61 ∷ [] → P) → P
-token-run {a = a} {w = w} (digits h e) run pair =
+token-run {a = a} {w = w} (digits h e) run two =
     let d = and-left (digit a) (all digit w) e in
     run (no-equals a (digit-allowed a d)) (all-weaker digit (goesOn a) (λ b p. goes-on-digits a d b ∙ p) w (and-right (digit a) (all digit w) e))
-token-run {a = a} {w = w} (name e f) run pair = run (no-equals a (part-allowed a (or-by-left (nameStart a) (digit a) e))) (all-weaker namePart (goesOn a) (λ b p. name-goes a b e ∙ p) w f)
-token-run {a = a} (single e) run pair = run (no-equals a (or-by-right (space a || namePart a) (sign a) e)) refl
-token-run equals run pair = pair refl
+token-run {a = a} {w = w} (name e f) run two = run (no-equals a (part-allowed a (or-by-left (nameStart a) (digit a) e))) (all-weaker namePart (goesOn a) (λ b p. name-goes a b e ∙ p) w f)
+token-run {a = a} (single e) run two = run (no-equals a (or-by-right (space a || namePart a) (sign a) e)) refl
+token-run pair run two = two refl
 
 -- what goes on with a token by longest match goes on with its first byte
 token-extends : {a : ℕ} {w : List ℕ} (b : ℕ) → IsToken (a ∷ w) → extends (a ∷ w) b ≡ goesOn a b
@@ -82,7 +82,7 @@ token-more {a} {w} b g (digits h e) =
     digits {w = a ∷ w ++ b ∷ []} (omega arith) (all-behind digit (a ∷ w) (b ∷ []) e ∙ (and-both (digit b) true (sym (goes-on-digits a d b) ∙ g) refl))
 token-more {a} {w} b g (name e f) = name e (all-behind namePart w (b ∷ []) f ∙ (and-both (namePart b) true (sym (name-goes a b e) ∙ g) refl))
 token-more {a} b g (single e) = false-true (sym (sign-goes a b e) ∙ g)
-token-more b g equals = false-true g
+token-more b g pair = false-true g
 
 token-first : (a : ℕ) → space a ≡ false → allowedByte a ≡ true → IsToken (a ∷ [])
 token-first a n e =
@@ -142,7 +142,7 @@ longest-here a b w s u n (c ∷ v) r e h t =
 
 longest-pair : (s : List ℕ) → Longest (61 ∷ 61 ∷ []) s
 longest-pair [] = longest-end (61 ∷ 61 ∷ [])
-longest-pair (b ∷ s) = longest-here 61 b (61 ∷ []) s equals refl
+longest-pair (b ∷ s) = longest-here 61 b (61 ∷ []) s pair refl
 
 starting : (a : ℕ) (s : List ℕ) → allowedByte a ≡ true → Both s → Tokens (a ∷ s) (tokens (a ∷ s))
 starting a s e h =
@@ -158,28 +158,31 @@ going-on b s h p a w t =
     subst (Tokens (a ∷ w ++ b ∷ s)) (sym (scan-more a b w s (token-extends b t ∙ e))) (rw append-assoc at (h n .going a (w ++ b ∷ []) (token-more b e t))))
     (λ e. subst (Tokens (a ∷ w ++ b ∷ s)) (sym (scan-ended a b w s (token-extends b t ∙ e))) (token t (longest-here a b w s t e) p))
 
--- the second part is of a text behind a `=`
-derives : (s : List ℕ) → (allowed s ≡ true → Both s) × (paired s ≡ true → Tokens (61 ∷ s) (tokens (61 ∷ s)))
+-- of a text, and of one behind a `=`
+abbrev Derivable : List ℕ → Type 0
+Derivable s = (allowed s ≡ true → Both s) × (paired s ≡ true → Tokens (61 ∷ s) (tokens (61 ∷ s)))
+
+derives : (s : List ℕ) → Derivable s
 unfolding scan
 derives [] = (λ e. record { start = none; going = λ a w t. token t (longest-end (a ∷ w)) none }, λ e. false-true e)
 derives (b ∷ s) =
     let ih = derives s in
-    (λ e. record { start = begins ih e; going = going-on b s (behind ih e) (begins ih e) }, λ e. pair ih e)
+    (λ e. record { start = begins ih e; going = going-on b s (behind ih e) (begins ih e) }, λ e. second ih e)
   where
-    behind : (allowed s ≡ true → Both s) × (paired s ≡ true → Tokens (61 ∷ s) (tokens (61 ∷ s))) → allowed (b ∷ s) ≡ true → eqb b 61 ≡ false → Both s
+    behind : Derivable s → allowed (b ∷ s) ≡ true → eqb b 61 ≡ false → Both s
     behind ih e n = ih .0 (and-right (allowedByte b) (allowed s) (sym (allowed-other b s n) ∙ e))
 
-    begins : (allowed s ≡ true → Both s) × (paired s ≡ true → Tokens (61 ∷ s) (tokens (61 ∷ s))) → allowed (b ∷ s) ≡ true → Tokens (b ∷ s) (tokens (b ∷ s))
+    begins : Derivable s → allowed (b ∷ s) ≡ true → Tokens (b ∷ s) (tokens (b ∷ s))
     begins ih e =
         by-bool (eqb b 61)
         (λ q. subst (λ (x : ℕ). Tokens (x ∷ s) (tokens (x ∷ s))) (sym (eqb-true b 61 q)) (ih .1 (sym (allowed-equals b s q) ∙ e)))
         (λ n. starting b s (and-left (allowedByte b) (allowed s) (sym (allowed-other b s n) ∙ e)) (behind ih e n))
 
-    pair : (allowed s ≡ true → Both s) × (paired s ≡ true → Tokens (61 ∷ s) (tokens (61 ∷ s))) → paired (b ∷ s) ≡ true → Tokens (61 ∷ b ∷ s) (tokens (61 ∷ b ∷ s))
-    pair ih e =
+    second : Derivable s → paired (b ∷ s) ≡ true → Tokens (61 ∷ b ∷ s) (tokens (61 ∷ b ∷ s))
+    second ih e =
         let p = eqb-true b 61 (and-left (eqb b 61) (allowed s) e) in
         let h = ih .0 (and-right (eqb b 61) (allowed s) e) in
-        subst (λ (x : ℕ). Tokens (61 ∷ x ∷ s) (tokens (61 ∷ x ∷ s))) (sym p) (subst (Tokens (61 ∷ 61 ∷ s)) (sym (scan-more 61 61 [] s refl ∙ scan-pair s)) (token equals (longest-pair s) (h .start)))
+        subst (λ (x : ℕ). Tokens (61 ∷ x ∷ s) (tokens (61 ∷ x ∷ s))) (sym p) (subst (Tokens (61 ∷ 61 ∷ s)) (sym (scan-more 61 61 [] s refl ∙ scan-pair s)) (token pair (longest-pair s) (h .start)))
 
 -- a text has the tokens ts exactly where all its bytes part tokens or are in one, and `tokens` gives ts
 pub longest-match : (s : List ℕ) (ts : List (List ℕ)) → Tokens s ts ↔ ((allowed s ≡ true) × (tokens s ≡ ts))

@@ -14,7 +14,7 @@ pub data IsToken : List ℕ → Type 0 where
   digits : {w : List ℕ} → 0 < length w → all digit w ≡ true → IsToken w
   name : {a : ℕ} {w : List ℕ} → nameStart a ≡ true → all namePart w ≡ true → IsToken (a ∷ w)
   single : {a : ℕ} → sign a ≡ true → IsToken (a ∷ [])
-  equals : IsToken (ascii "==")
+  pair : IsToken (ascii "==")
 
 -- no token starts with w and goes on into s
 abbrev pub Longest : List ℕ → List ℕ → Type 0

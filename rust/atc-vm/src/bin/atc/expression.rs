@@ -38,11 +38,14 @@ impl<'a> Case<'a> {
         let found = ask::first(pieces.len(), |i| {
             ask::number(&self.cut(pieces[i].end, "0"), self.vector) == 13
         });
-        let piece = found.map(|i| pieces[i].clone());
-        let Some((piece, c)) = piece.and_then(|p| Some((p.clone(), self.text()[p].chars().next()?)))
-        else {
+        let Some(piece) = found.map(|i| pieces[i].clone()) else {
             return self.in_rule(expression, "A character of this is in no token.");
         };
+        // No token is refused so: this piece is a single character.
+        let c = self.text()[piece.clone()]
+            .chars()
+            .next()
+            .unwrap_or_default();
         let help = match c {
             ';' => Some("An expression ends with its line, without a sign."),
             '.' => Some("Numbers are whole."),
