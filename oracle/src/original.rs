@@ -3,3 +3,4 @@ include!(concat!(env!("OUT_DIR"), "/original.rs"));
 pub mod domain;
 pub mod kinds;
 pub mod numbers;
+pub mod tree;

@@ -1,6 +1,8 @@
-//! Compares the library with the original, call by call: numbers, carried values, bytes written and bytes not written.
+//! Compares the library with the original, call by call: numbers, carried values, bytes written and bytes not written; and with
+//! document 02 where the original can't be asked and what a text means is known from how it was made (`comparisons`).
 //! `compare [ROUNDS]`: short inputs once, drawn ones in each round. The seeds are fixed. Exit status 1 on a difference.
 mod assemble;
+mod comparisons;
 mod gate;
 mod read;
 mod run;
@@ -13,7 +15,8 @@ fn main() {
     let (assembled, others) = thread::scope(|s| {
         let assembled = s.spawn(|| assemble::compare(rounds));
         let others = s.spawn(|| {
-            let mut all = read::compare(rounds);
+            let mut all = vec![comparisons::compare(rounds)];
+            all.extend(read::compare(rounds));
             all.push(gate::compare(rounds));
             all.extend(run::compare(rounds));
             all

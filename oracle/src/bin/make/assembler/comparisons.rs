@@ -3,86 +3,7 @@
 //! are by hand.
 use super::{Cases, MAX, OVER, ROOM};
 use crate::draw::next;
-
-enum Tree {
-    Number(u64),
-    Join(&'static Operator, Box<Tree>, Box<Tree>),
-}
-
-struct Operator {
-    sign: &'static str,
-    level: u8,
-    word: &'static str,
-    value: fn(u64, u64) -> Option<u64>,
-}
-
-static OPERATORS: [Operator; 6] = [
-    Operator { sign: "*", level: 1, word: "Mul", value: |a, b| Some(a.wrapping_mul(b)) },
-    Operator { sign: "/", level: 1, word: "Div", value: |a, b| a.checked_div(b) },
-    Operator { sign: "+", level: 2, word: "Add", value: |a, b| Some(a.wrapping_add(b)) },
-    Operator { sign: "-", level: 2, word: "Sub", value: |a, b| Some(a.wrapping_sub(b)) },
-    Operator { sign: "<", level: 3, word: "Lt", value: |a, b| Some(u64::from(a < b)) },
-    Operator { sign: "==", level: 3, word: "Eq", value: |a, b| Some(u64::from(a == b)) },
-];
-
-impl Tree {
-    fn drawn(seed: &mut u64, depth: usize) -> Tree {
-        if depth == 0 || next(seed) % 6 == 0 {
-            let numbers = [0, 1, 2, 3, 400, u64::MAX];
-            return Tree::Number(numbers[next(seed) % numbers.len()]);
-        }
-        // every other operator compares
-        let among = if next(seed) % 2 == 0 { &OPERATORS[4..] } else { &OPERATORS[..] };
-        let operator = &among[next(seed) % among.len()];
-        Tree::Join(operator, Box::new(Tree::drawn(seed, depth - 1)), Box::new(Tree::drawn(seed, depth - 1)))
-    }
-
-    fn value(&self) -> Option<u64> {
-        match self {
-            Tree::Number(n) => Some(*n),
-            Tree::Join(o, a, b) => (o.value)(a.value()?, b.value()?),
-        }
-    }
-
-    fn k(&self) -> u64 {
-        match self {
-            Tree::Number(_) => 1,
-            Tree::Join(_, a, b) => a.k() + b.k(),
-        }
-    }
-
-    fn p(&self) -> u64 {
-        match self {
-            Tree::Number(_) => 1,
-            Tree::Join(_, a, b) => a.p().max(b.p() + 1),
-        }
-    }
-
-    fn operations(&self) -> String {
-        match self {
-            Tree::Number(n) => format!("Push {n}\n"),
-            Tree::Join(o, a, b) => format!("{}{}{}\n", a.operations(), b.operations(), o.word),
-        }
-    }
-
-    /// As an expression, in parentheses where its operator is looser than a level.
-    fn written(&self, seed: &mut u64, level: u8) -> String {
-        match self {
-            Tree::Number(n) => n.to_string(),
-            Tree::Join(o, a, b) => {
-                let blank = ["", " ", "\t", "  "];
-                let mut around = || blank[next(seed) % 4];
-                let (before, behind) = (around(), around());
-                let inner = format!("{}{before}{}{behind}{}", a.written(seed, o.level), o.sign, b.written(seed, o.level - 1));
-                if o.level <= level && next(seed) % 8 > 0 {
-                    inner
-                } else {
-                    format!("({inner})")
-                }
-            }
-        }
-    }
-}
+use original::tree::{Tree, OPERATORS};
 
 impl Cases<'_> {
     /// A contract with the tree of its last return. The vector names what that is worth.
@@ -166,8 +87,8 @@ fn accepted(c: &mut Cases) {
     }
     let mut seed = 362436069362436069u64;
     for _ in 0..400 {
-        let tree = Tree::drawn(&mut seed, 4);
-        let expression = tree.written(&mut seed, 3);
+        let tree = Tree::drawn(&mut || next(&mut seed), 4);
+        let expression = tree.written(&mut || next(&mut seed), 3);
         c.compared(&format!("fn t(){{return {expression}}}"), "", "t", &tree);
     }
 }
