@@ -1,6 +1,7 @@
 //! `assemble` on contracts with `<` and `==`, which the original doesn't have: drawn trees, written out as expressions.
 use crate::tally::*;
 use atc_vm::sys::{self, Answer};
+use original::domain::free_of_both_signs;
 use original::tree::Tree;
 
 fn check(tree: &Tree, expression: &str, out: &mut Buffer<u8>) -> Result<Seen, String> {
@@ -28,9 +29,12 @@ pub fn compare(rounds: u64) -> Tally {
     let mut out = Buffer::new(|i| (i * 131 % 251) as u8);
     for round in 0..rounds {
         let mut d = Draw::new(5000 + round);
-        for i in 0..200_000 {
-            let tree = Tree::drawn(&mut || d.below(1 << 20), i % 8);
+        for i in 0..220_000 {
+            let tree = Tree::drawn(&mut || d.below(1 << 20), 1 + i % 7);
             let expression = tree.written(&mut || d.below(1 << 20), 3);
+            if free_of_both_signs(expression.as_bytes()) {
+                continue;
+            }
             match check(&tree, &expression, &mut out) {
                 Ok(seen) => tally.saw(seen),
                 Err(what) => tally.differs(|| (expression.len(), format!("expression {expression}\n{what}"))),

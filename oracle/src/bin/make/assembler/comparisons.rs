@@ -1,11 +1,21 @@
-//! The cases of crates/replay with the signs of request 101, `<` and `==`: the original has neither, and the answers are document
-//! 02's. Accepted expressions are drawn as trees and written out from them, so that nothing here reads an expression; refused ones
-//! are by hand.
+//! The cases of crates/replay for request 101. The original has neither `<` nor `==`: contracts with them have document 02's answers,
+//! the few without them the original's. Accepted expressions are drawn as trees and written out from them, so that nothing here
+//! reads an expression; refused ones are by hand.
 use super::{Cases, MAX, OVER, ROOM};
 use crate::draw::next;
+use original::domain::free_of_both_signs;
 use original::tree::{Tree, OPERATORS};
 
 impl Cases<'_> {
+    /// The original's answer where the contract is left to it, else the one given, which is document 02's.
+    fn answered(&mut self, contract: &str, vector: &str, stem: &[u8], number: u64, values: &[u64], output: &str) {
+        if free_of_both_signs(contract.as_bytes()) {
+            self.bytes(contract.as_bytes(), vector.as_bytes(), stem);
+        } else {
+            self.added(contract, vector, stem, number, values, output);
+        }
+    }
+
     /// A contract with the tree of its last return. The vector names what that is worth.
     fn compared(&mut self, contract: &str, keys: &str, stem: &str, tree: &Tree) {
         let expected = tree.value().unwrap_or(0);
@@ -13,17 +23,17 @@ impl Cases<'_> {
         let output = format!("# contract: {stem}\n# expected: {expected}\n{}Halt\n", tree.operations());
         let stem = stem.as_bytes();
         match tree.value() {
-            None => self.added(contract, &vector(expected), stem, 23, &[], ""),
-            Some(_) if output.len() > ROOM => self.added(contract, &vector(expected), stem, 26, &[], ""),
+            None => self.answered(contract, &vector(expected), stem, 23, &[], ""),
+            Some(_) if output.len() > ROOM => self.answered(contract, &vector(expected), stem, 26, &[], ""),
             Some(_) => {
-                self.added(contract, &vector(expected), stem, 0, &[output.len() as u64, tree.k(), tree.p(), expected], &output);
-                self.added(contract, &vector(expected ^ 1), stem, 24, &[], "");
+                self.answered(contract, &vector(expected), stem, 0, &[output.len() as u64, tree.k(), tree.p(), expected], &output);
+                self.answered(contract, &vector(expected ^ 1), stem, 24, &[], "");
             }
         }
     }
 
     fn refused_body(&mut self, body: &str, number: u64, line: u64) {
-        self.added(&format!("fn t(a){{{body}}}"), "{\"a\":5,\"expected\":1}", b"t", number, &[line], "");
+        self.answered(&format!("fn t(a){{{body}}}"), "{\"a\":5,\"expected\":1}", b"t", number, &[line], "");
     }
 }
 
@@ -158,7 +168,7 @@ fn refused(c: &mut Cases) {
     for (names, keys, e, number) in
         [("==", "\"==\":5,", "1 ==== 1", 19), ("=", "\"=\":5,", "=", 13), ("=", "\"=\":5,", "= == =", 13), ("<", "\"<\":5,", "1 << 1", 19)]
     {
-        c.added(&format!("fn t({names}){{return {e}}}"), &format!("{{{keys}\"expected\":1}}"), b"t", number, &[1], "");
+        c.answered(&format!("fn t({names}){{return {e}}}"), &format!("{{{keys}\"expected\":1}}"), b"t", number, &[1], "");
     }
 }
 
