@@ -1,5 +1,7 @@
 // Assembles the contract and the vector in the two files that its arguments name. The ops text goes to standard
 // output; a refusal, and a file that can't be read, are named on standard error.
+#![tactic(auto)]
+
 ghost use Rattle.std.specs.Prelude.{◌≤◌, length};
 
 mod message;

@@ -7,7 +7,7 @@ use crate::message::message;
 use assembler::AssemblyAnswer;
 
 // How many bytes of a buffer are ops text for standard output, or a message for standard error.
-#[derive(Drop)]
+#[derive(Clone, Copy)]
 pub enum Said {
     Text(usize),
     Message(usize),

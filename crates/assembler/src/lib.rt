@@ -1,4 +1,6 @@
 // Assembly: a contract and its vector to ops text in a lent buffer.
+#![tactic(auto)]
+
 ghost use Rattle.std.specs.Prelude.{◌≡◌, length};
 ghost use Rattle.contract.specs.Output.{assembled};
 ghost use Rattle.assembler.specs.Answers.{assembly_answer_numbered, Assembles};
@@ -15,7 +17,7 @@ use scope::state::Status;
 use stem::stem_fits;
 
 // A success has the bytes written, k, p and the value.
-#[derive(Drop)]
+#[derive(Clone, Copy)]
 pub enum AssemblyAnswer {
     Success {
         written: usize,

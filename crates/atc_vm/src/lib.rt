@@ -1,4 +1,6 @@
 // The C ABI: each call of document 01, with its number as the result and what the answer carries in eight words.
+#![tactic(auto)]
+
 ghost use Rattle.std.specs.Prelude.{◌≡◌, length};
 ghost use Rattle.context.specs.Gate.{gate_of, gate_numbered};
 ghost use Rattle.contract.specs.Output.{assembled};

@@ -1,4 +1,6 @@
 // Tests of a byte, joined with no branch between them; choices by a test; wider numbers.
+#![tactic(auto)]
+
 ghost use Rattle.std.specs.Prelude.{min, ◌<◌, ◌≡◌, cond, ◌&&◌, ◌||◌};
 ghost use Rattle.base.specs.Range.{within};
 

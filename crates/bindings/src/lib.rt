@@ -1,7 +1,9 @@
 // The table of the bindings that are made, oldest first.
+#![tactic(auto)]
+
 pub mod names;
 
-#[derive(Drop)]
+#[derive(Clone, Copy)]
 pub struct Bindings {
     pub name_start: [u16; 256],
     pub name_len: [u16; 256],
@@ -13,7 +15,7 @@ pub struct Bindings {
 }
 
 // What a binding needs beside the table.
-#[derive(Drop)]
+#[derive(Clone, Copy)]
 pub struct Values {
     pub value: [u64; 256],
     pub none: [bool; 256],

@@ -5,7 +5,7 @@ ghost use Rattle.bindings.specs.Code.Table.{tag_of, mix, has_name, found, has_ta
 
 use base::{either, wide};
 
-#[derive(Drop)]
+#[derive(Clone, Copy)]
 pub enum BoundName {
     At(usize),
     Nothing,

@@ -1,4 +1,6 @@
 // The body of a function, line by line.
+#![tactic(auto)]
+
 mod statement;
 
 ghost use Rattle.std.specs.Prelude.{take};
@@ -25,7 +27,7 @@ use statement::{StatementSpans, statement_at};
 const MAX_K: u64 = 32768;
 
 // The figures of an expression, or why it is refused.
-#[derive(Drop)]
+#[derive(Clone, Copy)]
 pub enum CheckedExpression {
     Is(Figures),
     Refused(AssembleError),

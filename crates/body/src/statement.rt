@@ -6,7 +6,7 @@ use search::{Found, find_byte, starts_with};
 use source::parameters::{Span, trimmed_span};
 
 // A let has a name and an expression, a return an expression.
-#[derive(Drop)]
+#[derive(Clone, Copy)]
 pub enum StatementSpans {
     Skipped,
     NoEquals,

@@ -1,4 +1,6 @@
 // What is tested before a run: the lent buffers' lengths, and the verifier; and the refusals of a call, those of its run included.
+#![tactic(auto)]
+
 ghost use Rattle.std.specs.Prelude.{◌≡◌};
 ghost use Rattle.numbered.specs.Numbered.{Answered};
 ghost use Rattle.checks.specs.Numbers.{vm_error_numbered, check_numbered};
@@ -9,7 +11,7 @@ mod operations;
 use kinds::{MAX_PROGRAM_OPS, MAX_STACK_ITEMS, MAX_STORAGE_SLOTS};
 use numbered::{Numbered, carrying_one, carrying_two, plain};
 
-#[derive(Drop)]
+#[derive(Clone, Copy)]
 pub enum VmError {
     BufferLengths,
     Context(context::ContextError),
@@ -48,7 +50,7 @@ impl VmError {
     }
 }
 
-#[derive(Drop)]
+#[derive(Clone, Copy)]
 pub enum Check {
     Passed,
     Refused(VmError),

@@ -1,1 +1,2 @@
 // Theorems on texts as lists of code points; there is no code.
+#![tactic(auto)]

@@ -1,4 +1,6 @@
 // A contract compiled and run: assembly, reading and transition in a row.
+#![tactic(auto)]
+
 ghost use Rattle.std.specs.Prelude.{◌≡◌};
 ghost use Rattle.context.specs.Gate.{gate_of};
 ghost use Rattle.compile.specs.Numbers.{compiled_numbered};
@@ -11,7 +13,7 @@ use perform::{RunAnswer, State};
 use scope::refusal::AssembleError;
 
 // A refusal of assembly or reading ends the call. Otherwise: what assembly and reading gave, and the transition's answer.
-#[derive(Drop)]
+#[derive(Clone, Copy)]
 pub enum Compiled {
     NotAssembled(AssembleError),
     NotRead(OpsError),

@@ -1,4 +1,6 @@
 // The chain gate: what a state transition tests of its context before anything else is looked at.
+#![tactic(auto)]
+
 ghost use Rattle.std.specs.Prelude.{◌≡◌, ◌+◌, ◌≤◌, length, drop};
 ghost use Rattle.base.specs.Equal.{equal};
 ghost use Rattle.base.specs.Code.Skips.{SkipsIf};
@@ -13,7 +15,7 @@ pub const CHAIN_ID: [u8; 3] = *b"atc";
 // How many bytes are compared at a time.
 const BLOCK: usize = 16;
 
-#[derive(Drop)]
+#[derive(Clone, Copy)]
 pub enum ContextError {
     InvalidChainId,
     InvalidNetworkId,
@@ -38,7 +40,7 @@ impl ContextError {
     }
 }
 
-#[derive(Drop)]
+#[derive(Clone, Copy)]
 pub enum Gate {
     Passed,
     Refused(ContextError),

@@ -1,4 +1,6 @@
 // What assembly makes of a contract and a vector, before anything is written.
+#![tactic(auto)]
+
 ghost use Rattle.std.specs.Prelude.{◌≡◌};
 ghost use Rattle.base.specs.Outcome.{is};
 ghost use Rattle.body.specs.Code.LastReturn.{Standing};
@@ -21,7 +23,7 @@ const MAX_TEXT_BYTES: usize = 65536;
 // The bindings and the last return, which has the expected value; or the refusal, with no binding and no expected value. Left open are what
 // the table's arrays hold from the count on, the number beside a binding whose value is none, and at which of the places that give the same
 // names and trees the bindings stand.
-#[derive(Drop)]
+#[derive(Clone, Copy)]
 pub struct CheckedContract {
     pub state: TableState,
     pub expected: u64,

@@ -1,4 +1,6 @@
 // Numbers in plain decimal: read from a text, and written to a buffer.
+#![tactic(auto)]
+
 ghost use Rattle.std.specs.Prelude.{◌≡◌, ◌+◌, ◌*◌, ◌^◌, ◌<◌, ◌≤◌, ltb, length, get_or, drop};
 ghost use Rattle.base.specs.Overwrite.{overwrite};
 ghost use Rattle.decimal.specs.Decimal.{digit, without_plus, number_of, decimal};
@@ -9,25 +11,25 @@ ghost use Rattle.decimal.specs.Code.Zeros.{ZerosTo, ZerosAt};
 
 use base::{both, in_range, widen};
 
-#[derive(Drop)]
+#[derive(Clone, Copy)]
 pub enum Value {
     Is(u64),
     TooLarge,
 }
 
-#[derive(Drop)]
+#[derive(Clone, Copy)]
 pub struct Digits {
     pub len: usize,
     pub value: Value,
 }
 
-#[derive(Drop)]
+#[derive(Clone, Copy)]
 pub enum Number {
     Is(u64),
     Invalid,
 }
 
-#[derive(Drop)]
+#[derive(Clone, Copy)]
 pub enum Written {
     To(usize),
     NoRoom,

@@ -9,7 +9,7 @@ use decimal::{Value, digits_at};
 use expression::parts::symbol_byte;
 use token::{is_digit, token_at};
 
-#[derive(Drop)]
+#[derive(Clone, Copy)]
 pub enum Factor {
     Open,
     Literal(u64),
@@ -18,7 +18,7 @@ pub enum Factor {
 }
 
 // A factor, and where its first token ends.
-#[derive(Drop)]
+#[derive(Clone, Copy)]
 pub struct FactorAt {
     pub factor: Factor,
     pub end: usize,

@@ -1,5 +1,7 @@
 // Emission: the operations of an expression as text, left side, right side, operator. A name is written out by writing out its binding's
 // expression; what a binding wrote once is copied from the output.
+#![tactic(auto)]
+
 ghost use Rattle.std.specs.Prelude.{◌+◌, ◌<◌, ◌≤◌, length};
 ghost use Rattle.std.proofs.Math.Seq.{slice};
 ghost use Rattle.bindings.specs.Code.Source.{sources_of, sources, tree_of, AllInText};

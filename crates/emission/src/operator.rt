@@ -6,7 +6,7 @@ use crate::waiting::{LEVELS, WAITING, level_of, pop};
 use expression::parts::sign_at;
 
 // Where the expression goes on, the offset behind what was written, how many operators wait, and whether a factor is due.
-#[derive(Drop)]
+#[derive(Clone, Copy)]
 pub struct Turn {
     pub at: usize,
     pub to: usize,

@@ -22,7 +22,7 @@ const NO_LEVEL: u8 = LEVELS + 1;
 pub const WAITING: usize = LEVELS as usize + (LEVELS as usize + 1) * DEPTH;
 
 // The offset behind what was written, and how many wait still.
-#[derive(Drop)]
+#[derive(Clone, Copy)]
 pub struct Popped {
     pub to: usize,
     pub left: usize,

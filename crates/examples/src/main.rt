@@ -1,6 +1,8 @@
 // Makes the calls of document 01's bench examples and prints what they give, a line for each part: the example's name, the
 // number of the answer, the values that go with it, and then, where the example speaks of a buffer, its first entries.
 // E1's text follows its line.
+#![tactic(auto)]
+
 mod assemblies;
 mod gate;
 mod in_row;

@@ -1,1 +1,2 @@
 // The compile statement, a theorem about three exports called in a row; there is no code.
+#![tactic(auto)]

@@ -1,4 +1,6 @@
 // Expressions of a contract: what one means among the bindings made before it.
+#![tactic(auto)]
+
 ghost use Rattle.std.specs.Prelude.{◌≡◌, ◌≤◌, length};
 ghost use Rattle.grammar.specs.Parse.{factor, term, sum, expression};
 ghost use Rattle.expression.specs.Answer.{expr_error_numbered};
@@ -20,7 +22,7 @@ use operands::{close, literal, name, whole};
 use parts::{Sign, is_comparison, is_product, is_sum, sign_at, symbol_byte};
 use token::{is_all_tokens, is_digit, token_at};
 
-#[derive(Drop)]
+#[derive(Clone, Copy)]
 pub enum ExprError {
     InvalidCharacter,
     UnexpectedEnd,
@@ -47,20 +49,20 @@ impl ExprError {
     }
 }
 
-#[derive(Drop)]
+#[derive(Clone, Copy)]
 pub enum ParseResult {
     Done(Figures),
     Refused(ExprError),
 }
 
 // An operand that is read, and the sign behind it.
-#[derive(Drop)]
+#[derive(Clone, Copy)]
 struct Operand {
     pub figures: Figures,
     pub sign: Sign,
 }
 
-#[derive(Drop)]
+#[derive(Clone, Copy)]
 enum OperandResult {
     Done(Operand),
     Refused(ExprError),

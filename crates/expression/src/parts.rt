@@ -7,7 +7,7 @@ use base::{either, pick};
 use token::token_at;
 
 // A token as a sign, and where the token ends: its one byte, = for ==, or 0.
-#[derive(Drop)]
+#[derive(Clone, Copy)]
 pub struct Sign {
     pub byte: u8,
     pub end: usize,

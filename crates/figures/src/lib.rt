@@ -1,14 +1,16 @@
 // The figures of an expression: document 01's k, p and value, and the length of the text it is written as.
+#![tactic(auto)]
+
 pub mod joining;
 
-#[derive(Drop)]
+#[derive(Clone, Copy)]
 pub enum TreeValue {
     Is(u64),
     None,
 }
 
 // An expression that is read: where it ends, and its figures.
-#[derive(Drop)]
+#[derive(Clone, Copy)]
 pub struct Figures {
     pub next: usize,
     pub k: u64,

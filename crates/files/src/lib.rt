@@ -1,9 +1,11 @@
 // Arguments and files, read into a buffer as far as it holds them.
+#![tactic(auto)]
+
 ghost use Rattle.io.specs.Counts.{IsPrefixLen};
 ghost use Rattle.files.specs.Code.Held.{Held};
 
 // How many bytes stand in the buffer, or that the file can't be opened or read.
-#[derive(Drop)]
+#[derive(Clone, Copy)]
 pub enum Contents {
     Read(usize),
     Unreadable,

@@ -1,6 +1,8 @@
 // The first place of a key in double quotes. Blocks of places are passed by a test that has no branch. What it costs to try places one by
 // one is bounded: beyond the bound the search is that of Knuth, Morris and Pratt, so that no key takes more than linear time in a vector of
 // an assembly. A key of quotes alone has a search of its own.
+#![tactic(auto)]
+
 ghost use Rattle.std.specs.Prelude.{◌≡◌, true, false, ◌+◌, ◌<◌, ◌≤◌, length, drop};
 ghost use Rattle.base.specs.Code.Skips.{Skips};
 ghost use Rattle.search.specs.First.{prefix_of, first_at};
@@ -20,7 +22,7 @@ const NEAR: usize = 32;
 const MOST: usize = 65534;
 
 // A byte of the key in double quotes, and its place there.
-#[derive(Drop)]
+#[derive(Clone, Copy)]
 pub struct Mark {
     pub place: usize,
     pub byte: u8,

@@ -1,4 +1,6 @@
 // The first occurrence of a byte string in time linear in both lengths: the search of Knuth, Morris and Pratt (1977).
+#![tactic(auto)]
+
 ghost use Rattle.std.specs.Prelude.{◌≡◌, ◌+◌, ◌<◌, ◌≤◌, length};
 ghost use Rattle.search.specs.First.{first_at};
 ghost use Rattle.kmp.specs.Code.Shift.{Table};

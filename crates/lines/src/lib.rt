@@ -1,4 +1,6 @@
 // The lines of a text, one after the other, by their offsets.
+#![tactic(auto)]
+
 ghost use Rattle.std.specs.Prelude.{◌≡◌, ◌+◌, ◌<◌, ◌≤◌, length, drop};
 ghost use Rattle.lines.specs.Cursor.{line_at, first_line};
 ghost use Rattle.lines.specs.Code.Visits.{feed_from};
@@ -6,14 +8,14 @@ ghost use Rattle.lines.specs.Code.Visits.{feed_from};
 use search::Found;
 
 // A line's text stands from start to end; the line after it starts at next.
-#[derive(Drop)]
+#[derive(Clone, Copy)]
 pub struct Line {
     pub start: usize,
     pub end: usize,
     pub next: usize,
 }
 
-#[derive(Drop)]
+#[derive(Clone, Copy)]
 pub enum Step {
     Next(Line),
     Done,

@@ -1,4 +1,6 @@
 // The metered run: one operation with its price after another.
+#![tactic(auto)]
+
 ghost use Rattle.std.specs.Prelude.{◌≡◌, length};
 ghost use Rattle.machine.specs.Machine.{decode};
 ghost use Rattle.machine.specs.Code.Registers.{Running, RefinesRun};

@@ -1,4 +1,6 @@
 // The kind of operation whose word a trimmed line starts with.
+#![tactic(auto)]
+
 pub mod word;
 
 ghost use Rattle.std.specs.Prelude.{◌≡◌, cond};
@@ -9,7 +11,7 @@ use base::both;
 use word::{four, one, two};
 
 // A kind that stands alone; a kind, and the offset of what follows its word and the space; no operation.
-#[derive(Drop)]
+#[derive(Clone, Copy)]
 pub enum Head {
     Alone(u8),
     Before(u8, usize),

@@ -1,9 +1,11 @@
 // Document 01's number of an answer, with the values that its entry names.
+#![tactic(auto)]
+
 ghost use Rattle.std.specs.Prelude.{◌≡◌, [], ◌∷◌};
 ghost use Rattle.numbered.specs.Numbered.{plain, carrying, located};
 
 // The values stand first among the eight words, and the others are 0.
-#[derive(Drop)]
+#[derive(Clone, Copy)]
 pub struct Numbered {
     pub number: u64,
     pub words: [u64; 8],

@@ -1,4 +1,6 @@
 // What one line of an ops text says: an operation, nothing, or a refusal.
+#![tactic(auto)]
+
 pub mod line;
 
 ghost use Rattle.std.specs.Prelude.{◌≡◌};
@@ -7,7 +9,7 @@ ghost use Rattle.operation.specs.Errors.{ops_error_numbered};
 use numbered::{Numbered, carrying_one, carrying_three, plain};
 
 // Lines are counted from 1. Offsets count bytes from 0 in the whole text. The first one and the last two are given by crate ops alone.
-#[derive(Drop)]
+#[derive(Clone, Copy)]
 pub enum OpsError {
     NotUtf8,
     BadPush {

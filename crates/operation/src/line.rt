@@ -14,12 +14,12 @@ use mnemonic::{Head, classify};
 use plain_op::{Plain, plain_at};
 
 // The rules for operands.
-#[derive(Drop)]
+#[derive(Clone, Copy)]
 pub enum OperandRule {
     FromStr,
 }
 
-#[derive(Drop)]
+#[derive(Clone, Copy)]
 pub enum LineRead {
     Skip,
     Op { kind: u8, operand: u64 },
@@ -27,14 +27,14 @@ pub enum LineRead {
 }
 
 // What the line at an offset says, and where the next one starts.
-#[derive(Drop)]
+#[derive(Clone, Copy)]
 pub struct ReadLine {
     pub read: LineRead,
     pub next: usize,
 }
 
 // What a line says and where the next one starts, as far as it is known from the line's start on.
-#[derive(Drop)]
+#[derive(Clone, Copy)]
 pub enum FastLine {
     Op { kind: u8, operand: u64, next: usize },
     Skip(usize),

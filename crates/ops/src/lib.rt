@@ -1,4 +1,6 @@
 // Ops text: one operation to a line, read into kinds and operands.
+#![tactic(auto)]
+
 ghost use Rattle.std.specs.Prelude.{◌≡◌, true};
 ghost use Rattle.base.specs.Part.{Part};
 ghost use Rattle.operation.specs.Line.{from_str};
@@ -13,7 +15,7 @@ use numbered::{Numbered, carrying_one};
 use operation::OpsError;
 use operation::line::{LineRead, line_read_at};
 
-#[derive(Drop)]
+#[derive(Clone, Copy)]
 pub enum ParsedOps {
     Read(usize),
     Refused(OpsError),

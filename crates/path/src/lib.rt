@@ -1,4 +1,6 @@
 // The stem of the file that a Unix path names, as a part of what was lent.
+#![tactic(auto)]
+
 ghost use Rattle.std.specs.Prelude.{◌≡◌, ◌≤◌, length};
 ghost use Rattle.path.specs.Stem.{ignored, parent, component, file_name, stem_of, file_stem};
 ghost use Rattle.path.specs.Code.Scan.{LastAt, StartsPart};

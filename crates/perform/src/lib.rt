@@ -1,5 +1,7 @@
 // The run behind its tests: it works in the work buffer on those of the used slots that it needs, and the storage is written
 // once, when the run has succeeded.
+#![tactic(auto)]
+
 ghost use Rattle.std.specs.Prelude.{◌≡◌, ℕ, ◌≤◌, length};
 ghost use Rattle.machine.specs.Machine.{Progress};
 ghost use Rattle.machine.specs.Code.Alike.{AlikeBut};
@@ -17,12 +19,12 @@ use machine::Regs;
 use numbered::{Numbered, carrying_four};
 
 // The part of a state that is no buffer.
-#[derive(Drop)]
+#[derive(Clone, Copy)]
 pub struct State {
     pub used: usize,
 }
 
-#[derive(Drop)]
+#[derive(Clone, Copy)]
 pub enum RunAnswer {
     Success {
         gas_spent: u64,

@@ -1,4 +1,6 @@
 // Text put together piece by piece at the start of a lent buffer. What has no room is cut off.
+#![tactic(auto)]
+
 ghost use Rattle.decimal.specs.Decimal.{decimal};
 ghost use Rattle.pieces.specs.Code.Added.{Added};
 

@@ -1,4 +1,6 @@
 // An operation as the assembler writes it, read from its start on, with no look for the line's end first.
+#![tactic(auto)]
+
 ghost use Rattle.std.specs.Prelude.{◌≡◌, true, cond, ◌<◌, ◌≤◌, length};
 ghost use Rattle.plain_op.specs.Code.Plain.{PlainRead, WordAt};
 
@@ -7,7 +9,7 @@ use decimal::Value;
 use mnemonic::word::{four, one, two};
 
 // An operation, and where it ends.
-#[derive(Drop)]
+#[derive(Clone, Copy)]
 pub enum Plain {
     Op { kind: u8, operand: u64, end: usize },
     Other,

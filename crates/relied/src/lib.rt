@@ -1,1 +1,2 @@
 // Theorems that callers of the C ABI rely on; there is no code.
+#![tactic(auto)]

@@ -4,7 +4,7 @@ use numbered::Numbered;
 use perform::State;
 
 // What a call is given beside texts and buffers.
-#[derive(Drop)]
+#[derive(Clone, Copy)]
 struct RunCase {
     used: usize,
     caller: u64,

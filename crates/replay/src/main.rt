@@ -11,6 +11,8 @@
 //   C verify: kinds, operands, used length
 //   R run_with_gas: as verify, then caller, gas limit, lengths of the lent stack and work buffers, storage
 //   T execute_state_transition_with_gas, S execute_state_transition: as run_with_gas, then eight texts
+#![tactic(auto)]
+
 mod answer;
 mod assembly;
 mod field;

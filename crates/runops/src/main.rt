@@ -1,5 +1,7 @@
 // Reads ops text from standard input, makes a metered run of it, and writes what the run gives. A read or a write that fails is
 // named on standard error.
+#![tactic(auto)]
+
 mod print;
 mod report;
 

@@ -5,7 +5,7 @@ ghost use Rattle.runops.specs.Report.{refused_with, top_of, run_report, report_o
 use ops::ParsedOps;
 use perform::{RunAnswer, State};
 
-#[derive(Drop)]
+#[derive(Clone, Copy)]
 pub struct Report {
     pub refusal: u64,
     pub gas_spent: u64,

@@ -19,7 +19,7 @@ use source::parameters::{NextParameter, Span, next_parameter};
 use source::vector::{KeyValue, json_u64_for_key};
 
 // A key's number, or why it is refused.
-#[derive(Drop)]
+#[derive(Clone, Copy)]
 pub enum KeyNumber {
     Is(u64),
     Refused(AssembleError),

@@ -9,7 +9,7 @@ use source::vector::KeyError;
 
 // A key's refusal carries its place among the parameters from 1, or 0 for the expected value; a line's the number of that line.
 // The last two are given by crate assembler alone.
-#[derive(Drop)]
+#[derive(Clone, Copy)]
 pub enum AssembleError {
     Contract,
     Vector,

@@ -4,7 +4,7 @@ use bindings::{Bindings, Values};
 use figures::Figures;
 
 // The last return: its expression stands from start to end of the contract, and count bindings were made before its line.
-#[derive(Drop)]
+#[derive(Clone, Copy)]
 pub struct Returned {
     pub start: usize,
     pub end: usize,
@@ -12,19 +12,19 @@ pub struct Returned {
     pub read: Figures,
 }
 
-#[derive(Drop)]
+#[derive(Clone, Copy)]
 pub enum LastReturned {
     Is(Returned),
     Nothing,
 }
 
-#[derive(Drop)]
+#[derive(Clone, Copy)]
 pub enum Status {
     Going,
     Refused(AssembleError),
 }
 
-#[derive(Drop)]
+#[derive(Clone, Copy)]
 pub struct TableState {
     pub values: Values,
     pub table: Bindings,

@@ -12,7 +12,7 @@ use figures::{Figures, TreeValue};
 use source::parameters::Span;
 
 // One binding, as the arrays of the table and beside it hold it.
-#[derive(Drop)]
+#[derive(Clone, Copy)]
 pub struct Row {
     pub name_start: u16,
     pub name_len: u16,

@@ -1,5 +1,7 @@
 // The first occurrence of a byte, and of a byte string, in a slice starting at an offset.
 // Whole blocks of offsets are passed by tests that have no branch and compile to vector code.
+#![tactic(auto)]
+
 ghost use Rattle.std.specs.Prelude.{◌≡◌, [], ◌∷◌, true, false, cond, ◌+◌, ◌<◌, ◌≤◌, leb, ltb, length, drop};
 ghost use Rattle.base.specs.Code.Skips.{Skips, SkipsTo};
 ghost use Rattle.search.specs.First.{prefix_of, first_at};
@@ -10,7 +12,7 @@ use base::{both, either, pick};
 // How many offsets a block has.
 const BLOCK: usize = 16;
 
-#[derive(Drop)]
+#[derive(Clone, Copy)]
 pub enum Found {
     At(usize),
     Nothing,

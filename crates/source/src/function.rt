@@ -6,7 +6,7 @@ use numbered::{Numbered, plain};
 use search::Found;
 
 // The parameters stand from params_start to params_end, the body from body_start to body_end.
-#[derive(Drop)]
+#[derive(Clone, Copy)]
 pub struct Places {
     pub params_start: usize,
     pub params_end: usize,
@@ -14,7 +14,7 @@ pub struct Places {
     pub body_end: usize,
 }
 
-#[derive(Drop)]
+#[derive(Clone, Copy)]
 pub enum FunctionError {
     NoFunction,
     NoParameters,
@@ -37,7 +37,7 @@ impl FunctionError {
     }
 }
 
-#[derive(Drop)]
+#[derive(Clone, Copy)]
 pub enum Function {
     Found(Places),
     Refused(FunctionError),

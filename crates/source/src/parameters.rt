@@ -6,21 +6,21 @@ ghost use Rattle.source.specs.Code.Cursor.{before, trimmed_span, name_span, plac
 use search::Found;
 
 // A parameter's name stands from start to end; the parameters behind it are sought from next on.
-#[derive(Drop)]
+#[derive(Clone, Copy)]
 pub struct Parameter {
     pub start: usize,
     pub end: usize,
     pub next: usize,
 }
 
-#[derive(Drop)]
+#[derive(Clone, Copy)]
 pub enum NextParameter {
     Is(Parameter),
     Done,
 }
 
 // Where a part of a text starts and ends.
-#[derive(Drop)]
+#[derive(Clone, Copy)]
 pub struct Span {
     pub start: usize,
     pub end: usize,

@@ -9,7 +9,7 @@ use key::find_quoted;
 use numbered::{Numbered, carrying_one, plain};
 use search::Found;
 
-#[derive(Drop)]
+#[derive(Clone, Copy)]
 pub enum KeyError {
     NoKey,
     NoColon,
@@ -30,7 +30,7 @@ impl KeyError {
     }
 }
 
-#[derive(Drop)]
+#[derive(Clone, Copy)]
 pub enum KeyValue {
     Is(u64),
     Refused(KeyError),

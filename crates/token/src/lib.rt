@@ -1,4 +1,6 @@
 // Tokens of an expression, found in its bytes.
+#![tactic(auto)]
+
 ghost use Rattle.std.specs.Prelude.{◌≡◌, ◌&&◌, ◌+◌, ◌<◌, ◌≤◌, eqb, length, get_or, drop};
 ghost use Rattle.base.specs.Lists.{take_while};
 ghost use Rattle.decimal.specs.Decimal.{digit};
@@ -9,7 +11,7 @@ ghost use Rattle.token.specs.Code.Places.{start_at, token_at};
 use base::{both, either, in_range};
 
 // From start up to end; empty where no token is left.
-#[derive(Drop)]
+#[derive(Clone, Copy)]
 pub struct Token {
     pub start: usize,
     pub end: usize,

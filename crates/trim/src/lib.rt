@@ -1,4 +1,6 @@
 // A text without the White_Space at its start and its end, as a part of what was lent.
+#![tactic(auto)]
+
 ghost use Rattle.std.specs.Prelude.{◌≡◌, ◌-◌, ◌≤◌, ◌<◌, length, get_or, drop};
 ghost use Rattle.base.specs.Part.{Part};
 ghost use Rattle.trim.specs.Trim.{start_trimmed, end_trimmed, trimmed, leading_blanks, white1, white2, white3};

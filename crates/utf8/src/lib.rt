@@ -1,4 +1,6 @@
 // Whether a text is UTF-8, by RFC 3629.
+#![tactic(auto)]
+
 ghost use Rattle.std.specs.Prelude.{◌≡◌, true, false, cond, ◌+◌, ◌≤◌, ◌<◌, length, get_or};
 ghost use Rattle.base.specs.Code.Skips.{SkipsTo, AllFrom};
 ghost use Rattle.utf8.specs.Utf8.{utf8, utf8_tail, utf8_2, utf8_3, utf8_4};

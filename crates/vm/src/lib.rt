@@ -1,4 +1,6 @@
 // A state transition: the lent buffers' lengths, the chain gate, the verifier, the metered run.
+#![tactic(auto)]
+
 ghost use Rattle.context.specs.Gate.{gate_of};
 ghost use Rattle.perform.specs.Lent.{Lent};
 ghost use Rattle.perform.specs.Run.{Meets};

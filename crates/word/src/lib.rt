@@ -1,4 +1,6 @@
 // Arithmetic modulo 2^64 that the language does not supply.
+#![tactic(auto)]
+
 ghost use Rattle.std.specs.Prelude.{◌≡◌, ◌*◌, ◌%◌, ◌^◌};
 
 // u64::wrapping_mul, from halves of 32 bits: of the four products of halves the upper one lies

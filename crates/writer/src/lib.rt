@@ -1,4 +1,6 @@
 // Pieces of ops text, written one after the other into a lent buffer. Each call has room for its piece and returns the offset behind it.
+#![tactic(auto)]
+
 ghost use Rattle.std.specs.Prelude.{◌≡◌, [], ◌∷◌, ◌++◌, ◌+◌, ◌≤◌, length};
 ghost use Rattle.decimal.specs.Decimal.{decimal};
 ghost use Rattle.kinds.specs.Kinds.{operation};
