@@ -127,7 +127,7 @@ pub extern "C" fn atc_run_with_gas(
 ) -> u64
     ensures { Ran
         (metered_of (record {
-          kinds = kinds.entry.now;
+          kinds = kinds.now;
           operands = operands.now;
           caller = caller;
           limit = gas_limit;
@@ -173,7 +173,7 @@ pub extern "C" fn atc_execute_state_transition_with_gas(
         protocol_version.now vm_version.now computed_genesis_id.now
         expected_protocol.now expected_vm.now)
         (record {
-          kinds = kinds.entry.now;
+          kinds = kinds.now;
           operands = operands.now;
           caller = caller;
           limit = gas_limit;
@@ -233,7 +233,7 @@ pub extern "C" fn atc_execute_state_transition(
         protocol_version.now vm_version.now computed_genesis_id.now
         expected_protocol.now expected_vm.now)
         (record {
-          kinds = kinds.entry.now;
+          kinds = kinds.now;
           operands = operands.now;
           caller = caller;
           limit = 0;

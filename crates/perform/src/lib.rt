@@ -66,7 +66,7 @@ pub fn run(
 ) -> RunAnswer
     requires { Lent kinds.now operands.now stack.old work.old storage.old state.used }
     ensures { Meets (performed (record {
-      kinds = kinds.entry.now;
+      kinds = kinds.now;
       operands = operands.now;
       caller = caller;
       limit = gas_limit;
@@ -117,10 +117,10 @@ fn finish(
     requires lent { Lent kinds.now operands.now stack.old work.old storage.old state.used }
     requires bounds { Bounds (length work.old) r × (1 ≤ r.code) × (r.gas ≤ gas_limit) }
     ensures { (c : ℕ) (o : Progress) → AlikeBut
-        (Serves kinds.entry.now operands.now state.used storage.old)
+        (Serves kinds.now operands.now state.used storage.old)
         (progress_of stack.old work.old r) o
         → Meets (of_run (record {
-          kinds = kinds.entry.now;
+          kinds = kinds.now;
           operands = operands.now;
           caller = c;
           limit = gas_limit;

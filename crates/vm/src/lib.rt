@@ -26,7 +26,7 @@ pub fn run_with_gas(
     state: State,
 ) -> RunAnswer
     ensures { Meets (metered_of (record {
-      kinds = kinds.entry.now;
+      kinds = kinds.now;
       operands = operands.now;
       caller = caller;
       limit = gas_limit;
@@ -75,7 +75,7 @@ pub fn execute_state_transition_with_gas(
     ensures { Meets (transition_of (gate_of chain_id.now network_id.now genesis_id.now
         protocol_version.now vm_version.now computed_genesis_id.now
         expected_protocol.now expected_vm.now) (record {
-          kinds = kinds.entry.now;
+          kinds = kinds.now;
           operands = operands.now;
           caller = caller;
           limit = gas_limit;
@@ -135,7 +135,7 @@ pub fn execute_state_transition(
     ensures { Meets (transition_of (gate_of chain_id.now network_id.now genesis_id.now
         protocol_version.now vm_version.now computed_genesis_id.now
         expected_protocol.now expected_vm.now) (record {
-          kinds = kinds.entry.now;
+          kinds = kinds.now;
           operands = operands.now;
           caller = caller;
           limit = 0;
@@ -179,7 +179,7 @@ fn verified_run(
 ) -> RunAnswer
     requires { Lent kinds.now operands.now stack.old work.old storage.old state.used }
     ensures { Meets (verified (record {
-      kinds = kinds.entry.now;
+      kinds = kinds.now;
       operands = operands.now;
       caller = caller;
       limit = gas_limit;
