@@ -1,0 +1,47 @@
+-- `bindings::names::lookup` meets its contract: the bindings passed have other names.
+use Prim.Native.Nat.{◌≤◌}
+use native.Mathlib.Omega.{arith}
+use mathlib.Core.Path.{◌≡◌, sym, ◌∙◌}
+use lib.ListN.{take, drop}
+use Rattle.bindings.specs.Code.Table.{tag_of, found}
+use Rattle.bindings.proofs.Lookup.{found_here, found_older, found_none}
+use borrow.Author.Rules.{rules}
+use Rattle.bindings.proofs.names.lookup.Goals as goal
+
+pub loop-left-init : goal.loop-left-init
+loop-left-init c =
+    let a = c.args in
+    let w = take a.len (drop a.start a.text.now) in
+    let e = c.tag_of-tag.ensures in
+    (c.passed-left.ensures.fewer, (e, c.passed-left.ensures.same a.text.now a.names.now a.lens.now w e))
+
+pub returns-then-is_called : goal.returns-then-is_called
+returns-then-is_called c =
+    let a = c.args in
+    let w = take a.len (drop a.start a.text.now) in
+    let l = c.loop-left in
+    sym (l.invariant.1.1 ∙ found_here a.text.now a.names.now a.lens.now a.tags.now w l.left c.loop-left-test.true (sym c.is_called.ensures ∙ c.if-is_called.true))
+
+pub loop-left-smaller : goal.loop-left-smaller
+loop-left-smaller c = omega (arith, c.passed-left-in-loop-left.ensures.fewer, c.loop-left-test.true)
+
+pub loop-left-preserved : goal.loop-left-preserved
+loop-left-preserved c =
+    let a = c.args in
+    let w = take a.len (drop a.start a.text.now) in
+    let l = c.loop-left in
+    let h = c.loop-left-test.true in (
+      omega (arith, c.passed-left-in-loop-left.ensures.fewer, l.invariant.0),
+      (
+        l.invariant.1.0,
+        l.invariant.1.1
+            ∙ found_older a.text.now a.names.now a.lens.now a.tags.now w l.left h (sym c.is_called.ensures ∙ c.if-is_called.false)
+            ∙ c.passed-left-in-loop-left.ensures.same a.text.now a.names.now a.lens.now w l.invariant.1.0,
+      ),
+    )
+
+pub returns : goal.returns
+returns c =
+    let a = c.args in
+    let w = take a.len (drop a.start a.text.now) in
+    sym (c.loop-left.invariant.1.1 ∙ found_none a.text.now a.names.now a.lens.now a.tags.now w c.loop-left.left c.loop-left-test.false)

@@ -1,0 +1,16 @@
+use Prim.Native.Nat.{◌-◌, ◌<◌, ◌≤◌}
+use mathlib.Core.Path.{◌≡◌, sym, ◌∙◌}
+use mathlib.Core.Bool.{false}
+use borrow.Author.Tests.{leb-false}
+use native.Mathlib.Omega.{arith}
+use lib.ListN.{get_or}
+use Rattle.base.specs.Code.Skips.{AllFrom}
+use Rattle.base.proofs.Skips.{either_more}
+use borrow.Author.Rules.{rules}
+use Rattle.checks.proofs.operations.has_from.Given as goal
+
+abbrev pub invariant-loop-k : goal.invariant-loop-k
+invariant-loop-k l = (l.k ≤ l.n) × (l.hit ≡ false → AllFrom l.at l.k (λ i. get_or l.operands i 0 < l.size))
+
+abbrev pub decreases-loop-k : goal.decreases-loop-k
+decreases-loop-k l = l.n - l.k

@@ -1,0 +1,18 @@
+use Prim.Native.Nat.{◌+◌, ◌-◌, ◌≤◌}
+use mathlib.Core.Path.{◌≡◌, refl, sym, ap, ap₂, ◌∙◌}
+use mathlib.Core.Bool.{true, ◌&&◌, and-true}
+use borrow.Author.Tests.{not-true, not-false}
+use native.Mathlib.Omega.{arith}
+use lib.ListN.{length, drop, drop_of_length-le}
+use Rattle.base.specs.Equal.{equal}
+use Rattle.base.specs.Code.Skips.{Skips}
+use Rattle.base.proofs.Skips.{skips_yes, skips_no}
+use Rattle.context.proofs.Laws.{equal_lengths}
+use borrow.Author.Rules.{rules}
+use Rattle.context.proofs.same.Given as goal
+
+abbrev pub invariant-loop-i : goal.invariant-loop-i
+invariant-loop-i l = (l.i ≤ length l.a) × (length l.a ≡ length l.b) × Skips (λ j. equal (drop j l.a) (drop j l.b)) 0 l.i
+
+abbrev pub decreases-loop-i : goal.decreases-loop-i
+decreases-loop-i l = length l.a - l.i

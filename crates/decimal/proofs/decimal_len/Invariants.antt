@@ -1,0 +1,14 @@
+use Prim.Native.Nat.{◌+◌, ◌^◌, ◌<◌}
+use mathlib.Core.Path.{◌≡◌}
+use native.Mathlib.Omega.{arith}
+use lib.ListN.{length}
+use Rattle.decimal.specs.Decimal.{decimal}
+use Rattle.decimal.proofs.Laws.{length_four_more, length_word}
+use borrow.Author.Rules.{rules}
+use Rattle.decimal.proofs.decimal_len.Given as goal
+
+abbrev pub invariant-loop-rest : goal.invariant-loop-rest
+invariant-loop-rest l = (l.len + length (decimal l.rest) ≡ length (decimal l.n)) × (l.rest < 2 ^ 64)
+
+abbrev pub decreases-loop-rest : goal.decreases-loop-rest
+decreases-loop-rest l = l.rest

@@ -1,0 +1,27 @@
+-- `decimal::digits_end` meets its contract: the digits from each place passed end where those from at do.
+use Prim.Native.Nat.{◌-◌}
+use mathlib.Core.Path.{◌≡◌, refl, sym, ◌∙◌}
+use native.Mathlib.Omega.{arith}
+use lib.ListN.{length}
+use Rattle.base.proofs.Lists.{end_from, end_more, end_none}
+use Rattle.decimal.specs.Decimal.{digit}
+use Rattle.decimal.proofs.Runs.{DigitAt, digit_at}
+use borrow.Author.Rules.{rules}
+use Rattle.decimal.proofs.digits_end.Goals as goal
+
+digit_here : (c : goal.In-loop-i) → DigitAt c.args.s.now c.loop-i.i
+digit_here c = digit_at _ _ (sym c.is_digit_at.ensures ∙ c.loop-i-test.true)
+
+pub overflow_add-i : goal.overflow_add-i
+overflow_add-i c = let d = digit_here c in omega arith
+
+pub loop-i-smaller : goal.loop-i-smaller
+loop-i-smaller c = let d = digit_here c in omega arith
+
+pub loop-i-preserved : goal.loop-i-preserved
+loop-i-preserved c = c.loop-i.invariant ∙ end_more digit refl _ _ (digit_here c).is
+
+pub returns : goal.returns
+returns c =
+    let l = c.before.before in
+    sym (l.loop.invariant ∙ end_none digit l.args.s.now l.loop.i (sym c.is_digit_at.ensures ∙ c.loop-i-test.false))

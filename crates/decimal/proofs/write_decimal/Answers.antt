@@ -1,0 +1,22 @@
+-- `decimal::write_decimal` meets its contract: the number fits where the room behind the place is no shorter.
+use Prim.Native.Nat.{ℕ, ◌+◌}
+use mathlib.Core.Path.{ap, ◌∙◌}
+use native.Mathlib.Omega.{arith}
+use Rattle.decimal.specs.declared.Written.TheVariants.{To}
+use Rattle.decimal.proofs.Buffer.{room, no_room}
+use borrow.Author.Rules.{rules}
+use Rattle.decimal.proofs.write_decimal.Goals as goal
+
+pub returns-then-at-room : goal.returns-then-at-room
+returns-then-at-room c = let a = c.args in no_room a.n a.at a.out.now (omega arith)
+
+pub returns-then-room-at : goal.returns-then-room-at
+returns-then-room-at c = let a = c.args in no_room a.n a.at a.out.now (omega arith)
+
+pub returns : goal.returns
+returns c =
+    let w = c.before.before in
+    let d = w.before.before.before.before in
+    let a = d.args in
+    let fits = room a.n a.at a.out.now (omega arith) in
+    (ap (λ (len : ℕ). To (a.at + len)) d.decimal_len_len.ensures ∙ fits.0, w.write_digits.ensures ∙ fits.1)

@@ -1,0 +1,15 @@
+use mathlib.Core.Path.{◌≡◌, refl, sym, ◌∙◌}
+use native.Mathlib.Omega.{arith}
+use lib.ListN.{length, length-set}
+use Rattle.base.specs.Overwrite.{overwrite}
+use Rattle.decimal.specs.Decimal.{decimal}
+use Rattle.decimal.proofs.Laws.{length_positive}
+use Rattle.decimal.proofs.Buffer.{Ends, left_one, left_two, writes_one, writes_more, ends_more, writes_two, ends_two}
+use borrow.Author.Rules.{rules}
+use Rattle.decimal.proofs.write_digits.Given as goal
+
+abbrev pub invariant-loop-rest : goal.invariant-loop-rest
+invariant-loop-rest l = (length l.out ≡ length l.initial.out) × Ends l.at l.rest l.i l.out × (overwrite l.at (decimal l.rest) l.out ≡ overwrite l.at (decimal l.n) l.initial.out)
+
+abbrev pub decreases-loop-rest : goal.decreases-loop-rest
+decreases-loop-rest l = l.rest

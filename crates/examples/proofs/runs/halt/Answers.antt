@@ -1,0 +1,9 @@
+-- `halt` is E4: what the call ensures, and the group's figures.
+use mathlib.Core.Path.{ap, ◌∙◌}
+use Rattle.perform.specs.Numbers.{run_answer_numbered}
+use Rattle.examples.proofs.Bench.{bench}
+use borrow.Author.Rules.{rules}
+use Rattle.examples.proofs.runs.halt.Goals as goal
+
+pub returns : goal.returns
+returns c = ap run_answer_numbered c.plain.ensures.answer ∙ bench.e4

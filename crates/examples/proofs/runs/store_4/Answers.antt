@@ -1,0 +1,9 @@
+-- `store_4` is `Store 4` of E6: what the call ensures, and the group's figures.
+use mathlib.Core.Path.{ap, ◌∙◌}
+use Rattle.perform.specs.Numbers.{run_answer_numbered}
+use Rattle.examples.proofs.Bench.{bench}
+use borrow.Author.Rules.{rules}
+use Rattle.examples.proofs.runs.store_4.Goals as goal
+
+pub returns : goal.returns
+returns c = ap run_answer_numbered c.on_four.ensures.answer ∙ bench.e6_four

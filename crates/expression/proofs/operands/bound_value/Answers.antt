@@ -1,0 +1,6 @@
+-- `expression::operands::bound_value` meets its contract.
+use borrow.Author.Rules.{rules}
+use Rattle.expression.proofs.operands.bound_value.Goals as goal
+
+pub returns-else-none : goal.returns-else-none
+returns-else-none c = rw c.if-none.false

@@ -1,0 +1,26 @@
+-- `key::any_agrees` meets its contract: while there is no hit, the key stands in double quotes at none of the places that are passed.
+use Prim.Native.Nat.{◌-◌, ◌≤◌}
+use mathlib.Core.Path.{◌≡◌, sym, ◌∙◌}
+use mathlib.Core.Bool.{false}
+use native.Mathlib.Omega.{arith}
+use Rattle.search.specs.Code.Scan.{Misses}
+use Rattle.search.proofs.Laws.{miss_more, misses}
+use Rattle.key.specs.Key.{quoted}
+use borrow.Author.Rules.{rules}
+use Rattle.key.proofs.any_agrees.Goals as goal
+
+pub loop-k-init : goal.loop-k-init
+loop-k-init c = (omega arith, λ e k h. absurd (omega arith))
+
+pub loop-k-preserved : goal.loop-k-preserved
+loop-k-preserved c =
+    let a = c.args in
+    let l = c.loop-k in
+    let g = c.agrees in
+    (omega arith, λ e. miss_more (quoted a.key.now) a.s.now a.at l.k l.hit g.result l.invariant.1 g.ensures (sym c.either-hit.ensures ∙ e))
+
+pub returns : goal.returns
+returns c =
+    let a = c.args in
+    let l = c.loop-k in
+    let z : l.k ≡ a.n = omega arith in λ e. misses (quoted a.key.now) a.s.now a.n a.at (rw z at (l.invariant.1 e))

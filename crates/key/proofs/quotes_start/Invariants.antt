@@ -1,0 +1,13 @@
+use Prim.Native.Nat.{◌+◌, ◌-◌, ◌≤◌}
+use mathlib.Core.Path.{◌≡◌}
+use native.Mathlib.Omega.{arith}
+use Rattle.key.specs.Code.Marked.{Quotes}
+use Rattle.key.proofs.Quotes.{none_read, joined}
+use borrow.Author.Rules.{rules}
+use Rattle.key.proofs.quotes_start.Given as goal
+
+abbrev pub invariant-loop-k : goal.invariant-loop-k
+invariant-loop-k l = (l.from ≤ l.k) × (l.k ≤ l.end) × Quotes l.s l.k l.end
+
+abbrev pub decreases-loop-k : goal.decreases-loop-k
+decreases-loop-k l = l.k - l.from

@@ -1,0 +1,14 @@
+use mathlib.Core.Path.{sym}
+use Rattle.kmp.specs.Code.Shift.{Shift}
+use Rattle.kmp.proofs.Walking.{Walking, started, found, matched, moved, slid, ended}
+use borrow.Author.Rules.{rules}
+use native.Mathlib.Omega.{arith}
+use Prim.Native.Nat.{◌+◌, ◌-◌}
+use lib.ListN.{length}
+use Rattle.kmp.proofs.walk.Given as goal
+
+abbrev pub invariant-loop-c : goal.invariant-loop-c
+invariant-loop-c l = Walking l.p l.s l.at l.c l.j
+
+abbrev pub decreases-loop-c : goal.decreases-loop-c
+decreases-loop-c l = (length l.s - l.c) + (length l.s - (l.c + l.j))

@@ -1,0 +1,44 @@
+-- `operations::apply` meets its contract: each kind by itself.
+use Rattle.std.proofs.Common.{◌≡◌, ℕ, ◌+◌, ◌-◌, ◌%◌, ◌^◌, ◌<◌, ◌≤◌, ap, arith, rules, le-ltb, lt-ltb, eq-eqb, ne_eqb}
+use mathlib.Core.Option.{some}
+use Rattle.word.specs.Apply.{lt}
+use Rattle.machine.specs.Code.Registers.{binop_of_kind}
+use Rattle.machine.proofs.Program.{other_lt}
+use Rattle.machine.proofs.operations.apply.Goals as goal
+
+wrapped : (a b r : ℕ) → a < 2 ^ 64 → b < 2 ^ 64 → r < 2 ^ 64 → (r + b) % 2 ^ 64 ≡ a → r ≡ (a + (2 ^ 64 - b)) % 2 ^ 64
+wrapped a b r ha hb hr e = omega arith
+
+not_zero : {b : ℕ} → 1 ≤ b → b ≡ 0 → ⊥
+not_zero h e = omega arith
+
+lt_here : (c : goal.In_default) → binop_of_kind c.args.kind ≡ lt
+lt_here c =
+    let n = c.in-1.rest in
+    other_lt c.args.kind n.0.0.0.0.1 n.0.0.0.1 n.0.0.1 n.0.1 n.1
+
+pub returns-in-1 : goal.returns-in-1
+returns-in-1 c = rw c.in-1.is (ap some c.wrapping_add_u64.ensures)
+
+pub returns-in-2 : goal.returns-in-2
+returns-in-2 c =
+    let a = c.args in
+    rw c.in-2.is (ap some (wrapped a.a a.b c.wrapping_sub_u64.result (omega arith) (omega arith) (omega arith) c.wrapping_sub_u64.ensures))
+
+pub returns-in-3 : goal.returns-in-3
+returns-in-3 c = rw c.in-3.is (ap some c.wrapping_mul.ensures)
+
+pub returns-in-4 : goal.returns-in-4
+returns-in-4 c = rw (c.in-4.is, ne_eqb c.args.b 0 (not_zero (c.requires c.in-4.is)))
+
+pub returns-then-a-b : goal.returns-then-a-b
+returns-then-a-b c = rw (c.in-9.is, eq-eqb _ _ c.if-a-b.true)
+
+pub returns-else-a-b : goal.returns-else-a-b
+returns-else-a-b c = rw (c.in-9.is, ne_eqb _ _ c.if-a-b.false)
+
+pub returns-then-a-b-2 : goal.returns-then-a-b-2
+returns-then-a-b-2 c = rw (lt_here c.before, lt-ltb _ _ c.if-a-b-2.true)
+
+pub returns-else-a-b-2 : goal.returns-else-a-b-2
+returns-else-a-b-2 c = rw (lt_here c.before, le-ltb _ _ c.if-a-b-2.false)

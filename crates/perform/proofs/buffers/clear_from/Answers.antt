@@ -1,0 +1,12 @@
+-- `buffers::clear_from` meets its contract: nothing is left behind the zeros.
+use mathlib.Core.Path.{◌∙◌}
+use mathlib.Core.List.{append-nil}
+use native.Mathlib.Omega.{arith}
+use lib.ListN.{length, drop_of_length-le}
+use borrow.Author.Rules.{rules}
+use Rattle.perform.proofs.buffers.clear_from.Goals as goal
+
+pub returns : goal.returns
+returns c =
+    let a = c.args in
+    c.zero_out.ensures ∙ rw (drop_of_length-le a.s.now {i = length a.s.now} (omega arith), append-nil)

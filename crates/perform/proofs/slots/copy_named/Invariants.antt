@@ -1,0 +1,16 @@
+use Prim.Native.Nat.{◌-◌, ◌≤◌}
+use native.Mathlib.Omega.{arith}
+use mathlib.Core.Path.{◌≡◌, refl, ◌∙◌}
+use mathlib.Core.Bool.{◌&&◌}
+use lib.Dec.{ltb}
+use lib.ListN.{length}
+use Rattle.perform.specs.Code.Needed.{named, Copied}
+use Rattle.perform.proofs.Needed.{named_none, named_more}
+use borrow.Author.Rules.{rules}
+use Rattle.perform.proofs.slots.copy_named.Given as goal
+
+abbrev pub invariant-loop-i : goal.invariant-loop-i
+invariant-loop-i l = (l.i ≤ length l.kinds) × (length l.d ≡ length l.initial.d) × Copied (λ j. named l.kinds l.operands l.i j && ltb j l.used) l.s l.initial.d l.d
+
+abbrev pub decreases-loop-i : goal.decreases-loop-i
+decreases-loop-i l = length l.kinds - l.i

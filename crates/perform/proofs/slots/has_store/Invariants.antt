@@ -1,0 +1,15 @@
+use Prim.Native.Nat.{◌-◌, ◌≤◌}
+use native.Mathlib.Omega.{arith}
+use mathlib.Core.Path.{◌≡◌, refl, sym, ◌∙◌}
+use mathlib.Core.Bool.{◌||◌}
+use lib.ListN.{length, drop}
+use Rattle.perform.specs.Code.Needed.{stores}
+use Rattle.perform.proofs.Needed.{store_next, store_end}
+use borrow.Author.Rules.{rules}
+use Rattle.perform.proofs.slots.has_store.Given as goal
+
+abbrev pub invariant-loop-i : goal.invariant-loop-i
+invariant-loop-i l = (l.i ≤ length l.kinds) × ((l.hit || stores (drop l.i l.kinds)) ≡ stores l.kinds)
+
+abbrev pub decreases-loop-i : goal.decreases-loop-i
+decreases-loop-i l = length l.kinds - l.i

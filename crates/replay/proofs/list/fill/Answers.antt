@@ -1,0 +1,11 @@
+-- `list::fill` meets its contract: the place stays within the buffer, and the times left fall.
+-- Assumes nothing.
+use Prim.Native.Nat.{◌≤◌}
+use mathlib.Core.Path.{◌≡◌}
+use native.Mathlib.Omega.{arith}
+use lib.ListN.{length, length-set}
+use borrow.Author.Rules.{rules}
+use Rattle.replay.proofs.list.fill.Goals as goal
+
+pub loop-left-preserved : goal.loop-left-preserved
+loop-left-preserved c = simp length-set (omega arith)

@@ -1,0 +1,21 @@
+-- `list::narrowed` meets its contract: a byte is written for each number.
+-- Assumes nothing.
+use Prim.Native.Nat.{◌-◌, ◌≤◌}
+use mathlib.Core.Path.{◌≡◌}
+use native.Mathlib.Omega.{arith}
+use lib.ListN.{length, length-set}
+use Rattle.io.proofs.Counting.{prefix_len_of_le}
+use borrow.Author.Rules.{rules}
+use Rattle.replay.proofs.list.narrowed.Goals as goal
+
+pub returns-then-numbers-n : goal.returns-then-numbers-n
+returns-then-numbers-n c = prefix_len_of_le _ _ (omega arith)
+
+pub loop-n-smaller : goal.loop-n-smaller
+loop-n-smaller c = simp length-set (omega arith)
+
+pub loop-n-preserved : goal.loop-n-preserved
+loop-n-preserved c = simp length-set (omega arith)
+
+pub returns : goal.returns
+returns c = prefix_len_of_le _ _ (omega arith)

@@ -1,0 +1,21 @@
+-- `list::widened` meets its contract: a number is written for each byte.
+-- Assumes nothing.
+use Prim.Native.Nat.{◌-◌, ◌≤◌}
+use mathlib.Core.Path.{◌≡◌}
+use native.Mathlib.Omega.{arith}
+use lib.ListN.{length, length-set}
+use Rattle.io.proofs.Counting.{prefix_len_of_le}
+use borrow.Author.Rules.{rules}
+use Rattle.replay.proofs.list.widened.Goals as goal
+
+pub returns-then-bytes-n : goal.returns-then-bytes-n
+returns-then-bytes-n c = prefix_len_of_le _ _ (omega arith)
+
+pub loop-n-smaller : goal.loop-n-smaller
+loop-n-smaller c = simp length-set (omega arith)
+
+pub loop-n-preserved : goal.loop-n-preserved
+loop-n-preserved c = simp length-set (omega arith)
+
+pub returns : goal.returns
+returns c = prefix_len_of_le _ _ (omega arith)

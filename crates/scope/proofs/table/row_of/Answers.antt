@@ -1,0 +1,6 @@
+-- `scope::table::row_of` meets its contract: places and figures fit.
+use borrow.Author.Rules.{rules}
+use Rattle.scope.proofs.table.row_of.Goals as goal
+
+pub returns : goal.returns
+returns c = cc

@@ -1,0 +1,15 @@
+use Prim.Native.Nat.{◌-◌}
+use mathlib.Core.Path.{refl, sym, ◌∙◌}
+use native.Mathlib.Omega.{arith}
+use Rattle.base.specs.Code.Skips.{Skips}
+use Rattle.search.specs.First.{first_at}
+use Rattle.search.specs.Code.Scan.{RoomAtEach}
+use Rattle.search.proofs.Laws.{no_room}
+use borrow.Author.Rules.{rules}
+use Rattle.search.proofs.find_string.Given as goal
+
+abbrev pub invariant-loop-i : goal.invariant-loop-i
+invariant-loop-i l = RoomAtEach l.p l.s l.i l.stop × Skips (first_at l.p l.s) l.at l.i
+
+abbrev pub decreases-loop-i : goal.decreases-loop-i
+decreases-loop-i l = l.stop - l.i

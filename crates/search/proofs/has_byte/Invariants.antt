@@ -1,0 +1,17 @@
+use Prim.Native.Nat.{◌-◌, ◌≤◌}
+use mathlib.Core.Path.{◌≡◌, sym, ◌∙◌}
+use mathlib.Core.List.{[], ◌∷◌}
+use mathlib.Core.Bool.{false}
+use borrow.Author.Tests.{eq-eqb}
+use native.Mathlib.Omega.{arith}
+use Rattle.search.specs.Code.Scan.{Misses}
+use Rattle.search.proofs.Prefix.{byte_at}
+use Rattle.search.proofs.Laws.{miss_more, misses}
+use borrow.Author.Rules.{rules}
+use Rattle.search.proofs.has_byte.Given as goal
+
+abbrev pub invariant-loop-k : goal.invariant-loop-k
+invariant-loop-k l = (l.k ≤ l.n) × (l.hit ≡ false → Misses (l.b ∷ []) l.s l.at l.k)
+
+abbrev pub decreases-loop-k : goal.decreases-loop-k
+decreases-loop-k l = l.n - l.k

@@ -1,0 +1,17 @@
+use Prim.Native.Nat.{◌+◌, ◌-◌, ◌≤◌}
+use mathlib.Core.Path.{refl, sym, ◌∙◌}
+use mathlib.Core.List.{[], ◌∷◌}
+use borrow.Author.Tests.{leb-true}
+use native.Mathlib.Omega.{arith}
+use lib.ListN.{length}
+use Rattle.base.specs.Code.Skips.{SkipsTo}
+use Rattle.base.proofs.Skips.{skips_none, skips_on}
+use Rattle.search.specs.First.{first_at}
+use borrow.Author.Rules.{rules}
+use Rattle.search.proofs.pass_blocks.Given as goal
+
+abbrev pub invariant-loop-b : goal.invariant-loop-b
+invariant-loop-b l = SkipsTo (first_at (l.b ∷ []) l.s) l.at (length l.s) l.block
+
+abbrev pub decreases-loop-b : goal.decreases-loop-b
+decreases-loop-b l = length l.s - l.block

@@ -1,0 +1,15 @@
+use Prim.Native.Nat.{ℕ, ◌+◌, ◌-◌, ◌≤◌}
+use mathlib.Core.Path.{◌≡◌, refl, sym, ap, ◌∙◌}
+use mathlib.Core.List.{List}
+use native.Mathlib.Omega.{arith}
+use lib.ListN.{length, drop, drop_of_length-le}
+use Rattle.search.specs.First.{prefix_of}
+use Rattle.search.proofs.Prefix.{same_at, other_at}
+use borrow.Author.Rules.{rules}
+use Rattle.search.proofs.stands.Given as goal
+
+abbrev pub invariant-loop-j : goal.invariant-loop-j
+invariant-loop-j l = (l.j ≤ length l.p) × (prefix_of l.p (drop l.at l.s) ≡ prefix_of (drop l.j l.p) (drop (l.at + l.j) l.s))
+
+abbrev pub decreases-loop-j : goal.decreases-loop-j
+decreases-loop-j l = length l.p - l.j

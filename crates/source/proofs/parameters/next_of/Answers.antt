@@ -1,0 +1,25 @@
+-- `source::parameters::next_of` meets its contract: the pieces that are passed have empty names, so the next parameter from `at` on is the next from `i` on.
+use Prim.Native.Nat.{◌-◌}
+use mathlib.Core.Path.{◌≡◌, sym, ◌∙◌}
+use native.Mathlib.Omega.{arith}
+use lib.ListN.{length}
+use Rattle.source.specs.Code.Cursor.{parameter_at}
+use Rattle.source.proofs.Pieces.{past, Stands, stands}
+use Rattle.source.proofs.Cursor.{here, skipped}
+use borrow.Author.Rules.{rules}
+use Rattle.source.proofs.parameters.next_of.Goals as goal
+
+piece : (c : goal.After-parameter_at-parameter) → Stands c.args.s.now c.loop-i.i c.parameter_at-parameter.result
+piece c = rw c.parameter_at-parameter.ensures (stands c.args.s.now c.loop-i.i (omega arith))
+
+pub returns-then-parameter : goal.returns-then-parameter
+returns-then-parameter c = sym (c.loop-i.invariant ∙ here (piece c.before.before) c.if-parameter.true)
+
+pub loop-i-smaller : goal.loop-i-smaller
+loop-i-smaller c = let o = (piece c.before.before).on c.loop-i-test.true in omega arith
+
+pub loop-i-preserved : goal.loop-i-preserved
+loop-i-preserved c = c.loop-i.invariant ∙ skipped (piece c.before.before) c.if-parameter.false
+
+pub returns : goal.returns
+returns c = sym (c.loop-i.invariant ∙ past c.args.s.now c.loop-i.i c.loop-i-test.false)

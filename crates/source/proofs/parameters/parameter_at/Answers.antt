@@ -1,0 +1,43 @@
+-- `source::parameters::parameter_at` meets its contract: by whether a comma follows the piece.
+use Prim.Native.Nat.{◌+◌, ◌≤◌}
+use native.Mathlib.Omega.{arith}
+use lib.ListN.{length}
+use Rattle.source.proofs.Cuts.{cut_length}
+use Rattle.source.proofs.Pieces.{placed_inside, placed_last, placed_more}
+use borrow.Author.Rules.{rules}
+use Rattle.source.proofs.parameters.parameter_at.Goals as goal
+
+pub slice_bounds-name_of-end : goal.slice_bounds-name_of-end
+slice_bounds-name_of-end c =
+    let a = c.before.before in
+    let k = cut_length 0x2C a.args.s.now a.args.at a.requires in
+    omega arith
+
+inside : (c : goal.After-name_of-name) →
+    let a = c.args in
+    let n = c.name_of-name.result in
+    (a.at + n.start ≤ length a.s.now) × (a.at + n.end ≤ length a.s.now)
+inside c =
+    let k = c.cut-stop in
+    let a = c.before.before.before.before in
+    placed_inside a.args.s.now a.args.at a.requires k.result k.ensures c.name_of-name.result c.name_of-name.ensures
+
+pub overflow_add-start : goal.overflow_add-start
+overflow_add-start c = let i = inside c.before in omega arith
+
+pub overflow_add-end : goal.overflow_add-end
+overflow_add-end c = let i = inside c.before.before in omega arith
+
+pub returns-then-stop-s : goal.returns-then-stop-s
+returns-then-stop-s c =
+    let n = c.before.before.before in
+    let k = n.cut_stop in
+    let a = n.before.before.before.before in
+    placed_more a.args.s.now a.args.at a.requires k.result k.ensures n.name_of.result n.name_of.ensures c.if-stop-s.true
+
+pub returns-else-stop-s : goal.returns-else-stop-s
+returns-else-stop-s c =
+    let n = c.before.before.before in
+    let k = n.cut_stop in
+    let a = n.before.before.before.before in
+    placed_last a.args.s.now a.args.at a.requires k.result k.ensures n.name_of.result n.name_of.ensures c.if-stop-s.false

@@ -1,0 +1,13 @@
+-- `token::token_at` meets its contract: the bytes that go on from the first one are the first token.
+use Rattle.token.proofs.Tokens.{next_at, is_token, is_none}
+use borrow.Author.Rules.{rules}
+use Rattle.token.proofs.token_at.Goals as goal
+
+pub returns-then-start-text : goal.returns-then-start-text
+returns-then-start-text c =
+    let a = c.args in
+    let e = c.token_start-start.ensures in
+    is_token a.text.now a.at e (next_at a.text.now a.at _ e c.if-start-text.true _ c.token_end-end.ensures)
+
+pub returns : goal.returns
+returns c = let a = c.args in is_none a.text.now a.at c.token_start-start.ensures c.if-start-text.false

@@ -1,0 +1,13 @@
+use Prim.Native.Nat.{◌-◌}
+use mathlib.Core.Path.{◌≡◌, refl, ap}
+use native.Mathlib.Omega.{arith}
+use lib.ListN.{length, drop_of_length-le}
+use Rattle.trim.specs.Code.Blank.{blanks_len, blanks_end}
+use borrow.Author.Rules.{rules}
+use Rattle.trim.proofs.blanks_end.Given as goal
+
+abbrev pub invariant-loop-i : goal.invariant-loop-i
+invariant-loop-i l = blanks_end l.s l.at ≡ blanks_end l.s l.i
+
+abbrev pub decreases-loop-i : goal.decreases-loop-i
+decreases-loop-i l = length l.s - l.i

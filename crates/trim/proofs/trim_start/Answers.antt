@@ -1,0 +1,28 @@
+-- `trim::trim_start` meets its contract: what is left has the same trimmed text as the whole.
+-- Assumes nothing.
+use Prim.Native.Nat.{ℕ, ◌≤◌, ◌-◌}
+use mathlib.Core.Path.{◌≡◌, refl, sym, ap, ◌∙◌}
+use mathlib.Core.List.{List}
+use mathlib.Core.Logic.{⊎_elim}
+use native.Mathlib.Omega.{arith}
+use lib.ListN.{length, drop, drop_of_length-le, length-drop}
+use Rattle.base.proofs.Parts.{take-length-drop}
+use Rattle.trim.specs.Trim.{start_trimmed}
+use borrow.Author.Rules.{rules}
+use Rattle.trim.proofs.trim_start.Goals as goal
+
+ended : (s : List ℕ) (i : ℕ) → length s ≤ i → start_trimmed (drop i s) ≡ drop i s
+ended s i h = rw (drop_of_length-le s h) refl
+
+pub loop-i-preserved : goal.loop-i-preserved
+loop-i-preserved c = (search rules, c.loop-i.invariant.1 ∙ c.white_at-n.ensures.some c.if-n-eq0.false)
+
+pub returns : goal.returns
+returns c =
+    let l = c.before.before in
+    let i = l.loop.i in
+    let s = l.args.s.now in
+    let e : start_trimmed (drop i s) ≡ drop i s = ⊎_elim (λ w. ended s i w.left) (λ w. w.1.ensures.none w.2.taken) c.loop-i-test.branch in
+    let q : start_trimmed s ≡ drop i s = l.loop.invariant.1 ∙ e in
+    let h = l.loop.invariant.0 in
+    record { text = take-length-drop s i ∙ sym q; block = refl; offset = omega (arith, ap length q, length-drop i s) }

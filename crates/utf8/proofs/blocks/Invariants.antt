@@ -1,0 +1,14 @@
+use Prim.Native.Nat.{◌-◌}
+use mathlib.Core.Path.{refl}
+use lib.ListN.{length}
+use Rattle.base.specs.Code.Skips.{SkipsTo}
+use Rattle.base.proofs.Skips.{skips_none, skips_on}
+use Rattle.utf8.specs.Code.From.{utf8_from}
+use borrow.Author.Rules.{rules}
+use Rattle.utf8.proofs.blocks.Given as goal
+
+abbrev pub invariant-loop-i : goal.invariant-loop-i
+invariant-loop-i l = SkipsTo (utf8_from l.s) l.at (length l.s) l.i
+
+abbrev pub decreases-loop-i : goal.decreases-loop-i
+decreases-loop-i l = length l.s - l.i

@@ -1,0 +1,5 @@
+use borrow.Author.Rules.{rules}
+use Rattle.utf8.proofs.is_two.Goals as goal
+
+pub returns : goal.returns
+returns c = cc

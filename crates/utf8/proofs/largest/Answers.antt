@@ -1,0 +1,26 @@
+-- `utf8::largest` meets its contract: the largest so far is at least each byte passed.
+-- Assumes nothing.
+use Prim.Native.Nat.{◌-◌, ◌≤◌}
+use mathlib.Core.Path.{◌≡◌}
+use native.Mathlib.Nat.{le_trans}
+use native.Mathlib.Omega.{arith}
+use lib.ListN.{get_or}
+use Rattle.base.specs.Code.Skips.{AllFrom}
+use Rattle.base.proofs.Skips.{all_more}
+use borrow.Author.Rules.{rules}
+use Rattle.utf8.proofs.largest.Goals as goal
+
+pub loop-k-init : goal.loop-k-init
+loop-k-init c = (omega arith, λ k h. absurd (omega arith))
+
+pub loop-k-preserved : goal.loop-k-preserved
+loop-k-preserved c =
+    let l = c.before.before.before in
+    let a = l.args in
+    let m = c.larger-most.ensures in
+    (omega arith, all_more (λ i. get_or a.s.now i 0 ≤ c.larger-most.result) a.at l.loop.k (λ k h. le_trans (l.loop.invariant.1 k h) m.0) m.1)
+
+pub returns : goal.returns
+returns c =
+    let l = c.before in
+    let z : l.loop.k ≡ l.args.n = omega arith in rw z at l.loop.invariant.1
