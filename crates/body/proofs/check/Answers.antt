@@ -16,10 +16,10 @@ pub parse-parsed-requires : goal.parse-parsed-requires
 parse-parsed-requires c = let w = c.requires in let a = c.args in omega (arith, length-take-le a.expr.end a.contract.now w.inside)
 
 pub returns-then-read-gt-MAX_K : goal.returns-then-read-gt-MAX_K
-returns-then-read-gt-MAX_K c = let a = c.before.before.before.before.before.before.before.before in (check_long a.args.contract.now a.args.expr.start a.args.expr.end a.requires _ a.args.line c.parse-parsed.ensures _ c.in-Done.is c.if-read-gt-MAX_K.true, tt)
+returns-then-read-gt-MAX_K c = let a = c in (check_long a.args.contract.now a.args.expr.start a.args.expr.end a.requires _ a.args.line c.parse-parsed.ensures _ c.in-Done.is c.if-read-gt-MAX_K.true, tt)
 
 pub returns-in-Refused : goal.returns-in-Refused
-returns-in-Refused c = let a = c.before.before.before.before.before.before in (check_refused a.args.contract.now a.args.expr.start a.args.expr.end a.requires _ a.args.line c.parse-parsed.ensures _ c.in-Refused.is, tt)
+returns-in-Refused c = let a = c in (check_refused a.args.contract.now a.args.expr.start a.args.expr.end a.requires _ a.args.line c.parse-parsed.ensures _ c.in-Refused.is, tt)
 
 pub returns-else-read-gt-MAX_K : goal.returns-else-read-gt-MAX_K
-returns-else-read-gt-MAX_K c = let a = c.before.before.before.before.before.before.before.before in (check_done a.args.contract.now a.args.expr.start a.args.expr.end a.requires _ a.args.line c.parse-parsed.ensures _ c.in-Done.is c.if-read-gt-MAX_K.false, subst (EndsLast (take a.args.expr.end a.args.contract.now)) c.in-Done.is c.parse-parsed.ensures.ends)
+returns-else-read-gt-MAX_K c = let a = c in (check_done a.args.contract.now a.args.expr.start a.args.expr.end a.requires _ a.args.line c.parse-parsed.ensures _ c.in-Done.is c.if-read-gt-MAX_K.false, subst (EndsLast (take a.args.expr.end a.args.contract.now)) c.in-Done.is c.parse-parsed.ensures.ends)

@@ -8,20 +8,21 @@ use Rattle.decimal.specs.Decimal.{digit}
 use Rattle.decimal.proofs.Runs.{DigitAt, digit_at}
 use borrow.Author.Rules.{rules}
 use Rattle.decimal.proofs.digits_end.Goals as goal
+use Rattle.decimal.proofs.digits_end.Goals.{In-loop-i}
 
-digit_here : (c : goal.In-loop-i) → DigitAt c.args.s.now c.loop-i.i
+digit_here : (c : In-loop-i) → DigitAt c.args.s.now c.loop-i.i
 digit_here c = digit_at _ _ (sym c.is_digit_at.ensures ∙ c.loop-i-test.true)
 
 pub overflow_add-i : goal.overflow_add-i
-overflow_add-i c = let d = digit_here c in omega arith
+overflow_add-i c = let d = digit_here (goal.at.overflow_add-i c).In-loop-i in omega arith
 
 pub loop-i-smaller : goal.loop-i-smaller
-loop-i-smaller c = let d = digit_here c in omega arith
+loop-i-smaller c = let d = digit_here (goal.at.loop-i-smaller c).In-loop-i in omega arith
 
 pub loop-i-preserved : goal.loop-i-preserved
-loop-i-preserved c = c.loop-i.invariant ∙ end_more digit refl _ _ (digit_here c).is
+loop-i-preserved c = c.loop-i.invariant ∙ end_more digit refl _ _ (digit_here (goal.at.loop-i-preserved c).In-loop-i).is
 
 pub returns : goal.returns
 returns c =
-    let l = c.before.before in
-    sym (l.loop.invariant ∙ end_none digit l.args.s.now l.loop.i (sym c.is_digit_at.ensures ∙ c.loop-i-test.false))
+    let l = c in
+    sym (l.loop-i.invariant ∙ end_none digit l.args.s.now l.loop-i.i (sym c.is_digit_at.ensures ∙ c.loop-i-test.false))

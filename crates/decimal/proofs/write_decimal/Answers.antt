@@ -15,7 +15,7 @@ returns-then-room-at c = let a = c.args in no_room a.n a.at a.out.now (omega ari
 
 pub returns : goal.returns
 returns c =
-    let w = c.before.before in
+    let w = c in
     let d = w.before.before.before.before in
     let a = d.args in
     let fits = room a.n a.at a.out.now (omega arith) in

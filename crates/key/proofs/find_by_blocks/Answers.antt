@@ -12,7 +12,7 @@ loop-i-init c = (omega arith, refl)
 
 pub find_quotes-requires : goal.find_quotes-requires
 find_quotes-requires c =
-    let w = c.before.before.before.before.before.before.before.before.before in
+    let w = c in
     (c.loop-i.invariant.0, w.requires.1, c.mark_of-mark.ensures.quotes c.if-mark-eq0.true)
 
 pub returns-then-mark-eq0 : goal.returns-then-mark-eq0

@@ -11,7 +11,7 @@ use Rattle.key.proofs.find_far.Goals as goal
 
 pub returns-then-key-gt-MOST : goal.returns-then-key-gt-MOST
 returns-then-key-gt-MOST c =
-    let w = c.before.before.before.before in
+    let w = c in
     nowhere_else w.args.s.now w.args.key.now w.args.at w.args.stop w.requires.1 c.quoted_before.result c.quoted_before.ensures
 
 pub slice_bounds-find-end : goal.slice_bounds-find-end

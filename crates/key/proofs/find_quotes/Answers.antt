@@ -23,14 +23,14 @@ loop-i-smaller c =
 
 pub loop-i-preserved : goal.loop-i-preserved
 loop-i-preserved c =
-    let w = c.before.before.before.before.before.before.before.before in
+    let w = c in
     let l = c.loop-i in
     let o = rw c.in-At.is at c.last_other-other.ensures in
     l.invariant ∙ go_on w.args.s.now w.args.key.now w.requires.2 c.in-At.j o.2 l.i o.0 (omega (arith, o.1))
 
 pub returns-in-Nothing : goal.returns-in-Nothing
 returns-in-Nothing c =
-    let w = c.before.before.before.before.before.before.before in
+    let w = c in
     let l = c.loop-i in
     let o = rw c.in-Nothing.is at c.last_other-other.ensures in
     sym (l.invariant ∙ stands w.args.s.now w.args.key.now w.requires.2 l.i (omega arith) o)

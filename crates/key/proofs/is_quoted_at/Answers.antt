@@ -10,7 +10,7 @@ use Rattle.key.proofs.is_quoted_at.Goals as goal
 
 pub returns-then-both : goal.returns-then-both
 returns-then-both c =
-    let w = c.before.before.before.before.before.before.before.before in
+    let w = c in
     c.starts_with.ensures ∙ between w.args.s.now w.args.key.now w.args.at w.requires (sym c.both.ensures ∙ c.if-both.true) (w.args.at + 1 + length w.args.key.now - (w.args.at + 1)) (omega arith)
 
 pub returns : goal.returns

@@ -7,6 +7,7 @@ use native.Mathlib.Omega.{arith}
 use Prim.Native.Nat.{◌+◌, ◌-◌}
 use lib.ListN.{length}
 use Rattle.kmp.proofs.walk.Goals as goal
+use Rattle.kmp.proofs.walk.Goals.{After-wide-shift}
 
 pub loop-c-init : goal.loop-c-init
 loop-c-init c =
@@ -31,25 +32,25 @@ loop-c-preserved-then-j-eq0 c =
     let l = c.loop-c in
     moved a.p.now a.s.now a.at l.c l.j l.invariant c.if-s-c.false (omega arith) c.if-j-eq0.true
 
-shift : (c : goal.After-wide-shift) → Shift c.args.p.now c.loop-c.j c.wide-shift.result
+shift : (c : After-wide-shift) → Shift c.args.p.now c.loop-c.j c.wide-shift.result
 shift c =
     let l = c.loop-c in
     rw c.wide-shift.ensures.0 (c.requires.1.shift l.j (omega arith) (omega arith))
 
 pub overflow_add-c-else-j-eq0 : goal.overflow_add-c-else-j-eq0
-overflow_add-c-else-j-eq0 c = let s = shift c in omega arith
+overflow_add-c-else-j-eq0 c = let s = shift (goal.at.overflow_add-c-else-j-eq0 c).After-wide-shift in omega arith
 
 pub overflow_sub-j : goal.overflow_sub-j
-overflow_sub-j c = let s = shift c in omega arith
+overflow_sub-j c = let s = shift (goal.at.overflow_sub-j c).After-wide-shift in omega arith
 
 pub loop-c-smaller : goal.loop-c-smaller
-loop-c-smaller c = let s = shift c in omega arith
+loop-c-smaller c = let s = shift (goal.at.loop-c-smaller c).After-wide-shift in omega arith
 
 pub loop-c-preserved : goal.loop-c-preserved
 loop-c-preserved c =
     let a = c.args in
     let l = c.loop-c in
-    slid a.p.now a.s.now a.at l.c l.j l.invariant c.if-s-c.false (omega arith) c.wide-shift.result (shift c)
+    slid a.p.now a.s.now a.at l.c l.j l.invariant c.if-s-c.false (omega arith) c.wide-shift.result (shift (goal.at.loop-c-preserved c).After-wide-shift)
 
 pub returns : goal.returns
 returns c =

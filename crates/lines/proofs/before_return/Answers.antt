@@ -11,13 +11,13 @@ use Rattle.lines.proofs.before_return.Goals as goal
 
 pub returns-then-feed-at : goal.returns-then-feed-at
 returns-then-feed-at c =
-    let a = c.before in
+    let a = c in
     let q = a.requires.1.1 in
     let z = bare a.args.s.now a.args.at (omega arith) (omega arith) (omega arith) in omega arith
 
 pub returns-then-s-feed-eq13 : goal.returns-then-s-feed-eq13
 returns-then-s-feed-eq13 c =
-    let a = c.before.before.before in
+    let a = c in
     let s = a.args.s.now in
     let at = a.args.at in
     let k = a.args.feed - (at + 1) in
@@ -27,7 +27,7 @@ returns-then-s-feed-eq13 c =
 
 pub returns : goal.returns
 returns c =
-    let a = c.before.before.before in
+    let a = c in
     let s = a.args.s.now in
     let at = a.args.at in
     let k = a.args.feed - (at + 1) in

@@ -10,11 +10,11 @@ use borrow.Author.Rules.{rules}
 use Rattle.lines.proofs.line_at.Goals as goal
 
 pub returns-then-s-at : goal.returns-then-s-at
-returns-then-s-at c = let a = c.before.before in sym (line_done a.args.s.now a.args.at c.if-s-at.true)
+returns-then-s-at c = let a = c in sym (line_done a.args.s.now a.args.at c.if-s-at.true)
 
 pub returns-then-feed-s : goal.returns-then-feed-s
 returns-then-feed-s c =
-    let a = c.before.before.before.before in
+    let a = c in
     let s = a.args.s.now in
     let at = a.args.at in
     let h = c.if-s-at.false in
@@ -24,19 +24,19 @@ returns-then-feed-s c =
 
 pub before_return-end-requires : goal.before_return-end-requires
 before_return-end-requires c =
-    let a = c.before.before.before.before in
+    let a = c in
     let b = feed_bounds a.args.s.now a.args.at (omega arith) in
     let f = c.line_feed-feed.ensures in (omega arith, (omega arith, f))
 
 pub overflow_add-result : goal.overflow_add-result
 overflow_add-result c =
-    let a = c.before.before.before.before.before in
+    let a = c in
     let b = feed_bounds a.args.s.now a.args.at (omega arith) in
     let f = c.line_feed-feed.ensures in omega arith
 
 pub returns : goal.returns
 returns c =
-    let a = c.before.before.before.before.before in
+    let a = c in
     let s = a.args.s.now in
     let at = a.args.at in
     let h = c.if-s-at.false in

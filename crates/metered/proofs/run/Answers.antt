@@ -10,9 +10,10 @@ use Rattle.base.proofs.Tests.{positive}
 use Rattle.metered.proofs.Loop.{act_over, Leads, goes_on_lem, ends_with, turn}
 use borrow.Author.Rules.{rules}
 use Rattle.metered.proofs.run.Goals as goal
+use Rattle.metered.proofs.run.Goals.{After-step-r}
 
 -- the turn of the loop that has just been made
-here : (c : goal.After-step-r)
+here : (c : After-step-r)
     → pay c.loop-r.r.gas (frame_of c.loop-r.stack c.loop-r.work c.loop-r.r) (machine (decode c.args.kinds.now c.args.operands.now) c.args.caller (length c.args.work.now) (frame_of c.loop-r.stack c.loop-r.work c.loop-r.r))
     ≡ progress_of c.step-r.new.1.1.1.0 c.step-r.new.1.1.1.1.0 c.step-r.result
 here c =
@@ -36,7 +37,7 @@ returns-then-r-ne0 c =
     record {
       progress =
           λ n h.
-          sym (l.invariant.4 (progress_of d.new.1.1.1.0 d.new.1.1.1.1.0 q) (ends_with (machine (decode a.kinds.now a.operands.now) a.caller (length a.work.now)) l.r.gas q.code q.note q.gas (frame_of l.stack l.work l.r) _ (here c.before.before.before.before.before.before) one) n h);
+          sym (l.invariant.4 (progress_of d.new.1.1.1.0 d.new.1.1.1.1.0 q) (ends_with (machine (decode a.kinds.now a.operands.now) a.caller (length a.work.now)) l.r.gas q.code q.note q.gas (frame_of l.stack l.work l.r) _ (here (goal.at.returns-then-r-ne0 c).After-step-r) one) n h);
       held = rw l.invariant.2 at d.ensures.held;
       over = one;
       gas = le_trans d.ensures.gas l.invariant.3;
@@ -58,7 +59,7 @@ loop-r-preserved c =
       d.auto.1.1.1.0 ∙ i.1,
       d.auto.1.1.1.1.0 ∙ i.2,
       omega arith,
-      λ o k. i.4 o (goes_on_lem (machine (decode a.kinds.now a.operands.now) a.caller (length a.work.now)) l.r.gas d.result.gas (frame_of l.stack l.work l.r) _ (here c.before.before.before.before.before.before ∙ rw z) (omega arith) o k),
+      λ o k. i.4 o (goes_on_lem (machine (decode a.kinds.now a.operands.now) a.caller (length a.work.now)) l.r.gas d.result.gas (frame_of l.stack l.work l.r) _ (here (goal.at.loop-r-preserved c).After-step-r ∙ rw z) (omega arith) o k),
     )
 
 pub returns : goal.returns

@@ -13,10 +13,10 @@ pub slice_bounds-last_byte-end : goal.slice_bounds-last_byte-end
 slice_bounds-last_byte-end c = sym (length-take-le _ _ c.requires)
 
 pub overflow_add-result : goal.overflow_add-result
-overflow_add-result c = let st = c.before.before.before.before.before.before in let t = take st.args.end st.args.path.now in let l = subst (LastAt 0x2F t) c.in-At.is c.last_byte-found.ensures in let m = l.inside in omega (arith, length-take-le st.args.end st.args.path.now st.requires)
+overflow_add-result c = let st = c in let t = take st.args.end st.args.path.now in let l = subst (LastAt 0x2F t) c.in-At.is c.last_byte-found.ensures in let m = l.inside in omega (arith, length-take-le st.args.end st.args.path.now st.requires)
 
 pub returns-in-At : goal.returns-in-At
-returns-in-At c = let st = c.before.before.before.before.before.before in let t = take st.args.end st.args.path.now in starts_behind st.args.path.now st.args.end st.requires _ (subst (LastAt 0x2F t) c.in-At.is c.last_byte-found.ensures)
+returns-in-At c = let st = c in let t = take st.args.end st.args.path.now in starts_behind st.args.path.now st.args.end st.requires _ (subst (LastAt 0x2F t) c.in-At.is c.last_byte-found.ensures)
 
 pub returns-in-Nothing : goal.returns-in-Nothing
-returns-in-Nothing c = let st = c.before.before.before.before.before in let t = take st.args.end st.args.path.now in starts_first st.args.path.now st.args.end st.requires (subst (LastAt 0x2F t) c.in-Nothing.is c.last_byte-found.ensures)
+returns-in-Nothing c = let st = c in let t = take st.args.end st.args.path.now in starts_first st.args.path.now st.args.end st.requires (subst (LastAt 0x2F t) c.in-Nothing.is c.last_byte-found.ensures)

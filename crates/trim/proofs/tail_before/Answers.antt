@@ -42,7 +42,7 @@ returns-then-is_white3 c =
     let s = a.s.now in
     let x = get_or s (a.e - 1) 0 in
     let y = get_or s (a.e - 2) 0 in
-    let w = c.before.before.before.before in
+    let w = c in
     goes 3 (omega arith) (omega arith) (before3 s a.e (omega arith) (omega arith))
     (yes3 back2 back3 x y (get_or s (a.e - 3) 0) (reverse (take (a.e - 3) s)) (not1 x (omega arith)) (sym w.is_white2.ensures ∙ w.if-is_white2.false) (sym c.is_white3.ensures ∙ c.if-is_white3.true))
 
@@ -52,6 +52,6 @@ returns c =
     let s = a.s.now in
     let x = get_or s (a.e - 1) 0 in
     let y = get_or s (a.e - 2) 0 in
-    let w = c.before.before.before.before in
+    let w = c in
     stays (before3 s a.e (omega arith) (omega arith))
     (no3 back2 back3 x y (get_or s (a.e - 3) 0) (reverse (take (a.e - 3) s)) (not1 x (omega arith)) (sym w.is_white2.ensures ∙ w.if-is_white2.false) (sym c.is_white3.ensures ∙ c.if-is_white3.false))

@@ -25,8 +25,8 @@ slice_bounds-result-end c = sym (length-take-le _ _ c.loop-e.invariant.0)
 
 pub returns : goal.returns
 returns c =
-    let l = c.before.before in
-    let e = l.loop.e in
+    let l = c in
+    let e = l.loop-e.e in
     let s = l.args.s.now in
     let p : back (reverse (take e s)) ≡ reverse (take e s) = ⊎_elim (λ w. ended s e w.left) (λ w. w.1.ensures.none w.2.taken) c.loop-e-test.branch in
-    record { text = sym (ap reverse (l.loop.invariant.1 ∙ p) ∙ reverse-reverse (take e s)); block = refl; offset = omega arith }
+    record { text = sym (ap reverse (l.loop-e.invariant.1 ∙ p) ∙ reverse-reverse (take e s)); block = refl; offset = omega arith }

@@ -19,10 +19,10 @@ loop-i-preserved c = (search rules, c.loop-i.invariant.1 ∙ c.white_at-n.ensure
 
 pub returns : goal.returns
 returns c =
-    let l = c.before.before in
-    let i = l.loop.i in
+    let l = c in
+    let i = l.loop-i.i in
     let s = l.args.s.now in
     let e : start_trimmed (drop i s) ≡ drop i s = ⊎_elim (λ w. ended s i w.left) (λ w. w.1.ensures.none w.2.taken) c.loop-i-test.branch in
-    let q : start_trimmed s ≡ drop i s = l.loop.invariant.1 ∙ e in
-    let h = l.loop.invariant.0 in
+    let q : start_trimmed s ≡ drop i s = l.loop-i.invariant.1 ∙ e in
+    let h = l.loop-i.invariant.0 in
     record { text = take-length-drop s i ∙ sym q; block = refl; offset = omega (arith, ap length q, length-drop i s) }

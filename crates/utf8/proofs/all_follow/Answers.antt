@@ -14,14 +14,14 @@ loop-k-init c = (omega arith, λ e k h. absurd (omega arith))
 
 pub loop-k-preserved : goal.loop-k-preserved
 loop-k-preserved c =
-    let l = c.before.before.before.before.before.before.before in
+    let l = c in
     let a = l.args in (
       omega arith,
-      λ e. both_more (λ i. follows_at a.s.now i ≡ true) a.at l.loop.k l.loop.all _ l.loop.invariant.1
+      λ e. both_more (λ i. follows_at a.s.now i ≡ true) a.at l.loop-k.k l.loop-k.all _ l.loop-k.invariant.1
           (λ f. sym c.does_follow.ensures ∙ f) (sym c.both-all.ensures ∙ e),
     )
 
 pub returns : goal.returns
 returns c =
-    let l = c.before in
-    let z : l.loop.k ≡ l.args.n = omega arith in λ e. rw z at (l.loop.invariant.1 e)
+    let l = c in
+    let z : l.loop-k.k ≡ l.args.n = omega arith in λ e. rw z at (l.loop-k.invariant.1 e)

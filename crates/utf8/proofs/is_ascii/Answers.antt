@@ -13,7 +13,7 @@ returns-then-s-at c = λ e. false_true e
 
 pub returns : goal.returns
 returns c =
-    let a = c.before.before.before in
+    let a = c in
     λ e. record {
       on = omega arith;
       within = omega arith;

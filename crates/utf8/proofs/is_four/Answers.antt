@@ -5,4 +5,4 @@ use borrow.Author.Rules.{rules}
 use Rattle.utf8.proofs.is_four.Goals as goal
 
 pub returns : goal.returns
-returns c = let a = c.before.before.before.before.before.before.before.before in cc (four_by a.args.a a.args.b a.args.c a.args.d a.requires)
+returns c = let a = c in cc (four_by a.args.a a.args.b a.args.c a.args.d a.requires)

@@ -5,4 +5,4 @@ use borrow.Author.Rules.{rules}
 use Rattle.utf8.proofs.is_three.Goals as goal
 
 pub returns : goal.returns
-returns c = let a = c.before.before.before.before.before in cc (three_by a.args.a a.args.b a.args.c a.requires.0 a.requires.1)
+returns c = let a = c in cc (three_by a.args.a a.args.b a.args.c a.requires.0 a.requires.1)

@@ -16,8 +16,8 @@ loop-i-init c = skips_none (omega arith) refl
 
 pub returns-then-next-end : goal.returns-then-next-end
 returns-then-next-end c =
-    let l = c.before.before.before.before.before.before in
-    sym (l.loop.invariant.same ∙ c.characters-next.ensures.0.same ∙ c.characters-next.ensures.1 c.if-next-end.true)
+    let l = c in
+    sym (l.loop-i.invariant.same ∙ c.characters-next.ensures.0.same ∙ c.characters-next.ensures.1 c.if-next-end.true)
 
 pub loop-i-smaller-else-next-end : goal.loop-i-smaller-else-next-end
 loop-i-smaller-else-next-end c = let h = c.characters-next.ensures.0.within in omega arith

@@ -15,12 +15,12 @@ loop-k-init c = (omega arith, λ k h. absurd (omega arith))
 
 pub loop-k-preserved : goal.loop-k-preserved
 loop-k-preserved c =
-    let l = c.before.before.before in
+    let l = c in
     let a = l.args in
     let m = c.larger-most.ensures in
-    (omega arith, all_more (λ i. get_or a.s.now i 0 ≤ c.larger-most.result) a.at l.loop.k (λ k h. le_trans (l.loop.invariant.1 k h) m.0) m.1)
+    (omega arith, all_more (λ i. get_or a.s.now i 0 ≤ c.larger-most.result) a.at l.loop-k.k (λ k h. le_trans (l.loop-k.invariant.1 k h) m.0) m.1)
 
 pub returns : goal.returns
 returns c =
-    let l = c.before in
-    let z : l.loop.k ≡ l.args.n = omega arith in rw z at l.loop.invariant.1
+    let l = c in
+    let z : l.loop-k.k ≡ l.args.n = omega arith in rw z at l.loop-k.invariant.1

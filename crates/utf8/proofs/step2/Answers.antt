@@ -8,11 +8,11 @@ use Rattle.utf8.proofs.step2.Goals as goal
 
 pub returns-then-s-at-lt2 : goal.returns-then-s-at-lt2
 returns-then-s-at-lt2 c =
-    let a = c.before.before in short_two a.args.s.now a.args.at (omega arith) c.if-s-at-lt2.true a.requires.1.0
+    let a = c in short_two a.args.s.now a.args.at (omega arith) c.if-s-at-lt2.true a.requires.1.0
 
 pub returns-then-is_two : goal.returns-then-is_two
 returns-then-is_two c =
-    let a = c.before.before.before.before.before.before in
+    let a = c in
     let s = a.args.s.now in
     let at = a.args.at in
     chosen s at (omega arith) 2 _ (omega arith) (omega arith) (at_two s at (omega arith) (omega arith) a.requires.1.0 a.requires.1.1)
@@ -20,7 +20,7 @@ returns-then-is_two c =
 
 pub returns : goal.returns
 returns c =
-    let a = c.before.before.before.before.before.before in
+    let a = c in
     let s = a.args.s.now in
     let at = a.args.at in
     refused s at (omega arith) 2 _ (at_two s at (omega arith) (omega arith) a.requires.1.0 a.requires.1.1)

@@ -8,11 +8,11 @@ use Rattle.utf8.proofs.step3.Goals as goal
 
 pub returns-then-s-at-lt3 : goal.returns-then-s-at-lt3
 returns-then-s-at-lt3 c =
-    let a = c.before.before in short_three a.args.s.now a.args.at (omega arith) c.if-s-at-lt3.true a.requires.1.0
+    let a = c in short_three a.args.s.now a.args.at (omega arith) c.if-s-at-lt3.true a.requires.1.0
 
 pub returns-then-is_three : goal.returns-then-is_three
 returns-then-is_three c =
-    let a = c.before.before.before.before.before.before.before in
+    let a = c in
     let s = a.args.s.now in
     let at = a.args.at in
     chosen s at (omega arith) 3 _ (omega arith) (omega arith) (at_three s at (omega arith) (omega arith) a.requires.1.0 a.requires.1.1)
@@ -20,7 +20,7 @@ returns-then-is_three c =
 
 pub returns : goal.returns
 returns c =
-    let a = c.before.before.before.before.before.before.before in
+    let a = c in
     let s = a.args.s.now in
     let at = a.args.at in
     refused s at (omega arith) 3 _ (at_three s at (omega arith) (omega arith) a.requires.1.0 a.requires.1.1)

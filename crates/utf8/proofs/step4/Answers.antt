@@ -8,11 +8,11 @@ use Rattle.utf8.proofs.step4.Goals as goal
 
 pub returns-then-s-at-lt4 : goal.returns-then-s-at-lt4
 returns-then-s-at-lt4 c =
-    let a = c.before.before in short_four a.args.s.now a.args.at (omega arith) c.if-s-at-lt4.true a.requires.1
+    let a = c in short_four a.args.s.now a.args.at (omega arith) c.if-s-at-lt4.true a.requires.1
 
 pub returns-then-is_four : goal.returns-then-is_four
 returns-then-is_four c =
-    let a = c.before.before.before.before.before.before.before.before in
+    let a = c in
     let s = a.args.s.now in
     let at = a.args.at in
     chosen s at (omega arith) 4 _ (omega arith) (omega arith) (at_four s at (omega arith) (omega arith) a.requires.1)
@@ -20,7 +20,7 @@ returns-then-is_four c =
 
 pub returns : goal.returns
 returns c =
-    let a = c.before.before.before.before.before.before.before.before in
+    let a = c in
     let s = a.args.s.now in
     let at = a.args.at in
     refused s at (omega arith) 4 _ (at_four s at (omega arith) (omega arith) a.requires.1)

@@ -8,10 +8,10 @@ use borrow.Author.Rules.{rules}
 use Rattle.body.proofs.statement.trimmed_part.Goals as goal
 
 pub overflow_add-result : goal.overflow_add-result
-overflow_add-result c = let a = c.before.before.before.before in let i = trimmed_inside a.args.contract.now a.args.start a.args.end a.requires.0 a.requires.1 in omega (arith, ap (λ (r : Span). r.end) c.trimmed_span-span.ensures, ap (λ (r : Span). r.start) c.trimmed_span-span.ensures)
+overflow_add-result c = let a = c in let i = trimmed_inside a.args.contract.now a.args.start a.args.end a.requires.0 a.requires.1 in omega (arith, ap (λ (r : Span). r.end) c.trimmed_span-span.ensures, ap (λ (r : Span). r.start) c.trimmed_span-span.ensures)
 
 pub overflow_add-result-2 : goal.overflow_add-result-2
-overflow_add-result-2 c = let a = c.before.before.before.before.before in let i = trimmed_inside a.args.contract.now a.args.start a.args.end a.requires.0 a.requires.1 in omega (arith, ap (λ (r : Span). r.end) c.trimmed_span-span.ensures, ap (λ (r : Span). r.start) c.trimmed_span-span.ensures)
+overflow_add-result-2 c = let a = c in let i = trimmed_inside a.args.contract.now a.args.start a.args.end a.requires.0 a.requires.1 in omega (arith, ap (λ (r : Span). r.end) c.trimmed_span-span.ensures, ap (λ (r : Span). r.start) c.trimmed_span-span.ensures)
 
 pub returns : goal.returns
 returns c = cc

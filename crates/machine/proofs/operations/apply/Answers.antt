@@ -5,6 +5,7 @@ use Rattle.word.specs.Apply.{lt}
 use Rattle.machine.specs.Code.Registers.{binop_of_kind}
 use Rattle.machine.proofs.Program.{other_lt}
 use Rattle.machine.proofs.operations.apply.Goals as goal
+use Rattle.machine.proofs.operations.apply.Goals.{In_default}
 
 wrapped : (a b r : ℕ) → a < 2 ^ 64 → b < 2 ^ 64 → r < 2 ^ 64 → (r + b) % 2 ^ 64 ≡ a → r ≡ (a + (2 ^ 64 - b)) % 2 ^ 64
 wrapped a b r ha hb hr e = omega arith
@@ -12,7 +13,7 @@ wrapped a b r ha hb hr e = omega arith
 not_zero : {b : ℕ} → 1 ≤ b → b ≡ 0 → ⊥
 not_zero h e = omega arith
 
-lt_here : (c : goal.In_default) → binop_of_kind c.args.kind ≡ lt
+lt_here : (c : In_default) → binop_of_kind c.args.kind ≡ lt
 lt_here c =
     let n = c.in-1.rest in
     other_lt c.args.kind n.0.0.0.0.1 n.0.0.0.1 n.0.0.1 n.0.1 n.1
@@ -38,7 +39,7 @@ pub returns-else-a-b : goal.returns-else-a-b
 returns-else-a-b c = rw (c.in-9.is, ne_eqb _ _ c.if-a-b.false)
 
 pub returns-then-a-b-2 : goal.returns-then-a-b-2
-returns-then-a-b-2 c = rw (lt_here c.before, lt-ltb _ _ c.if-a-b-2.true)
+returns-then-a-b-2 c = rw (lt_here (goal.at.returns-then-a-b-2 c).In_default, lt-ltb _ _ c.if-a-b-2.true)
 
 pub returns-else-a-b-2 : goal.returns-else-a-b-2
-returns-else-a-b-2 c = rw (lt_here c.before, le-ltb _ _ c.if-a-b-2.false)
+returns-else-a-b-2 c = rw (lt_here (goal.at.returns-else-a-b-2 c).In_default, le-ltb _ _ c.if-a-b-2.false)

@@ -8,12 +8,12 @@ loop-i-init c = (omega arith, omega arith, fill_none c.args.a c.args.s.now, refl
 
 pub loop-i-preserved : goal.loop-i-preserved
 loop-i-preserved c =
-    let l = c.before in
+    let l = c in
     let a = l.args in (
       omega arith,
       omega arith,
-      ap (λ (t : List ℕ). set t l.loop.i 0) l.loop.invariant.2 ∙ fill_one a.a l.loop.i a.s.now l.loop.invariant.0 (omega arith),
-      simp length-set l.loop.invariant.3,
+      ap (λ (t : List ℕ). set t l.loop-i.i 0) l.loop-i.invariant.2 ∙ fill_one a.a l.loop-i.i a.s.now l.loop-i.invariant.0 (omega arith),
+      simp length-set l.loop-i.invariant.3,
     )
 
 pub returns : goal.returns

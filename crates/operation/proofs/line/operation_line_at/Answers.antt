@@ -31,7 +31,7 @@ returns-then-one c =
 
 pub overflow_add-result-2 : goal.overflow_add-result-2
 overflow_add-result-2 c =
-    let start = c.before.before.before.before.before.before.before.before.before.before in
+    let start = c in
     let a = start.args in
     let text = a.text.now in
     let o = subst (PlainRead text a.first) c.in-Op.is c.plain_at-plain.ensures in
@@ -42,7 +42,7 @@ overflow_add-result-2 c =
 
 pub returns : goal.returns
 returns c =
-    let start = c.before.before.before.before.before.before.before.before.before.before in
+    let start = c in
     let a = start.args in
     let text = a.text.now in
     let i = indent _ _ _ start.requires in

@@ -9,7 +9,7 @@ use Rattle.replay.proofs.field.stop.Goals as goal
 
 pub returns-in-At : goal.returns-in-At
 returns-in-At c =
-    let a = c.before.before.before.before.before in
+    let a = c in
     let f = found (a.args.mark ∷ []) a.args.s.now a.args.at c.in-At.i (sym c.find_byte-found.ensures ∙ c.in-At.is) in
     let p = f.after in
     let q = f.fits in omega arith

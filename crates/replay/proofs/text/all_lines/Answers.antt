@@ -10,7 +10,7 @@ use Rattle.replay.proofs.text.all_lines.Goals as goal
 
 pub loop-at-smaller : goal.loop-at-smaller
 loop-at-smaller c =
-    let w = c.before.before.before.before in
+    let w = c in
     let l = w.before.before.before.before in
     let s = l.args.s.now in
     let h = step_line s l.loop.at w.in-Next.line (sym w.line_at_lem.ensures ∙ w.in-Next.is) in

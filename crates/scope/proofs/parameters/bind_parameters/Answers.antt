@@ -14,7 +14,7 @@ use Rattle.scope.proofs.parameters.bind_parameters.Goals as goal
 
 pub loop-at-init : goal.loop-at-init
 loop-at-init c =
-    let a = c.before.before.before.before in
+    let a = c in
     let s = a.args.contract.now in
     let v = a.well_formed.1.1.1.1.0.1.1.0 in
     let t = a.well_formed.1.1.1.1.0.1.1.1.0 in
@@ -22,19 +22,19 @@ loop-at-init c =
 
 pub returns-in_default : goal.returns-in_default
 returns-in_default c =
-    let a = c.before.before.before.before.before.before.before.before.before in
+    let a = c in
     let s = a.args.contract.now in
     turn_done a.requires c.loop-at.invariant.0 (names_done s a.args.start a.args.end a.requires c.loop-at.at (sym c.next_parameter-next.ensures ∙ c.in_default.is))
 
 pub slice_bounds-number_for-count : goal.slice_bounds-number_for-count
 slice_bounds-number_for-count c =
-    let a = c.before.before.before.before.before.before.before.before.before.before in
+    let a = c in
     let s = a.args.contract.now in
     (name_item s a.args.start a.args.end a.requires c.loop-at.at _ (sym c.next_parameter-next.ensures ∙ c.in-Is.is)).ordered
 
 pub slice_bounds-number_for-start : goal.slice_bounds-number_for-start
 slice_bounds-number_for-start c =
-    let a = c.before.before.before.before.before.before.before.before.before.before in
+    let a = c in
     let s = a.args.contract.now in
     let w = item_within a.requires (name_item s a.args.start a.args.end a.requires c.loop-at.at _ (sym c.next_parameter-next.ensures ∙ c.in-Is.is)) in
     let o = w.ordered in
@@ -43,7 +43,7 @@ slice_bounds-number_for-start c =
 
 pub slice_bounds-number_for-end : goal.slice_bounds-number_for-end
 slice_bounds-number_for-end c =
-    let a = c.before.before.before.before.before.before.before.before.before.before in
+    let a = c in
     let s = a.args.contract.now in
     let w = item_within a.requires (name_item s a.args.start a.args.end a.requires c.loop-at.at _ (sym c.next_parameter-next.ensures ∙ c.in-Is.is)) in
     let o = w.ordered in
@@ -52,7 +52,7 @@ slice_bounds-number_for-end c =
 
 pub returns-in-Refused : goal.returns-in-Refused
 returns-in-Refused c =
-    let a = c.before.before.before.before.before.before.before.before.before.before.before.before.before.before.before in
+    let a = c in
     let s = a.args.contract.now in
     let i = name_item s a.args.start a.args.end a.requires c.loop-at.at _ (sym c.next_parameter-next.ensures ∙ c.in-Is.is) in
     let w = item_within a.requires i in
@@ -60,7 +60,7 @@ returns-in-Refused c =
 
 pub returns-then-i-ge256 : goal.returns-then-i-ge256
 returns-then-i-ge256 c =
-    let a = c.before.before.before.before.before.before.before.before.before.before.before.before.before.before.before.before.before in
+    let a = c in
     let s = a.args.contract.now in
     let i = name_item s a.args.start a.args.end a.requires c.loop-at.at _ (sym c.next_parameter-next.ensures ∙ c.in-Is.is) in
     let w = item_within a.requires i in
@@ -68,27 +68,27 @@ returns-then-i-ge256 c =
 
 pub row_of-row-requires : goal.row_of-row-requires
 row_of-row-requires c =
-    let a = c.before.before.before.before.before.before.before.before.before.before.before.before.before.before.before.before.before in
+    let a = c in
     let s = a.args.contract.now in
     let w = item_within a.requires (name_item s a.args.start a.args.end a.requires c.loop-at.at _ (sym c.next_parameter-next.ensures ∙ c.in-Is.is)) in
     (record { ordered = w.ordered; fits = w.fits }, (record { ordered = omega arith; fits = w.fits }, (c.literal-read.ensures.1, w.inside)))
 
 pub overflow_add-place : goal.overflow_add-place
 overflow_add-place c =
-    let a = c.before.before.before.before.before.before.before.before.before.before.before.before.before.before.before.before.before.before in
+    let a = c in
     let t = c.loop-at.invariant.0 in
     omega (arith, t.counted, t.high, a.requires.fits)
 
 pub loop-at-smaller : goal.loop-at-smaller
 loop-at-smaller c =
-    let a = c.before.before.before.before.before.before.before.before.before.before.before.before.before.before.before.before.before.before in
+    let a = c in
     let s = a.args.contract.now in
     let i = name_item s a.args.start a.args.end a.requires c.loop-at.at _ (sym c.next_parameter-next.ensures ∙ c.in-Is.is) in
     omega (arith, i.on, i.high)
 
 pub loop-at-preserved : goal.loop-at-preserved
 loop-at-preserved c =
-    let a = c.before.before.before.before.before.before.before.before.before.before.before.before.before.before.before.before.before.before in
+    let a = c in
     let s = a.args.contract.now in
     let i = name_item s a.args.start a.args.end a.requires c.loop-at.at _ (sym c.next_parameter-next.ensures ∙ c.in-Is.is) in
     let w = item_within a.requires i in
@@ -96,6 +96,6 @@ loop-at-preserved c =
 
 pub returns : goal.returns
 returns c =
-    let a = c.before.before.before.before.before.before in
+    let a = c in
     let s = a.args.contract.now in
     turn_done a.requires c.loop-at.invariant.0 (names_end s a.args.start a.args.end a.requires c.loop-at.at c.loop-at-test.false)

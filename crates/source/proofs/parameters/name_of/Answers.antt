@@ -7,46 +7,47 @@ use lib.Seq.{length-take-le}
 use Rattle.source.proofs.Names.{whole_fits, colon_fits, name_is, name_inside}
 use borrow.Author.Rules.{rules}
 use Rattle.source.proofs.parameters.name_of.Goals as goal
+use Rattle.source.proofs.parameters.name_of.Goals.{After-trimmed_span-name, After-trimmed_span-whole}
 
-whole_here : (c : goal.After-trimmed_span-whole) → let w = c.trimmed_span-whole.result in (w.start ≤ w.end) × (w.end ≤ length c.args.piece.now)
+whole_here : (c : After-trimmed_span-whole) → let w = c.trimmed_span-whole.result in (w.start ≤ w.end) × (w.end ≤ length c.args.piece.now)
 whole_here c = whole_fits c.args.piece.now c.trimmed_span-whole.result c.trimmed_span-whole.ensures
 
 pub slice_bounds-text-count : goal.slice_bounds-text-count
-slice_bounds-text-count c = let f = whole_here c in omega arith
+slice_bounds-text-count c = let f = whole_here (goal.at.slice_bounds-text-count c).After-trimmed_span-whole in omega arith
 
 pub slice_bounds-text-start : goal.slice_bounds-text-start
-slice_bounds-text-start c = let f = whole_here c in omega arith
+slice_bounds-text-start c = let f = whole_here (goal.at.slice_bounds-text-start c).After-trimmed_span-whole in omega arith
 
 pub slice_bounds-text-end : goal.slice_bounds-text-end
-slice_bounds-text-end c = let f = whole_here c in omega arith
+slice_bounds-text-end c = let f = whole_here (goal.at.slice_bounds-text-end c).After-trimmed_span-whole in omega arith
 
 pub slice_bounds-trimmed_span-end : goal.slice_bounds-trimmed_span-end
 slice_bounds-trimmed_span-end c =
-    let w = c.before.before.before in
+    let w = c in
     let k = c.cut-colon in
     sym (length-take-le _ _ (colon_fits w.args.piece.now w.trimmed_span-whole.result w.trimmed_span-whole.ensures k.result k.ensures))
 
-inside : (c : goal.After-trimmed_span-name) →
+inside : (c : After-trimmed_span-name) →
     let w = c.trimmed_span-whole.result in
     let n = c.trimmed_span-name.result in
     let p = c.args.piece.now in
     (w.start + n.start ≤ length p) × (w.start + n.end ≤ length p)
 inside c =
     let k = c.cut-colon in
-    let w = c.before.before.before.before in
+    let w = c in
     name_inside w.args.piece.now w.trimmed_span-whole.result w.trimmed_span-whole.ensures k.result k.ensures
     c.trimmed_span-name.result c.trimmed_span-name.ensures
 
 pub overflow_add-result : goal.overflow_add-result
-overflow_add-result c = let i = inside c.before in omega arith
+overflow_add-result c = let i = inside (goal.at.overflow_add-result c).After-trimmed_span-name in omega arith
 
 pub overflow_add-result-2 : goal.overflow_add-result-2
-overflow_add-result-2 c = let i = inside c.before.before in omega arith
+overflow_add-result-2 c = let i = inside (goal.at.overflow_add-result-2 c).After-trimmed_span-name in omega arith
 
 pub returns : goal.returns
 returns c =
-    let n = c.before.before in
+    let n = c in
     let k = n.cut_colon in
     let w = n.before.before.before.before in
     name_is w.args.piece.now w.trimmed_span-whole.result w.trimmed_span-whole.ensures k.result k.ensures
-    n.trimmed_span2.result n.trimmed_span2.ensures
+    n.trimmed_span_name.result n.trimmed_span_name.ensures

@@ -8,18 +8,19 @@ use Rattle.source.proofs.Pieces.{past, Stands, stands}
 use Rattle.source.proofs.Cursor.{here, skipped}
 use borrow.Author.Rules.{rules}
 use Rattle.source.proofs.parameters.next_of.Goals as goal
+use Rattle.source.proofs.parameters.next_of.Goals.{After-parameter_at-parameter}
 
-piece : (c : goal.After-parameter_at-parameter) → Stands c.args.s.now c.loop-i.i c.parameter_at-parameter.result
+piece : (c : After-parameter_at-parameter) → Stands c.args.s.now c.loop-i.i c.parameter_at-parameter.result
 piece c = rw c.parameter_at-parameter.ensures (stands c.args.s.now c.loop-i.i (omega arith))
 
 pub returns-then-parameter : goal.returns-then-parameter
-returns-then-parameter c = sym (c.loop-i.invariant ∙ here (piece c.before.before) c.if-parameter.true)
+returns-then-parameter c = sym (c.loop-i.invariant ∙ here (piece (goal.at.returns-then-parameter c).After-parameter_at-parameter) c.if-parameter.true)
 
 pub loop-i-smaller : goal.loop-i-smaller
-loop-i-smaller c = let o = (piece c.before.before).on c.loop-i-test.true in omega arith
+loop-i-smaller c = let o = (piece (goal.at.loop-i-smaller c).After-parameter_at-parameter).on c.loop-i-test.true in omega arith
 
 pub loop-i-preserved : goal.loop-i-preserved
-loop-i-preserved c = c.loop-i.invariant ∙ skipped (piece c.before.before) c.if-parameter.false
+loop-i-preserved c = c.loop-i.invariant ∙ skipped (piece (goal.at.loop-i-preserved c).After-parameter_at-parameter) c.if-parameter.false
 
 pub returns : goal.returns
 returns c = sym (c.loop-i.invariant ∙ past c.args.s.now c.loop-i.i c.loop-i-test.false)

@@ -8,20 +8,21 @@ use Rattle.source.specs.Vector.{of_digits}
 use Rattle.source.proofs.Numbers.{as_key_value, no_digit, some_digits}
 use borrow.Author.Rules.{rules}
 use Rattle.source.proofs.vector.leading_number.Goals as goal
+use Rattle.source.proofs.vector.leading_number.Goals.{After-digits_at-run, Else-run-eq0}
 
-len_is : (c : goal.After-digits_at-run) → c.digits_at-run.result.len ≡ length (take_while digit c.args.text.now)
+len_is : (c : After-digits_at-run) → c.digits_at-run.result.len ≡ length (take_while digit c.args.text.now)
 len_is c = ap (λ (d : Digits). d.len) c.digits_at-run.ensures
 
-number_is : (c : goal.Else-run-eq0) → of_digits (take_while digit c.args.text.now) ≡ as_key_value c.digits_at-run.result.value
+number_is : (c : Else-run-eq0) → of_digits (take_while digit c.args.text.now) ≡ as_key_value c.digits_at-run.result.value
 number_is c =
     some_digits (take_while digit c.args.text.now) (λ z. c.if-run-eq0.false (len_is c.before.before ∙ z))
     ∙ ap (λ (d : Digits). as_key_value d.value_1) (sym c.digits_at-run.ensures)
 
 pub returns-then-run-eq0 : goal.returns-then-run-eq0
-returns-then-run-eq0 c = sym (no_digit (take_while digit c.args.text.now) (sym (len_is c.before.before) ∙ c.if-run-eq0.true))
+returns-then-run-eq0 c = sym (no_digit (take_while digit c.args.text.now) (sym (len_is (goal.at.returns-then-run-eq0 c).After-digits_at-run) ∙ c.if-run-eq0.true))
 
 pub returns-in-Is : goal.returns-in-Is
-returns-in-Is c = sym (number_is c.before.before.before ∙ ap as_key_value c.in-Is.is)
+returns-in-Is c = sym (number_is (goal.at.returns-in-Is c).Else-run-eq0 ∙ ap as_key_value c.in-Is.is)
 
 pub returns-in-TooLarge : goal.returns-in-TooLarge
-returns-in-TooLarge c = sym (number_is c.before.before ∙ ap as_key_value c.in-TooLarge.is)
+returns-in-TooLarge c = sym (number_is (goal.at.returns-in-TooLarge c).Else-run-eq0 ∙ ap as_key_value c.in-TooLarge.is)
