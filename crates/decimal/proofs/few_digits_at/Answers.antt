@@ -32,7 +32,7 @@ value_after c =
     let l = c in
     let s = l.args.s.now in
     l.loop-d.invariant.2
-    ∙ value_more (digit_here c.before.before) l.loop-d.acc
+    ∙ value_more ((digit_at _ _ (sym c.is_digit_at.ensures ∙ c.loop-d-test.true))) l.loop-d.acc
     ∙ ap (λ (d : ℕ). value_from (l.loop-d.acc * 10 + d) (take_while digit (drop (l.loop-d.i + 1) s))) (sym c.widen-d.ensures)
 
 pub bounds-s-i : goal.bounds-s-i
@@ -47,11 +47,11 @@ next_fits-requires c = let d = digit_here (goal.at.next_fits-requires c).In-loop
 pub returns-then-not-next_fits : goal.returns-then-not-next_fits
 returns-then-not-next_fits c =
     let w = c in
-    let l = w.before.before.before.before in
+    let l = w in
     let s = l.args.s.now in
     answer s _ c.digits_end.result _
-    (l.loop.invariant.1 ∙ sym c.digits_end.ensures)
-    (ap capped (value_after w) ∙ over _ (take_while digit (drop (l.loop.i + 1) s)) (too_large (goal.at.returns-then-not-next_fits c).Then-not-next_fits))
+    (l.loop-d.invariant.1 ∙ sym c.digits_end.ensures)
+    (ap capped (value_after (goal.at.returns-then-not-next_fits c).After-widen-d) ∙ over _ (take_while digit (drop (l.loop-d.i + 1) s)) (too_large (goal.at.returns-then-not-next_fits c).Then-not-next_fits))
 
 pub overflow_mul-acc : goal.overflow_mul-acc
 overflow_mul-acc c = let b = below (goal.at.overflow_mul-acc c).Else-not-next_fits in omega arith
@@ -68,8 +68,8 @@ loop-d-smaller c = let d = digit_here (goal.at.loop-d-smaller c).In-loop-d in om
 pub loop-d-preserved : goal.loop-d-preserved
 loop-d-preserved c =
     let w = c in
-    let l = w.before.before.before.before in
-    (below (goal.at.loop-d-preserved c).Else-not-next_fits, l.loop.invariant.1 ∙ end_more digit refl _ _ (digit_here w.before.before).is, value_after w)
+    let l = w in
+    (below (goal.at.loop-d-preserved c).Else-not-next_fits, l.loop-d.invariant.1 ∙ end_more digit refl _ _ (digit_here (goal.at.loop-d-preserved c).In-loop-d).is, value_after (goal.at.loop-d-preserved c).After-widen-d)
 
 no_digit : (c : After-loop-d) → digit (get_or c.args.s.now c.loop-d.i 0) ≡ false
 no_digit c = sym c.is_digit_at.ensures ∙ c.loop-d-test.false

@@ -17,20 +17,20 @@ pub returns-then-len-eq0 : goal.returns-then-len-eq0
 returns-then-len-eq0 c =
     let r = len_is (goal.at.returns-then-len-eq0 c).After-digits_at-run in
     let p = c in
-    sym (read_none p.args.s.now p.plus_len_at.result p.plus_len_at.ensures.1 (omega arith))
+    sym (read_none p.args.s.now p.plus_len-at.result p.plus_len-at.ensures.1 (omega arith))
 
 pub returns-then-len-s : goal.returns-then-len-s
 returns-then-len-s c =
     let r = len_is (goal.at.returns-then-len-s c).After-digits_at-run in
     let p = c in
-    sym (read_other p.args.s.now p.plus_len_at.result p.plus_len_at.ensures.1 (omega arith))
+    sym (read_other p.args.s.now p.plus_len-at.result p.plus_len-at.ensures.1 (omega arith))
 
 number_is : (c : Else-len-s) → number_of c.args.s.now ≡ as_number c.digits_at-run.result.value
 number_is c =
-    let r = len_is c.before.before in
+    let r = (ap (λ (d : Digits). d.len) c.digits_at-run.ensures) in
     let p = c in
-    read_all p.args.s.now p.plus_len_at.result p.plus_len_at.ensures.1 (λ z. c.if-len-eq0.false (r ∙ z)) (omega arith)
-    ∙ ap (λ (d : Digits). as_number d.value_1) (sym c.digits_at-run.ensures)
+    read_all p.args.s.now p.plus_len-at.result p.plus_len-at.ensures.1 (λ z. c.if-len-eq0.false (r ∙ z)) (omega arith)
+    ∙ ap (λ (d : Digits). as_number d.value) (sym c.digits_at-run.ensures)
 
 pub returns-in-Is : goal.returns-in-Is
 returns-in-Is c = sym (number_is (goal.at.returns-in-Is c).Else-len-s ∙ ap as_number c.in-Is.is)

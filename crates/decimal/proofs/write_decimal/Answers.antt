@@ -16,7 +16,7 @@ returns-then-room-at c = let a = c.args in no_room a.n a.at a.out.now (omega ari
 pub returns : goal.returns
 returns c =
     let w = c in
-    let d = w.before.before.before.before in
+    let d = w in
     let a = d.args in
     let fits = room a.n a.at a.out.now (omega arith) in
-    (ap (λ (len : ℕ). To (a.at + len)) d.decimal_len_len.ensures ∙ fits.0, w.write_digits.ensures ∙ fits.1)
+    (ap (λ (len : ℕ). To (a.at + len)) d.decimal_len-len.ensures ∙ fits.0, w.write_digits.ensures ∙ fits.1)

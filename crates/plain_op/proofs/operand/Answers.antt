@@ -24,7 +24,7 @@ overflow_add-result c =
     let text = a.text.now in
     let n = ap (λ (r : Digits). r.len) c.few_digits_at-run.ensures in
     let w = run_within text a.digits (omega (arith, c.if-len-eq0.false)) in
-    let g = c.well-formed.0.1 in record { fits = omega arith }
+    let g = c.well_formed.0.1 in record { fits = omega arith }
 
 pub returns : goal.returns
 returns c =

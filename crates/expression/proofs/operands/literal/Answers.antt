@@ -18,13 +18,13 @@ pub overflow_add-result-in-Is : goal.overflow_add-result-in-Is
 overflow_add-result-in-Is c = omega (arith, length_word c.in-Is.n (omega arith))
 
 pub returns-in-TooLarge : goal.returns-in-TooLarge
-returns-in-TooLarge c = let a = c.args in literal_large (take_while digit (drop a.start a.text.now)) a.start (sym (ap (λ (d : Digits). d.value_1) c.digits_at-run.ensures) ∙ c.in-TooLarge.is)
+returns-in-TooLarge c = let a = c.args in literal_large (take_while digit (drop a.start a.text.now)) a.start (sym (ap (λ (d : Digits). d.value) c.digits_at-run.ensures) ∙ c.in-TooLarge.is)
 
 pub returns-in-Is : goal.returns-in-Is
 returns-in-Is c =
     let a = c.args in
     let e = c.digits_at-run.ensures in
     literal_is (take_while digit (drop a.start a.text.now)) a.start _ _ _
-    (sym (ap (λ (d : Digits). d.value_1) e) ∙ c.in-Is.is)
+    (sym (ap (λ (d : Digits). d.value) e) ∙ c.in-Is.is)
     (ap (λ (d : Digits). a.start + d.len) e)
     (ap (λ (n : ℕ). 6 + n) c.decimal_len.ensures)

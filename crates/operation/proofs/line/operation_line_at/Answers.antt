@@ -19,7 +19,7 @@ overflow_add-result c =
     let text = a.text.now in
     let o = subst (PlainRead text a.first) c.in-Op.is c.plain_at-plain.ensures in
     let w = operation-within text a.first _ _ _ (indent _ _ _ c.requires).fits o in
-    let g = c.well-formed.0.1 in record { fits = omega arith }
+    let g = c.well_formed.0.1 in record { fits = omega arith }
 
 pub returns-then-one : goal.returns-then-one
 returns-then-one c =

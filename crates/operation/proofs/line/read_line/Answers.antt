@@ -40,7 +40,7 @@ overflow_add-place-in-Before c =
     let k = end_within raw first.result.now last.result.now first.ensures.text last.ensures.text in
     let w = length_part a.text.now a.start a.end c.requires.0 c.requires.1 in
     let e = c.requires.1 in
-    let z = c.well-formed.0.0 in
+    let z = c.well_formed.0.0 in
     record { fits = omega arith }
 
 pub read_operand-requires : goal.read_operand-requires
@@ -55,7 +55,7 @@ read_operand-requires c =
     let k = end_within raw first.result.now last.result.now first.ensures.text last.ensures.text in
     let w = length_part a.text.now a.start a.end c.requires.0 c.requires.1 in
     let e = c.requires.1 in
-    let z = c.well-formed.0.0 in
+    let z = c.well_formed.0.0 in
     (n, omega arith)
 
 pub returns-in-Alone : goal.returns-in-Alone

@@ -48,7 +48,7 @@ overflow_add-after_name c = let i = in_text fn (text_name c.before) _ _ (name_at
 pub returns-in_default-left : goal.returns-in_default-left
 returns-in_default-left c =
     let name = c in
-    with_number function_numbered (sym (no_parameters (text_name name) _ (name_at name) (sym c.find_byte-left.ensures ∙ c.in_default-left.is)))
+    with_number function_numbered (sym (no_parameters (text_name name) _ (name_at (goal.at.returns-in_default-left c).In-At-2) (sym c.find_byte-left.ensures ∙ c.in_default-left.is)))
 
 pub overflow_add-params_start : goal.overflow_add-params_start
 overflow_add-params_start c = let i = in_text (ascii "(") (text_left c.before) _ _ (left_at (goal.at.overflow_add-params_start c).In-At-left-2) in omega arith
@@ -56,8 +56,8 @@ overflow_add-params_start c = let i = in_text (ascii "(") (text_left c.before) _
 pub returns-in_default-right : goal.returns-in_default-right
 returns-in_default-right c =
     let left = c in
-    let name = left.before.before.before.before in
-    with_number function_numbered (sym (unclosed_parameters (text_left left) _ (name_at name) _ (left_at left) (sym c.find_byte-right.ensures ∙ c.in_default-right.is)))
+    let name = left in
+    with_number function_numbered (sym (unclosed_parameters (text_left left) _ (name_at (goal.at.returns-in_default-right c).In-At-2) _ (left_at (goal.at.returns-in_default-right c).In-At-left-2) (sym c.find_byte-right.ensures ∙ c.in_default-right.is)))
 
 pub overflow_add-after_params : goal.overflow_add-after_params
 overflow_add-after_params c = let i = in_text (ascii ")") (text_right c.before) _ _ (right_at (goal.at.overflow_add-after_params c).In-At-right-2) in omega arith
@@ -65,9 +65,9 @@ overflow_add-after_params c = let i = in_text (ascii ")") (text_right c.before) 
 pub returns-in_default-brace : goal.returns-in_default-brace
 returns-in_default-brace c =
     let right = c in
-    let left = right.before.before.before.before in
-    let name = left.before.before.before.before in
-    with_number function_numbered (sym (no_body (text_right right) _ (name_at name) _ (left_at left) _ (right_at right) (sym c.find_byte-brace.ensures ∙ c.in_default-brace.is)))
+    let left = right in
+    let name = left in
+    with_number function_numbered (sym (no_body (text_right right) _ (name_at (goal.at.returns-in_default-brace c).In-At-2) _ (left_at (goal.at.returns-in_default-brace c).In-At-left-2) _ (right_at (goal.at.returns-in_default-brace c).In-At-right-2) (sym c.find_byte-brace.ensures ∙ c.in_default-brace.is)))
 
 pub overflow_add-body_start : goal.overflow_add-body_start
 overflow_add-body_start c = let i = in_text (ascii "{") (text_brace c.before) _ _ (brace_at (goal.at.overflow_add-body_start c).In-At-brace-2) in omega arith
@@ -75,20 +75,20 @@ overflow_add-body_start c = let i = in_text (ascii "{") (text_brace c.before) _ 
 pub returns-in_default-end : goal.returns-in_default-end
 returns-in_default-end c =
     let brace = c in
-    let right = brace.before.before.before.before in
-    let left = right.before.before.before.before in
-    let name = left.before.before.before.before in
+    let right = brace in
+    let left = right in
+    let name = left in
     with_number function_numbered (sym
-    (unclosed_body (text_brace brace) _ (name_at name) _ (left_at left) _ (right_at right) _ (brace_at brace)
+    (unclosed_body (text_brace brace) _ (name_at (goal.at.returns-in_default-end c).In-At-2) _ (left_at (goal.at.returns-in_default-end c).In-At-left-2) _ (right_at (goal.at.returns-in_default-end c).In-At-right-2) _ (brace_at (goal.at.returns-in_default-end c).In-At-brace-2)
     (sym c.find_byte-end.ensures ∙ c.in_default-end.is)))
 
 pub returns : goal.returns
 returns c =
     let end = c in
-    let brace = end.before.before.before.before in
-    let right = brace.before.before.before.before in
-    let left = right.before.before.before.before in
-    let name = left.before.before.before.before in
+    let brace = end in
+    let right = brace in
+    let left = right in
+    let name = left in
     with_number function_numbered (sym
-    (function_found (text_brace brace) _ (name_at name) _ (left_at left) _ (right_at right) _ (brace_at brace) _
-    (sym end.find_byte_end.ensures ∙ end.in-At-end.is)))
+    (function_found (text_brace brace) _ (name_at (goal.at.returns c).In-At-2) _ (left_at (goal.at.returns c).In-At-left-2) _ (right_at (goal.at.returns c).In-At-right-2) _ (brace_at (goal.at.returns c).In-At-brace-2) _
+    (sym end.find_byte-end.ensures ∙ end.in-At-end.is)))

@@ -47,7 +47,7 @@ overflow_add-result-2 c = let i = inside (goal.at.overflow_add-result-2 c).After
 pub returns : goal.returns
 returns c =
     let n = c in
-    let k = n.cut_colon in
-    let w = n.before.before.before.before in
+    let k = n.cut-colon in
+    let w = n in
     name_is w.args.piece.now w.trimmed_span-whole.result w.trimmed_span-whole.ensures k.result k.ensures
-    n.trimmed_span_name.result n.trimmed_span_name.ensures
+    n.trimmed_span-name.result n.trimmed_span-name.ensures

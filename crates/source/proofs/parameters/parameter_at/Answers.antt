@@ -32,13 +32,13 @@ overflow_add-end c = let i = inside (goal.at.overflow_add-end c).After-name_of-n
 pub returns-then-stop-s : goal.returns-then-stop-s
 returns-then-stop-s c =
     let n = c in
-    let k = n.cut_stop in
-    let a = n.before.before.before.before in
-    placed_more a.args.s.now a.args.at a.requires k.result k.ensures n.name_of_name.result n.name_of_name.ensures c.if-stop-s.true
+    let k = n.cut-stop in
+    let a = n in
+    placed_more a.args.s.now a.args.at a.requires k.result k.ensures n.name_of-name.result n.name_of-name.ensures c.if-stop-s.true
 
 pub returns-else-stop-s : goal.returns-else-stop-s
 returns-else-stop-s c =
     let n = c in
-    let k = n.cut_stop in
-    let a = n.before.before.before.before in
-    placed_last a.args.s.now a.args.at a.requires k.result k.ensures n.name_of_name.result n.name_of_name.ensures c.if-stop-s.false
+    let k = n.cut-stop in
+    let a = n in
+    placed_last a.args.s.now a.args.at a.requires k.result k.ensures n.name_of-name.result n.name_of-name.ensures c.if-stop-s.false

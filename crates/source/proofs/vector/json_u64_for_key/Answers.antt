@@ -37,7 +37,7 @@ returns-in_default c = with_number key_value_numbered (sym (no_key c.args.vector
 pub overflow_add-after_key-2 : goal.overflow_add-after_key-2
 overflow_add-after_key-2 c =
     let found = c in
-    let i = in_text (quoted (key found)) (vector found) 0 _ (key_at found) in
+    let i = in_text (quoted (key found)) (vector found) 0 _ (key_at (goal.at.overflow_add-after_key-2 c).In-At-2) in
     omega (arith, quoted-length (key found))
 
 colon_sought : (c : After-find_byte-colon) → let f = c in c.find_byte-colon.result ≡ first_at (ascii ":") (vector f) (f.in-At.at + length (quoted (key f)))
@@ -48,7 +48,7 @@ colon_sought c =
 pub returns-in_default-colon : goal.returns-in_default-colon
 returns-in_default-colon c =
     let found = c in
-    with_number key_value_numbered (sym (no_colon (vector found) (key found) _ (key_at found) (sym (colon_sought (goal.at.returns-in_default-colon c).After-find_byte-colon) ∙ c.in_default-colon.is)))
+    with_number key_value_numbered (sym (no_colon (vector found) (key found) _ (key_at (goal.at.returns-in_default-colon c).In-At-2) (sym (colon_sought (goal.at.returns-in_default-colon c).After-find_byte-colon) ∙ c.in_default-colon.is)))
 
 colon_at : (c : In-At-colon-2) → let f = c in first_at (ascii ":") (vector f) (f.in-At.at + length (quoted (key f))) ≡ At c.in-At-colon.colon_at
 colon_at c = sym (colon_sought c.before.before) ∙ c.in-At-colon.is
@@ -68,8 +68,8 @@ slice_bounds-trim_start-start c = omega (arith, colon_inside (goal.at.slice_boun
 pub returns : goal.returns
 returns c =
     let colon = c in
-    let found = colon.before.before.before.before in
+    let found = colon in
     with_number key_value_numbered
     (c.leading_number.ensures
     ∙ ap (λ (t : List ℕ). of_digits (take_while digit t)) (c.trim_start.ensures.text ∙ ap start_trimmed (take-length-drop (vector found) (colon.in-At-colon.colon_at + 1)))
-    ∙ sym (number_behind (vector found) (key found) _ (key_at found) _ (colon_at colon)))
+    ∙ sym (number_behind (vector found) (key found) _ (key_at (goal.at.returns c).In-At-2) _ (colon_at (goal.at.returns c).In-At-colon-2)))

@@ -15,8 +15,8 @@ len_is c = ap (λ (d : Digits). d.len) c.digits_at-run.ensures
 
 number_is : (c : Else-run-eq0) → of_digits (take_while digit c.args.text.now) ≡ as_key_value c.digits_at-run.result.value
 number_is c =
-    some_digits (take_while digit c.args.text.now) (λ z. c.if-run-eq0.false (len_is c.before.before ∙ z))
-    ∙ ap (λ (d : Digits). as_key_value d.value_1) (sym c.digits_at-run.ensures)
+    some_digits (take_while digit c.args.text.now) (λ z. c.if-run-eq0.false ((ap (λ (d : Digits). d.len) c.digits_at-run.ensures) ∙ z))
+    ∙ ap (λ (d : Digits). as_key_value d.value) (sym c.digits_at-run.ensures)
 
 pub returns-then-run-eq0 : goal.returns-then-run-eq0
 returns-then-run-eq0 c = sym (no_digit (take_while digit c.args.text.now) (sym (len_is (goal.at.returns-then-run-eq0 c).After-digits_at-run) ∙ c.if-run-eq0.true))
