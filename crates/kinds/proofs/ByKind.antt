@@ -25,9 +25,9 @@ span {P = P} b (suc n) k (p & more) lo hi = go (ℕ_discrete b k) (λ l h. span 
     go (no ne) later = later (omega arith) (omega arith)
 
 -- a number that is none of the n from b on lies behind them
-pub past : {b n k : ℕ} → Span (λ j. k ≡ j → ⊥) b n → b ≤ k → b + n ≤ k
+pub past : {k b n : ℕ} → Span (λ j. k ≡ j → ⊥) b n → b ≤ k → b + n ≤ k
 past end h = omega arith
-past {b = b} {n = suc n} {k = k} (ne & more) h = let r = past more (further b k h ne) in omega (arith, r)
+past {k = k} {b = b} {n = suc n} (ne & more) h = let r = past more (further b k h ne) in omega (arith, r)
   where
     further : (b k : ℕ) → b ≤ k → (k ≡ b → ⊥) → suc b ≤ k
     further b k h e = omega arith

@@ -32,7 +32,7 @@ value_after c =
     let l = c in
     let s = l.args.s.now in
     l.loop-d.invariant.2
-    ∙ value_more ((digit_at _ _ (sym c.is_digit_at.ensures ∙ c.loop-d-test.true))) l.loop-d.acc
+    ∙ value_more {s = s} {i = l.loop-d.i} ((digit_at _ _ (sym c.is_digit_at.ensures ∙ c.loop-d-test.true))) l.loop-d.acc
     ∙ ap (λ (d : ℕ). value_from (l.loop-d.acc * 10 + d) (take_while digit (drop (l.loop-d.i + 1) s))) (sym c.widen-d.ensures)
 
 pub bounds-s-i : goal.bounds-s-i

@@ -8,10 +8,10 @@ use borrow.Author.Rules.{rules}
 use Rattle.decimal.proofs.write_decimal.Goals as goal
 
 pub returns-then-at-room : goal.returns-then-at-room
-returns-then-at-room c = let a = c.args in no_room a.n a.at a.out.now (omega arith)
+returns-then-at-room c = let a = c.args in let f = no_room a.n a.at a.out.now (omega arith) in record { value = f.0; out_after = f.1 }
 
 pub returns-then-room-at : goal.returns-then-room-at
-returns-then-room-at c = let a = c.args in no_room a.n a.at a.out.now (omega arith)
+returns-then-room-at c = let a = c.args in let f = no_room a.n a.at a.out.now (omega arith) in record { value = f.0; out_after = f.1 }
 
 pub returns : goal.returns
 returns c =
@@ -19,4 +19,4 @@ returns c =
     let d = w in
     let a = d.args in
     let fits = room a.n a.at a.out.now (omega arith) in
-    (ap (λ (len : ℕ). To (a.at + len)) d.decimal_len-len.ensures ∙ fits.0, w.write_digits.ensures ∙ fits.1)
+    record { value = ap (λ (len : ℕ). To (a.at + len)) d.decimal_len-len.ensures ∙ fits.0; out_after = w.write_digits.ensures ∙ fits.1 }

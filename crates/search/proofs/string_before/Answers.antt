@@ -11,6 +11,7 @@ use Rattle.search.proofs.Prefix.{other_at}
 use Rattle.search.proofs.Laws.{hit, miss}
 use borrow.Author.Rules.{rules}
 use Rattle.search.proofs.string_before.Goals as goal
+use Rattle.search.proofs.string_before.Goals.{else-s-i-via-then-s-i+else-stands, else-s-i-via-else-s-i}
 
 pub loop-i-init : goal.loop-i-init
 loop-i-init c = (omega arith, refl)
@@ -26,10 +27,10 @@ loop-i-preserved c =
     let a = c.args in
     let l = c.loop-i in
     let n : prefix_of a.p.now (drop l.i a.s.now) ≡ false =
-    ⊎_elim
-    (λ w. sym w.1.ensures ∙ w.2.left)
-    (λ w. other_at a.p.now a.s.now 0 l.i (l.i + 1) (omega arith) (omega arith) refl (λ e. w.left (sym e)))
-    c.else-s-i.branch in
+    elim c.else-s-i.branch [
+      | else-s-i-via-then-s-i+else-stands w ↦ sym w.stands.ensures ∙ w.if-stands.false
+      | else-s-i-via-else-s-i w ↦ other_at a.p.now a.s.now 0 l.i (l.i + 1) (omega arith) (omega arith) refl (λ e. w.if-s-i.false (sym e))
+    ] in
     (omega arith, l.invariant.1 ∙ miss a.p.now a.s.now l.i n)
 
 pub returns : goal.returns

@@ -10,6 +10,7 @@ use lib.Seq.{take-length, length-take-le}
 use Rattle.trim.specs.Trim.{back}
 use borrow.Author.Rules.{rules}
 use Rattle.trim.proofs.trim_end.Goals as goal
+use Rattle.trim.proofs.trim_end.Goals.{else-loop-e-test, then-loop-e-test+then-n-eq0}
 
 ended : (s : List ℕ) (e : ℕ) → e ≤ 0 → back (reverse (take e s)) ≡ reverse (take e s)
 ended s e h = let z : e ≡ 0 = omega arith in rw z refl
@@ -28,5 +29,5 @@ returns c =
     let l = c in
     let e = l.loop-e.e in
     let s = l.args.s.now in
-    let p : back (reverse (take e s)) ≡ reverse (take e s) = ⊎_elim (λ w. ended s e w.left) (λ w. w.1.ensures.none w.2.taken) c.loop-e-test.branch in
+    let p : back (reverse (take e s)) ≡ reverse (take e s) = elim c.loop-e-test.branch [ else-loop-e-test w ↦ ended s e w.loop-e-test.false | then-loop-e-test+then-n-eq0 w ↦ w.white_before-n.ensures.none w.if-n-eq0.true ] in
     record { text = sym (ap reverse (l.loop-e.invariant.1 ∙ p) ∙ reverse-reverse (take e s)); block = refl; offset = omega arith }

@@ -14,4 +14,4 @@ pub overflow_mul-a_low-2 : goal.overflow_mul-a_low-2
 overflow_mul-a_low-2 c = record { fits = fits (omega arith) (omega arith) }
 
 pub returns : goal.returns
-returns c = modulo _ _ _ _ c.wrapping_add_u64-cross.ensures c.wrapping_add_u64.ensures
+returns c = modulo _ _ _ _ c.wrapping_add_u64-cross.ensures.value c.wrapping_add_u64.ensures.value
