@@ -2,7 +2,6 @@
 use Rattle.std.specs.Prelude.{ℕ, List}
 use Prim.Native.Char.{code}
 use Prim.Native.String.{String, [], ◌∷◌}
-use mathlib.Core.List as List
 
 abbrev pub ascii : String → List ℕ
 ascii [] = List.[]

@@ -1,6 +1,6 @@
 -- `word::wrapping_mul` meets its contract: each product of halves fits, and the sum is the product modulo 2^64.
 -- Assumes nothing.
-use Rattle.std.proofs.Common.{arith, rules}
+use Rattle.std.proofs.Common.{arith}
 use Rattle.word.proofs.Halves.{fits, modulo}
 use Rattle.word.proofs.wrapping_mul.Goals as goal
 
