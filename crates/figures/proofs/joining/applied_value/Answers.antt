@@ -3,4 +3,4 @@ use Rattle.std.proofs.Common.{rules}
 use Rattle.figures.proofs.joining.applied_value.Goals as goal
 
 pub returns-in-Is-b : goal.returns-in-Is-b
-returns-in-Is-b c = rw (c.in-Is.is, c.in-Is-b.is) c.value_of_lem.ensures
+returns-in-Is-b c = rw (c.in-Is.is, c.in-Is-b.is) c.value_of.ensures

@@ -18,4 +18,4 @@ pub returns-in-61 : goal.returns-in-61
 returns-in-61 c = rw c.in-61.is (refl, omega arith)
 
 pub returns-in_default : goal.returns-in_default
-returns-in_default c = let n = c.in-60.rest in (line_four c.args.sign (ne_eqb _ 60 n.0.1) (ne_eqb _ 61 n.1), omega arith)
+returns-in_default c = (line_four c.args.sign (ne_eqb _ 60 (omega arith)) (ne_eqb _ 61 (omega arith)), omega arith)
