@@ -19,10 +19,10 @@ expression-requires c = record { short = search rules; room = omega arith }
 pub returns-in-Refused : goal.returns-in-Refused
 returns-in-Refused c =
     let a = c.args in
-    refused_answers a.text.now a.at (columns a.t3 a.t4) _ c.min-count.ensures (sym c.is_all_tokens.ensures ∙ c.if-not-is_all_tokens.false) (carry c.in-Refused.is c.expression.ensures)
+    refused_answers a.text.now a.at (columns a.table a.values) _ c.min-count.ensures (sym c.is_all_tokens.ensures ∙ c.if-not-is_all_tokens.false) (carry c.in-Refused.is c.expression.ensures)
 
 pub returns-in-Done : goal.returns-in-Done
 returns-in-Done c =
     let a = c.args in
-    let m = done_answers a.text.now a.at (columns a.t3 a.t4) _ c.min-count.ensures (sym c.is_all_tokens.ensures ∙ c.if-not-is_all_tokens.false) _ refl (carry c.in-Done.is c.expression.ensures) in
-    subst (λ (r : ParseResult). Answers a.text.now a.at (columns a.t3 a.t4) r) (sym c.whole.ensures) m
+    let m = done_answers a.text.now a.at (columns a.table a.values) _ c.min-count.ensures (sym c.is_all_tokens.ensures ∙ c.if-not-is_all_tokens.false) _ refl (carry c.in-Done.is c.expression.ensures) in
+    subst (λ (r : ParseResult). Answers a.text.now a.at (columns a.table a.values) r) (sym c.whole.ensures) m

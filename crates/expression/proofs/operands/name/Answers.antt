@@ -16,7 +16,7 @@ bound-requires c =
     omega arith
 
 pub returns-in-Nothing : goal.returns-in-Nothing
-returns-in-Nothing c = let e = sym c.lookup.ensures ∙ c.in-Nothing.is in (tt, rw e)
+returns-in-Nothing c = let e = sym c.lookup.ensures ∙ c.in-Nothing.is in record { fits = tt; same = rw e }
 
 pub returns-in-At : goal.returns-in-At
-returns-in-At c = let e = sym c.lookup.ensures ∙ c.in-At.is in (c.bound.ensures.0, rw e (ap Done c.bound.ensures.1))
+returns-in-At c = let e = sym c.lookup.ensures ∙ c.in-At.is in record { fits = c.bound.ensures.fits; same = rw e (ap Done c.bound.ensures.same) }
