@@ -6,7 +6,6 @@ use native.Mathlib.Omega.{arith}
 use lib.ListN.{get_or}
 use Rattle.lines.specs.Code.Visits.{feed_from}
 use Rattle.lines.proofs.Cursor.{bare, returned, plain}
-use borrow.Author.Rules.{rules}
 use Rattle.lines.proofs.before_return.Goals as goal
 
 pub returns-then-feed-at : goal.returns-then-feed-at

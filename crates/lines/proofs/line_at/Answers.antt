@@ -6,7 +6,6 @@ use native.Mathlib.Omega.{arith}
 use Rattle.lines.specs.Code.Visits.{feed_from}
 use Rattle.lines.specs.declared.Step.TheVariants.{Next}
 use Rattle.lines.proofs.Cursor.{feed_bounds, line_here, line_done, unended, ended}
-use borrow.Author.Rules.{rules}
 use Rattle.lines.proofs.line_at.Goals as goal
 
 pub returns-then-s-at : goal.returns-then-s-at

@@ -3,7 +3,6 @@
 use mathlib.Core.Path.{sym, ap, ◌∙◌}
 use lib.ListN.{length}
 use Rattle.lines.specs.Code.Visits.{place_or}
-use borrow.Author.Rules.{rules}
 use Rattle.lines.proofs.line_feed.Goals as goal
 
 pub returns-in-At : goal.returns-in-At
