@@ -12,7 +12,6 @@ use Rattle.mnemonic.specs.Code.FirstByte.{FirstIs}
 use Rattle.mnemonic.specs.Kinds.{head_of}
 use Rattle.mnemonic.specs.declared.Head.TheVariants.{Unknown}
 use Rattle.mnemonic.proofs.Words.{first_p, first_a, first_m, first_e, first_c, first_h, first_other, empty, starts}
-use borrow.Author.Rules.{rules}
 use Rattle.mnemonic.proofs.classify.Goals as goal
 
 first : {a : ℕ} {t : List ℕ} → (length t ≡ 0 → ⊥) → get_or t 0 0 ≡ a → FirstIs a t
@@ -58,17 +57,16 @@ pub returns-in_default : goal.returns-in_default
 returns-in_default c =
     let t = c.args.t.now in
     let a = get_or t 0 0 in
-    let r = c.in-80.rest in
     other t c.if-t-eq0.false
     (simp (
-      ne_eqb 80 a (λ e. r.0.0.0.0.0.0.0.0.0.1 (sym e)),
-      ne_eqb 65 a (λ e. r.0.0.0.0.0.0.0.0.1 (sym e)),
-      ne_eqb 83 a (λ e. r.0.0.0.0.0.0.0.1 (sym e)),
-      ne_eqb 77 a (λ e. r.0.0.0.0.0.0.1 (sym e)),
-      ne_eqb 68 a (λ e. r.0.0.0.0.0.1 (sym e)),
-      ne_eqb 74 a (λ e. r.0.0.0.0.1 (sym e)),
-      ne_eqb 69 a (λ e. r.0.0.0.1 (sym e)),
-      ne_eqb 76 a (λ e. r.0.0.1 (sym e)),
-      ne_eqb 67 a (λ e. r.0.1 (sym e)),
-      ne_eqb 72 a (λ e. r.1 (sym e)),
+      ne_eqb 80 a (omega arith),
+      ne_eqb 65 a (omega arith),
+      ne_eqb 83 a (omega arith),
+      ne_eqb 77 a (omega arith),
+      ne_eqb 68 a (omega arith),
+      ne_eqb 74 a (omega arith),
+      ne_eqb 69 a (omega arith),
+      ne_eqb 76 a (omega arith),
+      ne_eqb 67 a (omega arith),
+      ne_eqb 72 a (omega arith),
     ))

@@ -1,7 +1,6 @@
 -- `mnemonic::div_dup` meets its contract: the table of kinds at this first byte.
 -- Assumes nothing.
 use Rattle.mnemonic.proofs.Words.{first_d}
-use borrow.Author.Rules.{rules}
 use Rattle.mnemonic.proofs.div_dup.Goals as goal
 
 pub returns : goal.returns

@@ -2,7 +2,6 @@
 -- Assumes nothing.
 use Rattle.mnemonic.proofs.Words.{first_j}
 use mathlib.Core.Path.{sym}
-use borrow.Author.Rules.{rules}
 use Rattle.mnemonic.proofs.jumps.Goals as goal
 
 pub returns : goal.returns

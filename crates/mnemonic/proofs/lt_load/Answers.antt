@@ -1,7 +1,6 @@
 -- `mnemonic::lt_load` meets its contract: the table of kinds at this first byte.
 -- Assumes nothing.
 use Rattle.mnemonic.proofs.Words.{first_l}
-use borrow.Author.Rules.{rules}
 use Rattle.mnemonic.proofs.lt_load.Goals as goal
 
 pub returns : goal.returns

@@ -6,7 +6,6 @@ use native.Mathlib.Omega.{arith}
 use mathlib.Core.Path.{ap₂}
 use mathlib.Core.Bool.{◌&&◌}
 use Rattle.mnemonic.proofs.Words.{bytes4, short}
-use borrow.Author.Rules.{rules}
 use Rattle.mnemonic.proofs.word.four.Goals as goal
 
 pub returns-then-t-at : goal.returns-then-t-at

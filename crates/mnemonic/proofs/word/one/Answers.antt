@@ -4,7 +4,6 @@ use mathlib.Core.Path.{sym}
 use mathlib.Core.List.{[], ◌∷◌}
 use native.Mathlib.Omega.{arith}
 use Rattle.mnemonic.proofs.Words.{byte, short}
-use borrow.Author.Rules.{rules}
 use Rattle.mnemonic.proofs.word.one.Goals as goal
 
 pub returns-then-t-at : goal.returns-then-t-at
