@@ -1,10 +1,9 @@
 -- `kmp::fill` meets its contract: each byte that agrees gives one shift more, and where one differs p is shifted over itself.
 use mathlib.Core.Path.{◌≡◌, refl}
 use Rattle.kmp.specs.Code.Shift.{Shift}
-use Rattle.kmp.proofs.Filling.{Filling, started, matched, moved, slid, shift_of}
-use borrow.Author.Rules.{rules}
+use Rattle.kmp.proofs.Filling.{started, matched, moved, slid, shift_of}
 use native.Mathlib.Omega.{arith}
-use Prim.Native.Nat.{◌+◌, ◌-◌}
+use Prim.Native.Nat.{◌+◌}
 use lib.ListN.{length}
 use Rattle.kmp.proofs.fill.Goals as goal
 use Rattle.kmp.proofs.fill.Goals.{After-wide-e}

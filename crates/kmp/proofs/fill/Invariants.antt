@@ -1,8 +1,4 @@
-use mathlib.Core.Path.{◌≡◌, refl}
-use Rattle.kmp.specs.Code.Shift.{Shift}
-use Rattle.kmp.proofs.Filling.{Filling, started, matched, moved, slid, shift_of}
-use borrow.Author.Rules.{rules}
-use native.Mathlib.Omega.{arith}
+use Rattle.kmp.proofs.Filling.{Filling}
 use Prim.Native.Nat.{◌+◌, ◌-◌}
 use lib.ListN.{length}
 use Rattle.kmp.proofs.fill.Given as goal

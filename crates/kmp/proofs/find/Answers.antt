@@ -3,7 +3,6 @@ use mathlib.Core.Path.{sym}
 use native.Mathlib.Omega.{arith}
 use Rattle.search.proofs.Prefix.{empty}
 use Rattle.search.proofs.Laws.{hit, past}
-use borrow.Author.Rules.{rules}
 use Rattle.kmp.proofs.find.Goals as goal
 
 pub returns-then-s-at : goal.returns-then-s-at

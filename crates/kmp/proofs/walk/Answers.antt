@@ -1,18 +1,15 @@
 -- `kmp::walk` meets its contract: where a byte differs, p stands neither there nor at a place that it is shifted past.
 use mathlib.Core.Path.{sym}
 use Rattle.kmp.specs.Code.Shift.{Shift}
-use Rattle.kmp.proofs.Walking.{Walking, started, found, matched, moved, slid, ended}
-use borrow.Author.Rules.{rules}
+use Rattle.kmp.proofs.Walking.{started, found, matched, moved, slid, ended}
 use native.Mathlib.Omega.{arith}
-use Prim.Native.Nat.{◌+◌, ◌-◌}
-use lib.ListN.{length}
 use Rattle.kmp.proofs.walk.Goals as goal
 use Rattle.kmp.proofs.walk.Goals.{After-wide-shift}
 
 pub loop-c-init : goal.loop-c-init
 loop-c-init c =
     let a = c.args in
-    started a.p.now a.s.now a.at c.requires.0.0 c.requires.0.2
+    started a.p.now a.s.now a.at c.requires.p_nonzero.0 c.requires.p_nonzero.2
 
 pub returns-then-j-p : goal.returns-then-j-p
 returns-then-j-p c =
@@ -35,7 +32,7 @@ loop-c-preserved-then-j-eq0 c =
 shift : (c : After-wide-shift) → Shift c.args.p.now c.loop-c.j c.wide-shift.result
 shift c =
     let l = c.loop-c in
-    rw c.wide-shift.ensures.0 (c.requires.1.shift l.j (omega arith) (omega arith))
+    rw c.wide-shift.ensures.0 (c.requires.table.shift l.j (omega arith) (omega arith))
 
 pub overflow_add-c-else-j-eq0 : goal.overflow_add-c-else-j-eq0
 overflow_add-c-else-j-eq0 c = let s = shift (goal.at.overflow_add-c-else-j-eq0 c).After-wide-shift in omega arith

@@ -1,8 +1,4 @@
-use mathlib.Core.Path.{sym}
-use Rattle.kmp.specs.Code.Shift.{Shift}
-use Rattle.kmp.proofs.Walking.{Walking, started, found, matched, moved, slid, ended}
-use borrow.Author.Rules.{rules}
-use native.Mathlib.Omega.{arith}
+use Rattle.kmp.proofs.Walking.{Walking}
 use Prim.Native.Nat.{◌+◌, ◌-◌}
 use lib.ListN.{length}
 use Rattle.kmp.proofs.walk.Given as goal

@@ -6,7 +6,6 @@ use Rattle.operation.specs.Line.{Rule, ReadsDigits, line_of}
 use Rattle.operation.specs.declared.line.LineRead.TheVariants as LineRead
 use Rattle.operation.specs.declared.line.ReadLine.{ReadLine}
 use Rattle.operation.specs.declared.line.FastLine.{FastLine}
-use Rattle.operation.specs.declared.line.FastLine.TheVariants as Known
 
 -- the line that starts at an offset, its number being line
 abbrev pub line_read_at : Rule → List ℕ → ℕ → ℕ → ReadLine

@@ -2,17 +2,14 @@
 -- Assumes nothing.
 use Prim.Native.Nat.{ℕ, suc, ◌+◌, ◌-◌}
 use mathlib.Core.Path.{◌≡◌, sym, ap, ◌∙◌}
-use borrow.Author.Tests.{not-true, not-false}
 use native.Mathlib.Omega.{arith}
 use lib.ListN.{drop}
 use Rattle.lines.specs.Cursor.{line_at}
 use Rattle.lines.specs.declared.Line.{Line}
 use Rattle.lines.proofs.Cursor.{line_done}
 use Rattle.ops.specs.Ops.{start_of}
-use Rattle.ops.specs.Code.Numbered.{line_numbered}
 use Rattle.ops.proofs.LineStarts.{one_further, no_number, numbered}
 use Rattle.lines.proofs.LineAt.{is_from, is_past}
-use borrow.Author.Rules.{rules}
 use Rattle.ops.proofs.nth_line.Goals as goal
 
 pub returns-then-line-eq0 : goal.returns-then-line-eq0
@@ -29,7 +26,7 @@ returns-in_default c =
     let text = c.args.text.now in
     let at = c.loop-left.at in
     let left = c.loop-left.left in
-    let h = is_past text at (sym c.line_at_lem.ensures ∙ c.in_default.is) in
+    let h = is_past text at (sym c.line_at-step.ensures ∙ c.in_default.is) in
     sym (c.loop-left.invariant ∙ line_done text (at + start_of left (drop at text)) (omega arith))
 
 pub loop-left-preserved : goal.loop-left-preserved
@@ -38,7 +35,7 @@ loop-left-preserved c =
     let at = c.loop-left.at in
     let left = c.loop-left.left in
     let n : left ≡ suc (left - 1) = omega arith in
-    let e = is_from text at _ (sym c.line_at_lem.ensures ∙ c.in-Next.is) in
+    let e = is_from text at _ (sym c.line_at-step.ensures ∙ c.in-Next.is) in
     c.loop-left.invariant
     ∙ ap (line_at text) (ap (λ (m : ℕ). at + start_of m (drop at text)) n ∙ one_further text at (left - 1))
     ∙ ap (λ (l : Line). line_at text (l.next + start_of (left - 1) (drop l.next text))) (sym e)

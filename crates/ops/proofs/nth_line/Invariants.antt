@@ -1,16 +1,9 @@
-use Prim.Native.Nat.{ℕ, suc, ◌+◌, ◌-◌}
-use mathlib.Core.Path.{◌≡◌, sym, ap, ◌∙◌}
-use borrow.Author.Tests.{not-true, not-false}
-use native.Mathlib.Omega.{arith}
+use Prim.Native.Nat.{◌+◌}
+use mathlib.Core.Path.{◌≡◌}
 use lib.ListN.{drop}
 use Rattle.lines.specs.Cursor.{line_at}
-use Rattle.lines.specs.declared.Line.{Line}
-use Rattle.lines.proofs.Cursor.{line_done}
 use Rattle.ops.specs.Ops.{start_of}
 use Rattle.ops.specs.Code.Numbered.{line_numbered}
-use Rattle.ops.proofs.LineStarts.{one_further, no_number, numbered}
-use Rattle.lines.proofs.LineAt.{is_from, is_past}
-use borrow.Author.Rules.{rules}
 use Rattle.ops.proofs.nth_line.Given as goal
 
 abbrev pub invariant-loop-left : goal.invariant-loop-left

@@ -1,10 +1,8 @@
 -- `ops::parse_ops` meets its contract: what is refused is refused before anything is written.
 -- Assumes nothing.
 use mathlib.Core.Path.{sym, ◌∙◌}
-use borrow.Author.Tests.{not-true, not-false}
 use Rattle.base.proofs.Tests.{false_true}
 use Rattle.ops.proofs.WholeText.{not_utf8, is_refused_lem, is_good, is_read}
-use borrow.Author.Rules.{rules}
 use Rattle.ops.proofs.parse_ops.Goals as goal
 
 pub returns-then-not-is_utf8 : goal.returns-then-not-is_utf8

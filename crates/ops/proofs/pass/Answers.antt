@@ -1,12 +1,10 @@
 -- `ops::pass` meets its contract: what was passed is counted, and is in the buffers where it writes; the lines left hold the rest.
 -- Assumes nothing.
-use Prim.Native.Nat.{◌-◌}
 use native.Mathlib.Omega.{arith}
-use lib.ListN.{length}
 use Rattle.operation.specs.Line.{from_str}
 use Rattle.ops.proofs.FirstPass.{onwards, moved}
 use Rattle.ops.proofs.SecondPass.{room_kinds, room_operands}
-use Rattle.ops.proofs.PassLine.{Passing, pass_first, pass_empty, pass_some, pass_skip, pass_bad, pass_full, pass_left, pass_written}
+use Rattle.ops.proofs.PassLine.{pass_first, pass_empty, pass_some, pass_skip, pass_bad, pass_full, pass_left, pass_written}
 use borrow.Author.Rules.{rules}
 use Rattle.ops.proofs.pass.Goals as goal
 

@@ -5,7 +5,6 @@ use mathlib.Core.Path.{refl}
 use native.Mathlib.Omega.{arith}
 use Rattle.base.specs.Ascii.{ascii}
 use Rattle.plain_op.proofs.PlainReads.{word_at, spelled}
-use borrow.Author.Rules.{rules}
 use Rattle.plain_op.proofs.jumps.Goals as goal
 
 pub operand-requires : goal.operand-requires

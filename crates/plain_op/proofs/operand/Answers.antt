@@ -2,11 +2,9 @@
 -- Assumes nothing.
 use Prim.Native.Nat.{ℕ, ◌+◌}
 use mathlib.Core.Path.{sym, ap, ◌∙◌}
-use borrow.Author.Tests.{not-false}
 use native.Mathlib.Omega.{arith}
 use Rattle.decimal.specs.declared.Digits.{Digits}
 use Rattle.plain_op.proofs.PlainReads.{run_within, operand_read}
-use borrow.Author.Rules.{rules}
 use Rattle.plain_op.proofs.operand.Goals as goal
 
 pub returns-then-not-fits : goal.returns-then-not-fits

@@ -6,7 +6,6 @@ use native.Mathlib.Omega.{arith}
 use Rattle.base.specs.Ascii.{ascii}
 use Rattle.plain_op.specs.Code.Plain.{PlainRead}
 use Rattle.plain_op.proofs.PlainReads.{alone_read, word_at, spelled}
-use borrow.Author.Rules.{rules}
 use Rattle.plain_op.proofs.plain_at.Goals as goal
 
 pub returns-then-text-at-lt2 : goal.returns-then-text-at-lt2

@@ -7,7 +7,6 @@ use Rattle.decimal.specs.declared.Number.TheVariants.{Is}
 use Rattle.kinds.specs.Kinds.{kind_of}
 use Rattle.mnemonic.specs.Kinds.{follows, line_with}
 use Rattle.plain_op.specs.declared.Plain.{Plain}
-use Rattle.plain_op.specs.declared.Plain.TheVariants as Plain
 
 -- an operation stands from an offset to another: its word, and behind it a space and the digits of its operand where one follows
 pub record OperationAt (text : List ℕ) (at k v end : ℕ) : Type 0 where

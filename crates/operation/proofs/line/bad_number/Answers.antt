@@ -3,7 +3,6 @@
 use mathlib.Core.Path.{sym, ◌∙◌}
 use borrow.Author.Tests.{eq-eqb, ne_eqb}
 use Rattle.operation.proofs.Trimmed.{bad_number_lem}
-use borrow.Author.Rules.{rules}
 use Rattle.operation.proofs.line.bad_number.Goals as goal
 
 pub returns-then-kind-eq0 : goal.returns-then-kind-eq0

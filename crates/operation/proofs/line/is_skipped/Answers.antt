@@ -2,7 +2,6 @@
 -- Assumes nothing.
 use mathlib.Core.Path.{sym}
 use Rattle.operation.proofs.Trimmed.{skips_empty, skips_first}
-use borrow.Author.Rules.{rules}
 use Rattle.operation.proofs.line.is_skipped.Goals as goal
 
 pub returns-then-t-eq0 : goal.returns-then-t-eq0

@@ -3,7 +3,6 @@
 use mathlib.Core.Path.{refl, sym, subst}
 use Rattle.operation.specs.Line.{from_str}
 use Rattle.operation.specs.Code.Fast.{FastRead}
-use borrow.Author.Rules.{rules}
 use Rattle.operation.proofs.line.line_read_at.Goals as goal
 
 pub returns-in-Op : goal.returns-in-Op

@@ -2,7 +2,6 @@
 -- Assumes nothing.
 use mathlib.Core.Path.{◌∙◌}
 use Rattle.operation.proofs.Trimmed.{number_is}
-use borrow.Author.Rules.{rules}
 use Rattle.operation.proofs.line.number_by.Goals as goal
 
 pub returns : goal.returns

@@ -1,13 +1,11 @@
 -- `line::operation_line_at` meets its contract: an operation between White_Space, up to the line feed, is what the line says.
 -- Assumes nothing.
 use mathlib.Core.Path.{sym, subst, ◌∙◌}
-use borrow.Author.Tests.{not-false}
 use native.Mathlib.Omega.{arith}
 use Rattle.trim.proofs.Blanks.{Blanks, blanks, no_blanks}
 use Rattle.plain_op.specs.Code.Plain.{PlainRead}
 use Rattle.plain_op.proofs.PlainReads.{operation-within}
 use Rattle.operation.proofs.BlankLines.{indent, operation_read}
-use borrow.Author.Rules.{rules}
 use Rattle.operation.proofs.line.operation_line_at.Goals as goal
 
 pub plain_at-plain-requires : goal.plain_at-plain-requires

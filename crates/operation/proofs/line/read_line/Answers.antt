@@ -9,7 +9,6 @@ use Rattle.operation.specs.Code.Rules.{rule_of}
 use Rattle.operation.specs.Line.{head_read}
 use Rattle.mnemonic.proofs.Words.{rest_within}
 use Rattle.operation.proofs.Trimmed.{start-within, end_within, skip_read, part_read}
-use borrow.Author.Rules.{rules}
 use Rattle.operation.proofs.line.read_line.Goals as goal
 
 pub returns-then-is_skipped : goal.returns-then-is_skipped
@@ -34,8 +33,7 @@ overflow_add-place-in-Before c =
     let raw = take (a.end - a.start) (drop a.start a.text.now) in
     let first = c.trim_start-from_first in
     let last = c.trim_end-t in
-    let g = c.p-in-Before-1.given in
-    let n = rest_within last.result.now _ _ (sym c.classify-p.ensures ∙ g.1) in
+    let n = rest_within last.result.now _ _ (sym c.classify-p.ensures ∙ c.in-Before.is) in
     let h = start-within raw first.result.now last.result.now first.ensures.text last.ensures.text in
     let k = end_within raw first.result.now last.result.now first.ensures.text last.ensures.text in
     let w = length_part a.text.now a.start a.end c.requires.0 c.requires.1 in
@@ -49,8 +47,7 @@ read_operand-requires c =
     let raw = take (a.end - a.start) (drop a.start a.text.now) in
     let first = c.trim_start-from_first in
     let last = c.trim_end-t in
-    let g = c.p-in-Before-1.given in
-    let n = rest_within last.result.now _ _ (sym c.classify-p.ensures ∙ g.1) in
+    let n = rest_within last.result.now _ _ (sym c.classify-p.ensures ∙ c.in-Before.is) in
     let h = start-within raw first.result.now last.result.now first.ensures.text last.ensures.text in
     let k = end_within raw first.result.now last.result.now first.ensures.text last.ensures.text in
     let w = length_part a.text.now a.start a.end c.requires.0 c.requires.1 in

@@ -10,7 +10,6 @@ use Rattle.operation.specs.Code.Rules.{rule_of}
 use Rattle.operation.specs.Line.{of_number}
 use Rattle.operation.specs.declared.line.LineRead.TheVariants.{Bad}
 use Rattle.operation.proofs.Trimmed.{operand_read}
-use borrow.Author.Rules.{rules}
 use Rattle.operation.proofs.line.read_operand.Goals as goal
 
 pub overflow_sub-start : goal.overflow_sub-start
@@ -36,7 +35,7 @@ returns-in-Invalid c =
     let l = a.t.now in
     let first = c.trim_start-from_first in
     let last = c.trim_end-digits in
-    ap Bad c.bad_number_lem.ensures
+    ap Bad c.bad_number.ensures
     ∙ sym (operand_read (take (length l - a.n) (drop a.n l)) first.result.now last.result.now first.ensures.text last.ensures.text
     (rule_of a.rule) a.kind a.line a.place a.n l c.number_by-v.result (take-length-drop l a.n) c.number_by-v.ensures
     ∙ ap (of_number a.kind a.line _ _) c.in-Invalid.is)

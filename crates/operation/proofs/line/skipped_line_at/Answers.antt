@@ -2,7 +2,6 @@
 -- Assumes nothing.
 use Prim.Native.Nat.{ℕ, ◌+◌, ◌<◌}
 use mathlib.Core.Path.{sym, ap, subst, ◌∙◌}
-use borrow.Author.Tests.{not-false}
 use lib.ListN.{length}
 use Rattle.operation.specs.declared.line.LineRead.TheVariants.{Skip}
 use Rattle.operation.proofs.BlankLines.{indent, blank_read, remark_read}
