@@ -1,5 +1,4 @@
 -- `buffers_fit` meets its contract: the tests are joined as the definition joins them.
-use borrow.Author.Rules.{rules}
 use Rattle.checks.proofs.buffers_fit.Goals as goal
 
 pub returns : goal.returns

@@ -5,7 +5,6 @@ use native.Mathlib.Omega.{arith}
 use borrow.Author.Tests.{eq-eqb, ne_eqb, lt-ltb, le-ltb, le-leb, lt-leb}
 use Rattle.base.proofs.Tests.{positive}
 use Rattle.checks.specs.Numbers.{check_numbered}
-use borrow.Author.Rules.{rules}
 use Rattle.checks.proofs.verify.Goals as goal
 
 zeroed : (n : ℕ) → n ≡ 0 → n ≤ 0

@@ -1,13 +1,9 @@
 use Prim.Native.Nat.{◌≤◌}
-use mathlib.Core.Path.{◌≡◌, refl, sym, ap, ◌∙◌}
-use native.Mathlib.Omega.{arith}
-use native.Mathlib.Nat.{le_trans}
+use mathlib.Core.Path.{◌≡◌}
 use lib.ListN.{length}
-use Rattle.machine.specs.Machine.{decode, done, machine, pay}
-use Rattle.machine.specs.Code.Registers.{frame_of, progress_of, Running}
-use Rattle.base.proofs.Tests.{positive}
-use Rattle.metered.proofs.Loop.{act_over, Leads, goes_on_lem, ends_with, turn}
-use borrow.Author.Rules.{rules}
+use Rattle.machine.specs.Machine.{decode, machine}
+use Rattle.machine.specs.Code.Registers.{frame_of, Running}
+use Rattle.metered.proofs.Loop.{Leads}
 use Rattle.metered.proofs.run.Given as goal
 
 abbrev pub invariant-loop-r : goal.invariant-loop-r

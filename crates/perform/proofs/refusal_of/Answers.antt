@@ -36,5 +36,10 @@ returns-in-51 c = rw c.in-51.is
 
 pub returns-in_default : goal.returns-in_default
 returns-in_default c =
-    let n = c.in-47.rest in
-    rw (other c.args.code c.args.note c.args.left (n.0.0.0.0.1 & n.0.0.0.1 & n.0.0.1 & n.0.1 & n.1 & end))
+    let k = c.args.code in
+    let n47 : k ≡ 47 → ⊥ = omega arith in
+    let n48 : k ≡ 48 → ⊥ = omega arith in
+    let n49 : k ≡ 49 → ⊥ = omega arith in
+    let n50 : k ≡ 50 → ⊥ = omega arith in
+    let n51 : k ≡ 51 → ⊥ = omega arith in
+    rw (other k c.args.note c.args.left (n47 & n48 & n49 & n50 & n51 & end))

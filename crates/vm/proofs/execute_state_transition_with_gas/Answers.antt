@@ -1,18 +1,16 @@
 -- `execute_state_transition_with_gas` meets its contract: the lengths, the gate, then the verifier and the run.
 use mathlib.Core.Path.{refl, sym, ◌∙◌}
-use Rattle.context.proofs.Laws.{holds, fails}
 use Rattle.perform.proofs.Laws.{lent}
-use borrow.Author.Rules.{rules}
 use Rattle.vm.proofs.execute_state_transition_with_gas.Goals as goal
 
 pub returns-then-not-buffers_fit : goal.returns-then-not-buffers_fit
-returns-then-not-buffers_fit c = rw (fails c.buffers_fit.ensures c.if-not-buffers_fit.true-raw) (record { answer = refl; says = refl; state = refl; stack = refl; work = refl; storage = refl })
+returns-then-not-buffers_fit c = rw (sym c.buffers_fit.ensures ∙ c.if-not-buffers_fit.true) (record { answer = refl; says = refl; state = refl; stack = refl; work = refl; storage = refl })
 
 pub verified_run-requires : goal.verified_run-requires
-verified_run-requires c = let a = c.args in lent a.kinds.now a.operands.now a.stack.now a.work.now a.storage.now a.state.used (holds c.buffers_fit.ensures c.if-not-buffers_fit.false-raw)
+verified_run-requires c = let a = c.args in lent a.kinds.now a.operands.now a.stack.now a.work.now a.storage.now a.state.used (sym c.buffers_fit.ensures ∙ c.if-not-buffers_fit.false)
 
 pub returns-in-Refused : goal.returns-in-Refused
-returns-in-Refused c = rw (holds c.buffers_fit.ensures c.if-not-buffers_fit.false-raw, sym c.execution_gate-gate.ensures.answer ∙ c.in-Refused.is) (record { answer = refl; says = refl; state = refl; stack = refl; work = refl; storage = refl })
+returns-in-Refused c = rw (sym c.buffers_fit.ensures ∙ c.if-not-buffers_fit.false, sym c.execution_gate-gate.ensures.answer ∙ c.in-Refused.is) (record { answer = refl; says = refl; state = refl; stack = refl; work = refl; storage = refl })
 
 pub returns-in-Passed : goal.returns-in-Passed
-returns-in-Passed c = rw (holds c.buffers_fit.ensures c.if-not-buffers_fit.false-raw, sym c.execution_gate-gate.ensures.answer ∙ c.in-Passed.is) c.verified_run.ensures
+returns-in-Passed c = rw (sym c.buffers_fit.ensures ∙ c.if-not-buffers_fit.false, sym c.execution_gate-gate.ensures.answer ∙ c.in-Passed.is) c.verified_run.ensures

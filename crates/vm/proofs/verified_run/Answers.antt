@@ -1,6 +1,5 @@
 -- `verified_run` meets its contract: the verifier's refusal, or the run.
 use mathlib.Core.Path.{refl, sym, ◌∙◌}
-use borrow.Author.Rules.{rules}
 use Rattle.vm.proofs.verified_run.Goals as goal
 
 pub returns-in-Refused : goal.returns-in-Refused

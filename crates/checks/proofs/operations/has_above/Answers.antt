@@ -1,13 +1,10 @@
 -- `operations::has_above` meets its contract: while there is no hit, the kinds passed are at most 15.
-use Prim.Native.Nat.{◌-◌, ◌≤◌}
+use Prim.Native.Nat.{◌≤◌}
 use mathlib.Core.Path.{◌≡◌, sym, ◌∙◌}
-use mathlib.Core.Bool.{false}
 use borrow.Author.Tests.{ltb-false}
 use native.Mathlib.Omega.{arith}
 use lib.ListN.{get_or}
-use Rattle.base.specs.Code.Skips.{AllFrom}
 use Rattle.base.proofs.Skips.{either_more}
-use borrow.Author.Rules.{rules}
 use Rattle.checks.proofs.operations.has_above.Goals as goal
 
 pub loop-k-init : goal.loop-k-init

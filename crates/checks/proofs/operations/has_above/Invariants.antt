@@ -1,12 +1,8 @@
 use Prim.Native.Nat.{◌-◌, ◌≤◌}
-use mathlib.Core.Path.{◌≡◌, sym, ◌∙◌}
+use mathlib.Core.Path.{◌≡◌}
 use mathlib.Core.Bool.{false}
-use borrow.Author.Tests.{ltb-false}
-use native.Mathlib.Omega.{arith}
 use lib.ListN.{get_or}
 use Rattle.base.specs.Code.Skips.{AllFrom}
-use Rattle.base.proofs.Skips.{either_more}
-use borrow.Author.Rules.{rules}
 use Rattle.checks.proofs.operations.has_above.Given as goal
 
 abbrev pub invariant-loop-k : goal.invariant-loop-k

@@ -1,13 +1,11 @@
 -- `operations::has_bad` meets its contract: while there is no hit, the operations passed pass.
-use Prim.Native.Nat.{◌+◌, ◌-◌, ◌≤◌}
+use Prim.Native.Nat.{◌+◌}
 use mathlib.Core.Path.{◌≡◌, sym, ◌∙◌}
-use mathlib.Core.Bool.{false}
 use native.Mathlib.Omega.{arith}
-use Rattle.base.specs.Code.Skips.{Skips, AllFrom}
+use Rattle.base.specs.Code.Skips.{Skips}
 use Rattle.base.proofs.Skips.{either_more, skips_all}
 use Rattle.checks.specs.Code.Blocks.{check_from}
 use Rattle.checks.proofs.Blocks.{skips_passing}
-use borrow.Author.Rules.{rules}
 use Rattle.checks.proofs.operations.has_bad.Goals as goal
 
 pub loop-k-init : goal.loop-k-init

@@ -1,12 +1,8 @@
 use Prim.Native.Nat.{◌+◌, ◌-◌, ◌≤◌}
-use mathlib.Core.Path.{◌≡◌, sym, ◌∙◌}
+use mathlib.Core.Path.{◌≡◌}
 use mathlib.Core.Bool.{false}
-use native.Mathlib.Omega.{arith}
 use Rattle.base.specs.Code.Skips.{Skips, AllFrom}
-use Rattle.base.proofs.Skips.{either_more, skips_all}
 use Rattle.checks.specs.Code.Blocks.{check_from}
-use Rattle.checks.proofs.Blocks.{skips_passing}
-use borrow.Author.Rules.{rules}
 use Rattle.checks.proofs.operations.has_bad.Given as goal
 
 abbrev pub invariant-loop-k : goal.invariant-loop-k

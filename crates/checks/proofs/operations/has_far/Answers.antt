@@ -7,7 +7,6 @@ use Rattle.base.proofs.Skips.{skips_all}
 use Rattle.checks.specs.Code.Blocks.{check_from}
 use Rattle.checks.proofs.Blocks.{near_passes, skips_passing}
 use Rattle.base.proofs.Tests.{or_left, or_right}
-use borrow.Author.Rules.{rules}
 use Rattle.checks.proofs.operations.has_far.Goals as goal
 
 pub returns : goal.returns

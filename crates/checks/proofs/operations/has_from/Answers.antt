@@ -1,13 +1,10 @@
 -- `operations::has_from` meets its contract: while there is no hit, the operands passed are below size.
-use Prim.Native.Nat.{◌-◌, ◌<◌, ◌≤◌}
+use Prim.Native.Nat.{◌<◌}
 use mathlib.Core.Path.{◌≡◌, sym, ◌∙◌}
-use mathlib.Core.Bool.{false}
 use borrow.Author.Tests.{leb-false}
 use native.Mathlib.Omega.{arith}
 use lib.ListN.{get_or}
-use Rattle.base.specs.Code.Skips.{AllFrom}
 use Rattle.base.proofs.Skips.{either_more}
-use borrow.Author.Rules.{rules}
 use Rattle.checks.proofs.operations.has_from.Goals as goal
 
 pub loop-k-init : goal.loop-k-init

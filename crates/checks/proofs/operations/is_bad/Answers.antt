@@ -1,7 +1,6 @@
 -- `operations::is_bad` meets its contract: the tests are those of the definition.
 use mathlib.Core.Path.{sym, ◌∙◌}
 use Rattle.checks.proofs.Blocks.{good_passes}
-use borrow.Author.Rules.{rules}
 use Rattle.checks.proofs.operations.is_bad.Goals as goal
 
 pub returns : goal.returns

@@ -1,12 +1,7 @@
 -- `operations::pass_fitting` meets its contract: each block that is passed leaves the check to the rest.
-use Prim.Native.Nat.{◌-◌}
 use mathlib.Core.Path.{refl}
 use native.Mathlib.Omega.{arith}
-use lib.ListN.{length}
-use Rattle.base.specs.Code.Skips.{SkipsTo}
 use Rattle.base.proofs.Skips.{skips_none, skips_on}
-use Rattle.checks.specs.Code.Blocks.{check_from}
-use borrow.Author.Rules.{rules}
 use Rattle.checks.proofs.operations.pass_fitting.Goals as goal
 
 pub loop-at-init : goal.loop-at-init

@@ -1,11 +1,7 @@
 use Prim.Native.Nat.{◌-◌, ◌≤◌}
-use mathlib.Core.Path.{refl, sym, ◌∙◌}
-use native.Mathlib.Omega.{arith}
 use lib.ListN.{length}
 use Rattle.base.specs.Code.Skips.{Skips}
 use Rattle.checks.specs.Code.Blocks.{check_from}
-use Rattle.checks.proofs.Laws.{check_at, check_end}
-use borrow.Author.Rules.{rules}
 use Rattle.checks.proofs.operations.verify_from.Given as goal
 
 abbrev pub invariant-loop-i : goal.invariant-loop-i

@@ -1,7 +1,8 @@
 -- `operations::verify_operation` meets its contract: an unknown kind, a jump, and any other.
 use borrow.Author.Tests.{le-leb, lt-leb}
 use Rattle.checks.proofs.Laws.{no_jump}
-use borrow.Author.Rules.{rules}
+use native.Mathlib.Omega.{arith}
+use mathlib.Core.Path.{◌≡◌}
 use Rattle.checks.proofs.operations.verify_operation.Goals as goal
 
 pub returns-then-kind-gt15 : goal.returns-then-kind-gt15
@@ -19,5 +20,7 @@ returns-in-14 c = rw c.in-14.is c.verify_target-in-14.ensures
 pub returns-in_default : goal.returns-in_default
 returns-in_default c =
     let a = c.args in
-    let n = c.in-7.rest in
-    rw (le-leb a.kind 15 c.if-kind-gt15.false, no_jump a.size a.kind a.operand n.0.0.1 n.0.1 n.1)
+    let n7 : a.kind ≡ 7 → ⊥ = omega arith in
+    let n8 : a.kind ≡ 8 → ⊥ = omega arith in
+    let n14 : a.kind ≡ 14 → ⊥ = omega arith in
+    rw (le-leb a.kind 15 c.if-kind-gt15.false, no_jump a.size a.kind a.operand n7 n8 n14)

@@ -1,6 +1,5 @@
 -- `operations::verify_operations` meets its contract: the operations passed leave the answer to the rest of the program.
 use mathlib.Core.Path.{sym, ◌∙◌}
-use borrow.Author.Rules.{rules}
 use Rattle.checks.proofs.operations.verify_operations.Goals as goal
 
 pub returns : goal.returns

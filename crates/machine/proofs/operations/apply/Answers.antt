@@ -1,5 +1,5 @@
 -- `operations::apply` meets its contract: each kind by itself.
-use Rattle.std.proofs.Common.{◌≡◌, ℕ, ◌+◌, ◌-◌, ◌%◌, ◌^◌, ◌<◌, ◌≤◌, ap, arith, rules, le-ltb, lt-ltb, eq-eqb, ne_eqb}
+use Rattle.std.proofs.Common.{◌≡◌, ℕ, ◌+◌, ◌-◌, ◌%◌, ◌^◌, ◌<◌, ◌≤◌, ap, arith, le-ltb, lt-ltb, eq-eqb, ne_eqb}
 use mathlib.Core.Option.{some}
 use Rattle.word.specs.Apply.{lt}
 use Rattle.machine.specs.Code.Registers.{binop_of_kind}
@@ -15,16 +15,21 @@ not_zero h e = omega arith
 
 lt_here : (c : In_default) → binop_of_kind c.args.kind ≡ lt
 lt_here c =
-    let n = c.in-1.rest in
-    other_lt c.args.kind n.0.0.0.0.1 n.0.0.0.1 n.0.0.1 n.0.1 n.1
+    let k = c.args.kind in
+    let n1 : k ≡ 1 → ⊥ = omega arith in
+    let n2 : k ≡ 2 → ⊥ = omega arith in
+    let n3 : k ≡ 3 → ⊥ = omega arith in
+    let n4 : k ≡ 4 → ⊥ = omega arith in
+    let n9 : k ≡ 9 → ⊥ = omega arith in
+    other_lt k n1 n2 n3 n4 n9
 
 pub returns-in-1 : goal.returns-in-1
-returns-in-1 c = rw c.in-1.is (ap some c.wrapping_add_u64.ensures)
+returns-in-1 c = rw c.in-1.is (ap some c.wrapping_add_u64.ensures.value)
 
 pub returns-in-2 : goal.returns-in-2
 returns-in-2 c =
     let a = c.args in
-    rw c.in-2.is (ap some (wrapped a.a a.b c.wrapping_sub_u64.result (omega arith) (omega arith) (omega arith) c.wrapping_sub_u64.ensures))
+    rw c.in-2.is (ap some (wrapped a.a a.b c.wrapping_sub_u64.result (omega arith) (omega arith) (omega arith) c.wrapping_sub_u64.ensures.value))
 
 pub returns-in-3 : goal.returns-in-3
 returns-in-3 c = rw c.in-3.is (ap some c.wrapping_mul.ensures)

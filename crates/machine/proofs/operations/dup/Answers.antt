@@ -1,5 +1,5 @@
 -- `operations::dup` meets its contract: it pushes the top item again.
-use Rattle.std.proofs.Common.{ℕ, List, take, arith, rules}
+use Rattle.std.proofs.Common.{ℕ, List, take, arith}
 use Rattle.machine.specs.Machine.{dup_of}
 use Rattle.base.proofs.Stack.{stack_pop}
 use Rattle.machine.proofs.Stack.{no_item}

@@ -1,5 +1,5 @@
 -- `operations::jump` meets its contract: stack and storage stay as they are.
-use Rattle.std.proofs.Common.{refl, arith, rules}
+use Rattle.std.proofs.Common.{refl, arith}
 use Rattle.machine.proofs.Effects.{jumps_by}
 use Rattle.machine.proofs.operations.jump.Goals as goal
 

@@ -1,5 +1,5 @@
 -- `operations::jump_if_not_zero` meets its contract: no item, and the top item 0 or not.
-use Rattle.std.proofs.Common.{ℕ, ◌-◌, not, eqb, List, take, arith, rules, eq-eqb, ne_eqb}
+use Rattle.std.proofs.Common.{ℕ, ◌-◌, not, eqb, List, take, arith, eq-eqb, ne_eqb}
 use Rattle.machine.specs.Machine.{jump_if_of}
 use Rattle.machine.proofs.Stack.{no_item}
 use Rattle.base.proofs.Stack.{stack_pop}

@@ -1,5 +1,5 @@
 -- `operations::load` meets its contract: a used slot is read from the buffer, any other is 0.
-use Rattle.std.proofs.Common.{◌≤◌, length, take, arith, length-take, get_or-take, rules}
+use Rattle.std.proofs.Common.{◌≤◌, length, take, arith, length-take, get_or-take}
 use lib.ListN.{get_or-eq_default}
 use Rattle.machine.proofs.operations.load.Goals as goal
 

@@ -1,5 +1,5 @@
 -- `operations::push` meets its contract: room is left on the stack, or not.
-use Rattle.std.proofs.Common.{◌+◌, ◌<◌, length, arith, rules, le-ltb, lt-ltb}
+use Rattle.std.proofs.Common.{◌+◌, ◌<◌, length, arith, le-ltb, lt-ltb}
 use Rattle.base.proofs.Stack.{length_stack, stack_push}
 use Rattle.machine.proofs.Effects.{fails_by, moves_by}
 use Rattle.machine.proofs.operations.push.Goals as goal

@@ -1,5 +1,5 @@
 -- `operations::store` meets its contract: the pop, the two refusals, and a store within the used slots or past them.
-use Rattle.std.proofs.Common.{ℕ, ◌+◌, ◌-◌, List, length, get_or, take, arith, rules, le-ltb, lt-ltb}
+use Rattle.std.proofs.Common.{ℕ, ◌+◌, ◌-◌, List, length, get_or, take, arith, le-ltb, lt-ltb}
 use Rattle.machine.specs.Machine.{store_of}
 use Rattle.base.proofs.Stack.{stack_pop}
 use Rattle.machine.proofs.Stack.{no_item}
@@ -41,4 +41,4 @@ returns c =
     let z = c.zero_out in
     let v = get_or a.stack.now (a.r.items - 1) 0 in
     moves_by (a.r.items - 1) (a.slot + 1) c.go_on-2.ensures (omega arith) (omega arith) (omega arith)
-    (rw (stack_pop a.stack.now a.r.items c.if-n-lt1.false, lt-ltb a.slot 65536 c.if-slot.false, lt-ltb a.slot (length m) c.if-at-work.false, store_past a.r.used a.slot v m z.new.0 c.if-at-used.false c.if-at-work.false z.ensures))
+    (rw (stack_pop a.stack.now a.r.items c.if-n-lt1.false, lt-ltb a.slot 65536 c.if-slot.false, lt-ltb a.slot (length m) c.if-at-work.false, store_past a.r.used a.slot v m z.new.s c.if-at-used.false c.if-at-work.false z.ensures))

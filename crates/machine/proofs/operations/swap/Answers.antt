@@ -1,5 +1,5 @@
 -- `operations::swap` meets its contract: the two top items change places.
-use Rattle.std.proofs.Common.{ℕ, ◌-◌, ◌≤◌, List, length, get_or, take, refl, arith, length-set, rules}
+use Rattle.std.proofs.Common.{ℕ, ◌-◌, ◌≤◌, List, length, get_or, take, refl, arith, length-set}
 use Rattle.machine.specs.Machine.{swap_of}
 use Rattle.machine.proofs.Stack.{below_two, stack_two, stack_swap}
 use Rattle.machine.proofs.Effects.{fails_by, moves_by}

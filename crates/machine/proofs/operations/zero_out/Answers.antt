@@ -1,5 +1,5 @@
 -- `operations::zero_out` meets its contract: the zeros from a to i stand between the parts that are not touched.
-use Rattle.std.proofs.Common.{◌≡◌, ℕ, ◌-◌, ◌≤◌, List, ◌++◌, length, take, drop, set, replicate, refl, ap, ◌∙◌, arith, length-set, rules}
+use Rattle.std.proofs.Common.{◌≡◌, ℕ, List, set, refl, ap, ◌∙◌, arith, length-set}
 use Rattle.machine.proofs.Storage.{fill_none, fill_one}
 use Rattle.machine.proofs.operations.zero_out.Goals as goal
 

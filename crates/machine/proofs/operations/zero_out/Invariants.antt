@@ -1,5 +1,4 @@
-use Rattle.std.proofs.Common.{◌≡◌, ℕ, ◌-◌, ◌≤◌, List, ◌++◌, length, take, drop, set, replicate, refl, ap, ◌∙◌, arith, length-set, rules}
-use Rattle.machine.proofs.Storage.{fill_none, fill_one}
+use Rattle.std.proofs.Common.{◌≡◌, ◌-◌, ◌≤◌, ◌++◌, length, take, drop, replicate}
 use Rattle.machine.proofs.operations.zero_out.Given as goal
 
 abbrev pub invariant-loop-i : goal.invariant-loop-i

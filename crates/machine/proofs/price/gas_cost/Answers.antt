@@ -1,6 +1,5 @@
 -- `price::gas_cost` meets its contract: each arm by the numbers of its range.
-use Rattle.std.proofs.Common.{◌≡◌, ℕ, ◌≤◌, sym, refl, inl, inr, ⊎_elim, arith}
-use Rattle.base.proofs.Tests.{positive}
+use Rattle.std.proofs.Common.{◌≡◌, ℕ, ◌≤◌, sym, refl, ⊎_elim, ◌⊎◌, arith}
 use Rattle.kinds.specs.Kinds.{kind_of}
 use Rattle.kinds.proofs.ByKind.{end, ◌&◌, span, unpriced}
 use Rattle.machine.proofs.price.gas_cost.Goals as goal
@@ -15,26 +14,22 @@ pub returns-in-11-to-12 : goal.returns-in-11-to-12
 returns-in-11-to-12 c = span {P = λ j. ◌≡◌ {A = ℕ} 3 (kind_of j).price} 11 2 c.args.kind (refl & refl & end) (omega arith) (omega arith)
 
 pub returns-in_default : goal.returns-in_default
-returns-in_default c =
-    let k = c.args.kind in
-    let n13 = c.in-0.rest.0.0.1 in
-    let n14 = c.in-0.rest.0.1 in
-    sym (unpriced k (high k c.if-kind-lt13.false (λ e. n13 (inr e)) n14))
+returns-in_default c = let k = c.args.kind in let h : 15 ≤ k = grind arith in sym (unpriced k h)
 
 pub returns-in-1-to-4 : goal.returns-in-1-to-4
-returns-in-1-to-4 c = rw c.in-0.keys2
+returns-in-1-to-4 c = let e : c.args.kind ≡ 14 = omega arith in rw e
 
 pub returns-in-1-to-4-2 : goal.returns-in-1-to-4-2
 returns-in-1-to-4-2 c =
     let k = c.args.kind in
-    let one : 1 ≤ k = positive k (λ e. c.in-0.rest.0.0.1 (inl e)) in
+    let one : 1 ≤ k = grind arith in
     span {P = λ j. ◌≡◌ {A = ℕ} 2 (kind_of j).price} 1 4 k (refl & refl & refl & refl & end) (omega arith) (omega arith)
 
 pub returns-in-1-to-4-3 : goal.returns-in-1-to-4-3
 returns-in-1-to-4-3 c = span {P = λ j. ◌≡◌ {A = ℕ} 2 (kind_of j).price} 7 4 c.args.kind (refl & refl & refl & refl & end) (omega arith) (omega arith)
 
 pub returns-in-0 : goal.returns-in-0
-returns-in-0 c = ⊎_elim (λ e. rw e) (λ e. rw e) c.in-0.keys1
+returns-in-0 c = let h : (c.args.kind ≡ 0) ⊎ (c.args.kind ≡ 13) = grind arith in ⊎_elim (λ e. rw e) (λ e. rw e) h
 
 pub returns-in-0-2 : goal.returns-in-0-2
 returns-in-0-2 c = span {P = λ j. ◌≡◌ {A = ℕ} 1 (kind_of j).price} 5 2 c.args.kind (refl & refl & end) (omega arith) (omega arith)

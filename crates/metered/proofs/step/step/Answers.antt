@@ -1,11 +1,10 @@
 -- `step::step` meets its contract: at each leaf the tests leave one kind.
 use native.Mathlib.Omega.{arith}
 use Rattle.metered.proofs.StepArms.{at_kind, at_halt}
-use borrow.Author.Rules.{rules}
 use Rattle.metered.proofs.step.step.Goals as goal
 
 pub returns-then-kind-lt1 : goal.returns-then-kind-lt1
-returns-then-kind-lt1 c = let a = c.args in at_kind 0 a.kind a.operand (omega arith) c.step_of_lem.ensures
+returns-then-kind-lt1 c = let a = c.args in at_kind 0 a.kind a.operand (omega arith) c.step_of.ensures
 
 pub returns-then-kind-lt2 : goal.returns-then-kind-lt2
 returns-then-kind-lt2 c = let a = c.args in at_kind 1 a.kind a.operand (omega arith) c.step_of-then-kind-lt2.ensures

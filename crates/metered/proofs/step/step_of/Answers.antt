@@ -7,19 +7,17 @@ use native.Mathlib.Omega.{arith}
 use lib.ListN.{length}
 use Rattle.machine.specs.declared.Regs.{Regs}
 use Rattle.kinds.specs.Kinds.{operation, kind_of}
-use Rattle.kinds.proofs.ByKind.{end, ◌&◌, past}
 use Rattle.machine.specs.Machine.{effect_of}
 use Rattle.machine.specs.Code.Registers.{CanStep, RefinesEffect, RefinesStep}
 use Rattle.metered.proofs.StepArms.{ready, arm, out_of_gas_lem, ends_by}
-use borrow.Author.Rules.{rules}
 use Rattle.metered.proofs.step.step_of.Goals as goal
 use Rattle.metered.proofs.step.step_of.Goals.{After-pay-q}
 
 ready_here : (c : After-pay-q) → CanStep c.pay-q.result (length c.args.stack.now)
-ready_here c = ready c.gas_cost-p.result c.pay-q.ensures c.requires.0 c.requires.1
+ready_here c = ready c.gas_cost-p.result c.pay-q.ensures c.requires.running c.requires.pos_bound
 
 used_here : (c : After-pay-q) → c.pay-q.result.used ≤ length c.args.work.now
-used_here c = rw c.pay-q.ensures c.requires.0.held.used
+used_here c = rw c.pay-q.ensures c.requires.running.held.used
 
 module _ (c : After-pay-q) (k : ℕ) {q : Regs} {s' w' : List ℕ} where
   next_arm : c.args.kind ≡ k → 1 ≤ (kind_of k).price
@@ -27,19 +25,19 @@ module _ (c : After-pay-q) (k : ℕ) {q : Regs} {s' w' : List ℕ} where
       → RefinesStep c.args.caller (operation c.args.kind c.args.operand) c.args.r q c.args.stack.now c.args.work.now s' w'
   next_arm e one did =
       let a = c.args in
-      arm k (c.pay-q.result.pos + 1) c.gas_cost-p.result a.caller a.kind a.operand e c.pay-q.ensures c.gas_cost-p.ensures c.if-g-p.false one (inl (omega arith)) c.requires.0 did
+      arm k (c.pay-q.result.pos + 1) c.gas_cost-p.result a.caller a.kind a.operand e c.pay-q.ensures c.gas_cost-p.ensures c.if-g-p.false one (inl (omega arith)) c.requires.running did
 
   jump_arm : c.args.kind ≡ k → 2 ≤ (kind_of k).price
       → RefinesEffect 0 (effect_of c.args.caller (length c.args.work.now) (operation k c.args.operand)) c.pay-q.result q c.args.stack.now c.args.work.now s' w'
       → RefinesStep c.args.caller (operation c.args.kind c.args.operand) c.args.r q c.args.stack.now c.args.work.now s' w'
   jump_arm e two did =
       let a = c.args in
-      arm k 0 c.gas_cost-p.result a.caller a.kind a.operand e c.pay-q.ensures c.gas_cost-p.ensures c.if-g-p.false (omega arith) (inr two) c.requires.0 did
+      arm k 0 c.gas_cost-p.result a.caller a.kind a.operand e c.pay-q.ensures c.gas_cost-p.ensures c.if-g-p.false (omega arith) (inr two) c.requires.running did
 
 pub returns-then-g-p : goal.returns-then-g-p
 returns-then-g-p c =
     let a = c.args in
-    out_of_gas_lem c.stop.ensures c.gas_cost-p.ensures c.if-g-p.true c.requires.0
+    out_of_gas_lem c.stop.ensures c.gas_cost-p.ensures c.if-g-p.true c.requires.running
 
 pub pay-q-requires : goal.pay-q-requires
 pay-q-requires c = c.if-g-p.false
@@ -66,7 +64,7 @@ pub swap-requires : goal.swap-requires
 swap-requires c = ready_here (goal.at.swap-requires c).After-pay-q
 
 pub jump-requires : goal.jump-requires
-jump-requires c = ((ready_here (goal.at.jump-requires c).After-pay-q).ops, (ready_here (goal.at.jump-requires c).After-pay-q).items)
+jump-requires c = let h = ready_here (goal.at.jump-requires c).After-pay-q in record { ops_bound = h.ops; r_bound = h.items }
 
 pub jump_if_not_zero-requires : goal.jump_if_not_zero-requires
 jump_if_not_zero-requires c = ready_here (goal.at.jump_if_not_zero-requires c).After-pay-q
@@ -78,10 +76,10 @@ pub binop-requires-in-10 : goal.binop-requires-in-10
 binop-requires-in-10 c = ready_here (goal.at.binop-requires-in-10 c).After-pay-q
 
 pub load-requires : goal.load-requires
-load-requires c = (ready_here (goal.at.load-requires c).After-pay-q, used_here (goal.at.load-requires c).After-pay-q)
+load-requires c = record { can_step = ready_here (goal.at.load-requires c).After-pay-q; used_in_bounds = used_here (goal.at.load-requires c).After-pay-q }
 
 pub store-requires : goal.store-requires
-store-requires c = (ready_here (goal.at.store-requires c).After-pay-q, used_here (goal.at.store-requires c).After-pay-q)
+store-requires c = record { can_step = ready_here (goal.at.store-requires c).After-pay-q; used_in_bounds = used_here (goal.at.store-requires c).After-pay-q }
 
 pub push-requires-in-13 : goal.push-requires-in-13
 push-requires-in-13 c = ready_here (goal.at.push-requires-in-13 c).After-pay-q
@@ -93,53 +91,52 @@ pub overflow_add-q : goal.overflow_add-q
 overflow_add-q c = rw c.pay-q.ensures (omega arith)
 
 pub returns-in-0 : goal.returns-in-0
-returns-in-0 c = next_arm c.before.before.before.before.before 0 c.in-0.is (omega arith) (c.push.ensures _ (used_here (goal.at.returns-in-0 c).After-pay-q))
+returns-in-0 c = next_arm (goal.at.returns-in-0 c).After-pay-q 0 c.in-0.is (omega arith) (c.push.ensures _ (used_here (goal.at.returns-in-0 c).After-pay-q))
 
 pub returns-in-1 : goal.returns-in-1
-returns-in-1 c = next_arm c.before.before.before.before.before 1 c.in-1.is (omega arith) (c.binop.ensures _ (used_here (goal.at.returns-in-1 c).After-pay-q))
+returns-in-1 c = next_arm (goal.at.returns-in-1 c).After-pay-q 1 c.in-1.is (omega arith) (c.binop.ensures _ (used_here (goal.at.returns-in-1 c).After-pay-q))
 
 pub returns-in-2 : goal.returns-in-2
-returns-in-2 c = next_arm c.before.before.before.before.before 2 c.in-2.is (omega arith) (c.binop-in-2.ensures _ (used_here (goal.at.returns-in-2 c).After-pay-q))
+returns-in-2 c = next_arm (goal.at.returns-in-2 c).After-pay-q 2 c.in-2.is (omega arith) (c.binop-in-2.ensures _ (used_here (goal.at.returns-in-2 c).After-pay-q))
 
 pub returns-in-3 : goal.returns-in-3
-returns-in-3 c = next_arm c.before.before.before.before.before 3 c.in-3.is (omega arith) (c.binop-in-3.ensures _ (used_here (goal.at.returns-in-3 c).After-pay-q))
+returns-in-3 c = next_arm (goal.at.returns-in-3 c).After-pay-q 3 c.in-3.is (omega arith) (c.binop-in-3.ensures _ (used_here (goal.at.returns-in-3 c).After-pay-q))
 
 pub returns-in-4 : goal.returns-in-4
-returns-in-4 c = next_arm c.before.before.before.before.before 4 c.in-4.is (omega arith) (c.binop-in-4.ensures _ (used_here (goal.at.returns-in-4 c).After-pay-q))
+returns-in-4 c = next_arm (goal.at.returns-in-4 c).After-pay-q 4 c.in-4.is (omega arith) (c.binop-in-4.ensures _ (used_here (goal.at.returns-in-4 c).After-pay-q))
 
 pub returns-in-5 : goal.returns-in-5
-returns-in-5 c = next_arm c.before.before.before.before.before 5 c.in-5.is (omega arith) (c.dup.ensures _ (used_here (goal.at.returns-in-5 c).After-pay-q))
+returns-in-5 c = next_arm (goal.at.returns-in-5 c).After-pay-q 5 c.in-5.is (omega arith) (c.dup.ensures _ (used_here (goal.at.returns-in-5 c).After-pay-q))
 
 pub returns-in-6 : goal.returns-in-6
-returns-in-6 c = next_arm c.before.before.before.before.before 6 c.in-6.is (omega arith) (c.swap.ensures _ (used_here (goal.at.returns-in-6 c).After-pay-q))
+returns-in-6 c = next_arm (goal.at.returns-in-6 c).After-pay-q 6 c.in-6.is (omega arith) (c.swap.ensures _ (used_here (goal.at.returns-in-6 c).After-pay-q))
 
 pub returns-in-7 : goal.returns-in-7
-returns-in-7 c = jump_arm c.before.before 7 c.in-7.is (omega arith) (c.jump.ensures _ _ (used_here (goal.at.returns-in-7 c).After-pay-q))
+returns-in-7 c = jump_arm (goal.at.returns-in-7 c).After-pay-q 7 c.in-7.is (omega arith) (c.jump.ensures _ _ (used_here (goal.at.returns-in-7 c).After-pay-q))
 
 pub returns-in-8 : goal.returns-in-8
-returns-in-8 c = jump_arm c.before.before.before 8 c.in-8.is (omega arith) (c.jump_if_not_zero.ensures _ (used_here (goal.at.returns-in-8 c).After-pay-q))
+returns-in-8 c = jump_arm (goal.at.returns-in-8 c).After-pay-q 8 c.in-8.is (omega arith) (c.jump_if_not_zero.ensures _ (used_here (goal.at.returns-in-8 c).After-pay-q))
 
 pub returns-in-9 : goal.returns-in-9
-returns-in-9 c = next_arm c.before.before.before.before.before 9 c.in-9.is (omega arith) (c.binop-in-9.ensures _ (used_here (goal.at.returns-in-9 c).After-pay-q))
+returns-in-9 c = next_arm (goal.at.returns-in-9 c).After-pay-q 9 c.in-9.is (omega arith) (c.binop-in-9.ensures _ (used_here (goal.at.returns-in-9 c).After-pay-q))
 
 pub returns-in-10 : goal.returns-in-10
-returns-in-10 c = next_arm c.before.before.before.before.before 10 c.in-10.is (omega arith) (c.binop-in-10.ensures _ (used_here (goal.at.returns-in-10 c).After-pay-q))
+returns-in-10 c = next_arm (goal.at.returns-in-10 c).After-pay-q 10 c.in-10.is (omega arith) (c.binop-in-10.ensures _ (used_here (goal.at.returns-in-10 c).After-pay-q))
 
 pub returns-in-11 : goal.returns-in-11
-returns-in-11 c = next_arm c.before.before.before.before.before.before 11 c.in-11.is (omega arith) c.load.ensures
+returns-in-11 c = next_arm (goal.at.returns-in-11 c).After-pay-q 11 c.in-11.is (omega arith) c.load.ensures
 
 pub returns-in-12 : goal.returns-in-12
-returns-in-12 c = next_arm c.before.before.before.before.before.before 12 c.in-12.is (omega arith) c.store.ensures
+returns-in-12 c = next_arm (goal.at.returns-in-12 c).After-pay-q 12 c.in-12.is (omega arith) c.store.ensures
 
 pub returns-in-13 : goal.returns-in-13
-returns-in-13 c = next_arm c.before.before.before.before.before 13 c.in-13.is (omega arith) (c.push-in-13.ensures _ (used_here (goal.at.returns-in-13 c).After-pay-q))
+returns-in-13 c = next_arm (goal.at.returns-in-13 c).After-pay-q 13 c.in-13.is (omega arith) (c.push-in-13.ensures _ (used_here (goal.at.returns-in-13 c).After-pay-q))
 
 pub returns-in-14 : goal.returns-in-14
-returns-in-14 c = jump_arm c.before.before.before 14 c.in-14.is (omega arith) (c.jump_if_zero.ensures _ (used_here (goal.at.returns-in-14 c).After-pay-q))
+returns-in-14 c = jump_arm (goal.at.returns-in-14 c).After-pay-q 14 c.in-14.is (omega arith) (c.jump_if_zero.ensures _ (used_here (goal.at.returns-in-14 c).After-pay-q))
 
 pub returns-in_default : goal.returns-in_default
 returns-in_default c =
-    let n = c.in-0.rest in
     let a = c.args in
-    let h = past {b = 0} {k = a.kind} (n.0.0.0.0.0.0.0.0.0.0.0.0.0.0.1 & n.0.0.0.0.0.0.0.0.0.0.0.0.0.1 & n.0.0.0.0.0.0.0.0.0.0.0.0.1 & n.0.0.0.0.0.0.0.0.0.0.0.1 & n.0.0.0.0.0.0.0.0.0.0.1 & n.0.0.0.0.0.0.0.0.0.1 & n.0.0.0.0.0.0.0.0.1 & n.0.0.0.0.0.0.0.1 & n.0.0.0.0.0.0.1 & n.0.0.0.0.0.1 & n.0.0.0.0.1 & n.0.0.0.1 & n.0.0.1 & n.0.1 & n.1 & end) (omega arith) in
-    ends_by a.kind a.operand h c.end.ensures c.pay-q.ensures c.gas_cost-p.ensures c.if-g-p.false c.requires.0
+    let h : 15 ≤ a.kind = omega arith in
+    ends_by a.kind a.operand h c.end.ensures c.pay-q.ensures c.gas_cost-p.ensures c.if-g-p.false c.requires.running

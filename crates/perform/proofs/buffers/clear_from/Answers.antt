@@ -3,7 +3,6 @@ use mathlib.Core.Path.{◌∙◌}
 use mathlib.Core.List.{append-nil}
 use native.Mathlib.Omega.{arith}
 use lib.ListN.{length, drop_of_length-le}
-use borrow.Author.Rules.{rules}
 use Rattle.perform.proofs.buffers.clear_from.Goals as goal
 
 pub returns : goal.returns

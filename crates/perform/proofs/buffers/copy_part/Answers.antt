@@ -1,13 +1,8 @@
 -- `buffers::copy_part` meets its contract: the slots from a up to i are those of the source.
-use Prim.Native.Nat.{◌-◌, ◌≤◌, max}
 use native.Mathlib.Omega.{arith}
-use mathlib.Core.Path.{◌≡◌, refl}
-use mathlib.Core.Bool.{◌&&◌}
-use lib.ListN.{length, length-set}
-use lib.Dec.{leb, ltb}
-use Rattle.perform.specs.Code.Needed.{Copied}
+use mathlib.Core.Path.{refl}
+use lib.ListN.{length-set}
 use Rattle.perform.proofs.Needed.{part_starts, part_more, part_ends}
-use borrow.Author.Rules.{rules}
 use Rattle.perform.proofs.buffers.copy_part.Goals as goal
 
 pub loop-i-init : goal.loop-i-init

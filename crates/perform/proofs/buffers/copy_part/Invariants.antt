@@ -1,12 +1,9 @@
 use Prim.Native.Nat.{◌-◌, ◌≤◌, max}
-use native.Mathlib.Omega.{arith}
-use mathlib.Core.Path.{◌≡◌, refl}
+use mathlib.Core.Path.{◌≡◌}
 use mathlib.Core.Bool.{◌&&◌}
-use lib.ListN.{length, length-set}
+use lib.ListN.{length}
 use lib.Dec.{leb, ltb}
 use Rattle.perform.specs.Code.Needed.{Copied}
-use Rattle.perform.proofs.Needed.{part_starts, part_more, part_ends}
-use borrow.Author.Rules.{rules}
 use Rattle.perform.proofs.buffers.copy_part.Given as goal
 
 abbrev pub invariant-loop-i : goal.invariant-loop-i

@@ -1,7 +1,6 @@
 -- `slots::copy_changed` meets its contract: the slots that a run needs, or none where it can store nothing.
 use mathlib.Core.Path.{sym, ◌∙◌}
 use Rattle.perform.proofs.Needed.{none_changed, needed-changed}
-use borrow.Author.Rules.{rules}
 use Rattle.perform.proofs.slots.copy_changed.Goals as goal
 
 pub returns-then-has_store : goal.returns-then-has_store

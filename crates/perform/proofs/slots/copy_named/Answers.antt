@@ -1,13 +1,8 @@
 -- `slots::copy_named` meets its contract: the slots of the operations passed.
-use Prim.Native.Nat.{◌-◌, ◌≤◌}
 use native.Mathlib.Omega.{arith}
 use mathlib.Core.Path.{◌≡◌, refl, ◌∙◌}
-use mathlib.Core.Bool.{◌&&◌}
-use lib.Dec.{ltb}
 use lib.ListN.{length}
-use Rattle.perform.specs.Code.Needed.{named, Copied}
 use Rattle.perform.proofs.Needed.{named_none, named_more}
-use borrow.Author.Rules.{rules}
 use Rattle.perform.proofs.slots.copy_named.Goals as goal
 
 pub loop-i-init : goal.loop-i-init
@@ -21,7 +16,7 @@ loop-i-preserved c =
     let a = c.args in
     let l = c.loop-i in
     let e = c.copy_slot in
-    (omega arith, e.auto.0 ∙ l.invariant.1, named_more a.kinds.now a.operands.now a.used l.i l.invariant.2 e.ensures)
+    (omega arith, e.auto.d ∙ l.invariant.1, named_more a.kinds.now a.operands.now a.used l.i l.invariant.2 e.ensures)
 
 pub returns : goal.returns
 returns c =

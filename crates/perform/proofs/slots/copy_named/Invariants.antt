@@ -1,12 +1,9 @@
 use Prim.Native.Nat.{◌-◌, ◌≤◌}
-use native.Mathlib.Omega.{arith}
-use mathlib.Core.Path.{◌≡◌, refl, ◌∙◌}
+use mathlib.Core.Path.{◌≡◌}
 use mathlib.Core.Bool.{◌&&◌}
 use lib.Dec.{ltb}
 use lib.ListN.{length}
 use Rattle.perform.specs.Code.Needed.{named, Copied}
-use Rattle.perform.proofs.Needed.{named_none, named_more}
-use borrow.Author.Rules.{rules}
 use Rattle.perform.proofs.slots.copy_named.Given as goal
 
 abbrev pub invariant-loop-i : goal.invariant-loop-i

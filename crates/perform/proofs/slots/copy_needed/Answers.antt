@@ -1,6 +1,5 @@
 -- `slots::copy_needed` meets its contract: all the used slots, or those that a short program names.
 use Rattle.perform.proofs.Needed.{all_needed, named-needed}
-use borrow.Author.Rules.{rules}
 use Rattle.perform.proofs.slots.copy_needed.Goals as goal
 
 pub returns-then-kinds-used : goal.returns-then-kinds-used

@@ -2,7 +2,6 @@
 use native.Mathlib.Omega.{arith}
 use mathlib.Core.Path.{sym, ◌∙◌}
 use Rattle.perform.proofs.Needed.{copied_none, copied_as, copied_set, slot_copied, slot_past, slot_none}
-use borrow.Author.Rules.{rules}
 use Rattle.perform.proofs.slots.copy_slot.Goals as goal
 
 pub returns-then-slot-used : goal.returns-then-slot-used

@@ -1,12 +1,7 @@
 -- `slots::has_store` meets its contract: a hit so far, or a Store in what is left of the program.
-use Prim.Native.Nat.{◌-◌, ◌≤◌}
 use native.Mathlib.Omega.{arith}
-use mathlib.Core.Path.{◌≡◌, refl, sym, ◌∙◌}
-use mathlib.Core.Bool.{◌||◌}
-use lib.ListN.{length, drop}
-use Rattle.perform.specs.Code.Needed.{stores}
+use mathlib.Core.Path.{refl, sym, ◌∙◌}
 use Rattle.perform.proofs.Needed.{store_next, store_end}
-use borrow.Author.Rules.{rules}
 use Rattle.perform.proofs.slots.has_store.Goals as goal
 
 pub loop-i-init : goal.loop-i-init

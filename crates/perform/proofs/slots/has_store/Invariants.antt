@@ -1,11 +1,8 @@
 use Prim.Native.Nat.{◌-◌, ◌≤◌}
-use native.Mathlib.Omega.{arith}
-use mathlib.Core.Path.{◌≡◌, refl, sym, ◌∙◌}
+use mathlib.Core.Path.{◌≡◌}
 use mathlib.Core.Bool.{◌||◌}
 use lib.ListN.{length, drop}
 use Rattle.perform.specs.Code.Needed.{stores}
-use Rattle.perform.proofs.Needed.{store_next, store_end}
-use borrow.Author.Rules.{rules}
 use Rattle.perform.proofs.slots.has_store.Given as goal
 
 abbrev pub invariant-loop-i : goal.invariant-loop-i
