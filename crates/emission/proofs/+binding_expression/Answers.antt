@@ -1,0 +1,164 @@
+-- `emission::expression` and `emission::binding` meet their contracts: the number of bindings falls at each name.
+use Rattle.std.proofs.Common.{ℕ, ◌+◌, ◌-◌, ◌*◌, ◌<◌, refl, sym, ap, ◌∙◌}
+use native.Mathlib.Omega.{arith}
+use Rattle.writer.proofs.Pieces.{overwrites_length}
+use Rattle.emission.proofs.WrittenBindings.{kept_put, kept_mark, again_fits, again_put}
+use Rattle.emission.proofs.Loop.{Running, running_starts, running_as, factor_past, no_factor, open_room, opened, literal_fits, literal_goes, name_below, name_stands, name_fits, name_goes, turn_ready, turn_room, turn_past, turn_goes, end_fits, end_put, parameter_text, binding_means, binding_text}
+use Rattle.emission.proofs.+binding_expression.Goals as goal
+
+pub binding-put_again-requires : goal.binding-put_again-requires
+binding-put_again-requires t c = again_fits _ c.requires.keeps_written c.requires.b_in_bounds c.if-length-gt0.true
+
+pub binding-returns-then-length-gt0 : goal.binding-returns-then-length-gt0
+binding-returns-then-length-gt0 t c =
+    let q = c.requires in
+    let p = again_put _ q.keeps_written q.b_in_bounds c.if-length-gt0.true c.put_again.ensures in
+    record { wrote = p; keeps = kept_put q.keeps_written p q.b_in_bounds }
+
+pub binding-put_push-requires : goal.binding-put_push-requires
+binding-put_push-requires t c =
+    let q = c.requires in
+    rw (parameter_text q.b_bound.0 q.b_bound.1 (sym c.wide-size.ensures.0 ∙ c.if-size-eq0.true)) at q.b_in_bounds
+
+pub binding-returns-then-size-eq0 : goal.binding-returns-then-size-eq0
+binding-returns-then-size-eq0 t c =
+    let q = c.requires in
+    let e = parameter_text q.b_bound.0 q.b_bound.1 (sym c.wide-size.ensures.0 ∙ c.if-size-eq0.true) in
+    let p = rw (← e) at c.put_push.ensures in
+    record { wrote = p; keeps = kept_put q.keeps_written p q.b_in_bounds }
+
+pub binding-expression-behind-requires : goal.binding-expression-behind-requires
+binding-expression-behind-requires t c =
+    let q = c.requires in
+    let a = c.wide-start.ensures.0 in
+    let w = c.wide-size.ensures.0 in
+    let z = ap (λ (k : ℕ). c.wide-start.result + k) w in
+    let h = c.if-size-eq0.false in
+    (
+      omega arith,
+      record {
+        means_tree = binding_means q.b_bound.0 q.b_bound.1 a z (omega (arith, w, h));
+        end_in_bounds = rw (binding_text q.b_bound.0 q.b_bound.1 a z (omega (arith, w, h))) at q.b_in_bounds;
+        keeps_written = q.keeps_written;
+      },
+    )
+
+pub binding-returns : goal.binding-returns
+binding-returns t c =
+    let q = c.requires in
+    let a = c.wide-start.ensures.0 in
+    let w = c.wide-size.ensures.0 in
+    let z = ap (λ (k : ℕ). c.wide-start.result + k) w in
+    let h = c.if-size-eq0.false in
+    let e = c.expression-behind.ensures in
+    let t = binding_text q.b_bound.0 q.b_bound.1 a z (omega (arith, w, h)) in
+    let p = rw (← t) at e.wrote in
+    record { wrote = p; keeps = kept_mark _ e.keeps p q.b_in_bounds q.b_bound.0 }
+
+pub expression-loop-i-init : goal.expression-loop-i-init
+expression-loop-i-init t c =
+    let q = c.requires in
+    running_starts q.means_tree q.end_in_bounds q.keeps_written refl
+
+pub expression-bounds-waiting-n : goal.expression-bounds-waiting-n
+expression-bounds-waiting-n t c =
+    let v = running_as c.loop-i.invariant c.if-due.true in
+    open_room v.fixed v.going c.factor_at-next.ensures c.in-Open.is
+
+pub expression-loop-i-smaller-in-Open : goal.expression-loop-i-smaller-in-Open
+expression-loop-i-smaller-in-Open t c =
+    let v = running_as c.loop-i.invariant c.if-due.true in
+    factor_past v.fixed v.going c.factor_at-next.ensures c.loop-i-test.true
+
+pub expression-loop-i-preserved-in-Open : goal.expression-loop-i-preserved-in-Open
+expression-loop-i-preserved-in-Open t c =
+    let d = c.if-due.true in
+    let v = running_as c.loop-i.invariant d in
+    running_as (record { fixed = v.fixed; going = opened v.fixed v.going c.factor_at-next.ensures c.in-Open.is; kept = v.kept }) (sym d)
+
+pub expression-put_push-to-requires : goal.expression-put_push-to-requires
+expression-put_push-to-requires t c =
+    let v = running_as c.loop-i.invariant c.if-due.true in
+    literal_fits v.fixed v.going c.factor_at-next.ensures _ c.in-Literal.is
+
+pub expression-loop-i-smaller-in-Literal : goal.expression-loop-i-smaller-in-Literal
+expression-loop-i-smaller-in-Literal t c =
+    let v = running_as c.loop-i.invariant c.if-due.true in
+    factor_past v.fixed v.going c.factor_at-next.ensures c.loop-i-test.true
+
+pub expression-loop-i-preserved-in-Literal : goal.expression-loop-i-preserved-in-Literal
+expression-loop-i-preserved-in-Literal t c =
+    let v = running_as c.loop-i.invariant c.if-due.true in
+    let e = c.put_push-to.ensures in
+    let q = c.in-Literal.is in
+    record { fixed = v.fixed; going = literal_goes v.fixed v.going c.factor_at-next.ensures _ q e; kept = kept_put v.kept e (literal_fits v.fixed v.going c.factor_at-next.ensures _ q) }
+
+pub expression-binding-to-requires : goal.expression-binding-to-requires
+expression-binding-to-requires t c =
+    let v = running_as c.loop-i.invariant c.if-due.true in
+    let q = c.in-Name.is in
+    let b = c.in-Name.b in
+    let l = name_below v.fixed v.going c.factor_at-next.ensures b q in
+    (
+      omega (arith, l),
+      record {
+        b_bound = (omega (arith, l, c.requires.means_tree.few), name_stands v.fixed v.going c.factor_at-next.ensures b q);
+        b_in_bounds = name_fits v.fixed v.going c.factor_at-next.ensures b q;
+        keeps_written = v.kept;
+      },
+    )
+
+pub expression-loop-i-smaller-in-Name : goal.expression-loop-i-smaller-in-Name
+expression-loop-i-smaller-in-Name t c =
+    let v = running_as c.loop-i.invariant c.if-due.true in
+    factor_past v.fixed v.going c.factor_at-next.ensures c.loop-i-test.true
+
+pub expression-loop-i-preserved-in-Name : goal.expression-loop-i-preserved-in-Name
+expression-loop-i-preserved-in-Name t c =
+    let v = running_as c.loop-i.invariant c.if-due.true in
+    let e = c.binding-to.ensures in
+    record { fixed = v.fixed; going = name_goes v.fixed v.going c.factor_at-next.ensures _ c.in-Name.is e.wrote; kept = e.keeps }
+
+pub expression-shape_of-out-in-Nothing : goal.expression-shape_of-out-in-Nothing
+expression-shape_of-out-in-Nothing t c =
+    let v = running_as c.loop-i.invariant c.if-due.true in
+    absurd (no_factor v.fixed v.going c.factor_at-next.ensures c.in-Nothing.is)
+
+pub expression-returns-in-Nothing : goal.expression-returns-in-Nothing
+expression-returns-in-Nothing t c =
+    let v = running_as c.loop-i.invariant c.if-due.true in
+    absurd (no_factor v.fixed v.going c.factor_at-next.ensures c.in-Nothing.is)
+
+pub expression-operate-next-requires : goal.expression-operate-next-requires
+expression-operate-next-requires t c =
+    let v = running_as c.loop-i.invariant c.if-due.false in
+    turn_ready v.fixed v.going
+
+pub expression-loop-i-smaller : goal.expression-loop-i-smaller
+expression-loop-i-smaller t c =
+    let v = running_as c.loop-i.invariant c.if-due.false in
+    turn_past v.fixed v.going c.loop-i-test.true c.operate-next.ensures
+
+pub expression-loop-i-preserved : goal.expression-loop-i-preserved
+expression-loop-i-preserved t c =
+    let v = running_as c.loop-i.invariant c.if-due.false in
+    let e = c.operate-next.ensures in
+    record { fixed = v.fixed; going = turn_goes v.fixed v.going e; kept = kept_put v.kept e.put (turn_room v.fixed v.going) }
+
+pub expression-pop-last-requires : goal.expression-pop-last-requires
+expression-pop-last-requires t c =
+    let v = c.loop-i.invariant in
+    (v.going.few, end_fits v.fixed v.going c.loop-i-test.false)
+
+pub expression-shape_of-out : goal.expression-shape_of-out
+expression-shape_of-out t c =
+    let v = c.loop-i.invariant in
+    overwrites_length (end_put v.fixed v.going c.loop-i-test.false c.pop-last.ensures.put) v.fixed.room
+
+pub expression-returns : goal.expression-returns
+expression-returns t c =
+    let v = c.loop-i.invariant in
+    let l = c.loop-i-test.false in
+    let e = c.pop-last.ensures.put in
+    record { wrote = end_put v.fixed v.going l e; keeps = kept_put v.kept e (end_fits v.fixed v.going l) }
+

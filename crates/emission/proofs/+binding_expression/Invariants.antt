@@ -1,0 +1,18 @@
+-- The number of bindings falls at each name.
+use Rattle.std.proofs.Common.{◌+◌, ◌-◌, ◌*◌}
+use Rattle.bindings.specs.Code.Source.{sources_of}
+use Rattle.emission.proofs.Loop.{Running}
+use Rattle.emission.proofs.+binding_expression.Given as goal
+
+abbrev pub decreases-binding : goal.decreases-binding
+decreases-binding l = 2 * l.b + 1
+
+abbrev pub decreases-expression : goal.decreases-expression
+decreases-expression l = 2 * l.count
+
+abbrev pub invariant-expression-loop-i : goal.invariant-expression-loop-i
+invariant-expression-loop-i l =
+    Running l.text (sources_of l.names l.lens l.tags l.starts l.sizes l.values) l.count l.start l.end l.initial.out l.at l.out l.to l.waiting l.n l.i l.due l.places l.lengths
+
+abbrev pub decreases-expression-loop-i : goal.decreases-expression-loop-i
+decreases-expression-loop-i l = l.end - l.i
