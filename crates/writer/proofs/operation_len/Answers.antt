@@ -1,5 +1,5 @@
 -- `writer::operation_len` meets its contract: each arm by the numbers of its kinds.
-use Prim.Native.Nat.{ℕ}
+use Prim.Native.Nat.{ℕ, ◌≤◌}
 use mathlib.Core.Path.{◌≡◌, refl}
 use mathlib.Core.List.{[], ◌∷◌}
 use mathlib.Core.Logic.{inl, inr, ⊎_elim}
@@ -50,20 +50,17 @@ returns-in-13 c = rw c.in-13.is refl
 pub returns-in-1 : goal.returns-in-1
 returns-in-1 c =
     let a = c.args in
-    let n = c.in-0.rest in
-    let low = past {b = 0} {k = a.kind} ((λ e. n.0.0.0.0.0.1 (inl e)) & end) (omega arith) in
+    let low : 1 ≤ a.kind = grind arith in
     span {P = λ j. ◌≡◌ {A = ℕ} 4 (length (written (operation j a.operand)))} 1 5 a.kind (refl & refl & refl & refl & refl & end) low (omega arith)
 
 pub returns-in-9 : goal.returns-in-9
 returns-in-9 c =
     let a = c.args in
-    let n = c.in-0.rest in
-    let low = past {b = 6} {k = a.kind} ((λ e. n.0.1 (inl e)) & (λ e. n.0.0.0.0.0.1 (inr (inl e))) & n.0.0.1 & end) (omega arith) in
+    let low : 9 ≤ a.kind = grind arith in
     span {P = λ j. ◌≡◌ {A = ℕ} 3 (length (written (operation j a.operand)))} 9 2 a.kind (refl & refl & end) low (omega arith)
 
 pub returns-in_default : goal.returns-in_default
 returns-in_default c =
     let a = c.args in
-    let n = c.in-0.rest in
-    let high = past {b = 11} {k = a.kind} ((λ e. n.0.0.0.0.0.1 (inr (inr e))) & n.0.0.0.0.1 & n.1 & n.0.0.0.1 & (λ e. n.0.1 (inr e)) & end) (omega arith) in
+    let high : 16 ≤ a.kind = grind arith in
     rw (no_word a.kind a.operand high) refl

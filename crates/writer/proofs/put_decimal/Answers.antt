@@ -7,10 +7,10 @@ pub returns-in-To : goal.returns-in-To
 returns-in-To c =
     let a = c.args in
     let w = c.write_decimal-written in
-    decimal_put a.n a.at a.out.now _ w.result c.requires w.ensures.0 w.ensures.1 _ c.in-To.is
+    decimal_put a.n a.at a.out.now _ w.result c.requires w.ensures.value w.ensures.out_after _ c.in-To.is
 
 pub returns-in-NoRoom : goal.returns-in-NoRoom
 returns-in-NoRoom c =
     let a = c.args in
     let w = c.write_decimal-written in
-    absurd (decimal_room a.n a.at a.out.now _ w.result c.requires w.ensures.0 w.ensures.1 c.in-NoRoom.is)
+    absurd (decimal_room a.n a.at a.out.now _ w.result c.requires w.ensures.value w.ensures.out_after c.in-NoRoom.is)

@@ -1,4 +1,5 @@
 -- `writer::put_from_seven` meets its contract: each arm by the number of its kind.
+use native.Mathlib.Omega.{arith}
 use Rattle.kinds.proofs.ByKind.{end, ◌&◌, past}
 use borrow.Author.Rules.{rules}
 use Rattle.writer.proofs.put_from_seven.Goals as goal
@@ -19,7 +20,7 @@ pub put_with-requires-in-11 : goal.put_with-requires-in-11
 put_with-requires-in-11 c = rw c.in-11.is at c.requires.1
 
 pub put_from_twelve-requires : goal.put_from_twelve-requires
-put_from_twelve-requires c = let n = c.in-7.rest in (past {b = 7} (n.0.0.0.0.1 & n.0.0.0.1 & n.0.0.1 & n.0.1 & n.1 & end) c.requires.0, c.requires.1)
+put_from_twelve-requires c = (omega arith, c.requires.1)
 
 pub returns-in-7 : goal.returns-in-7
 returns-in-7 c = rw c.in-7.is c.put_with.ensures

@@ -1,4 +1,5 @@
 -- `writer::put_from_twelve` meets its contract: each arm by the number of its kind, and none has a word behind the last.
+use native.Mathlib.Omega.{arith}
 use Rattle.kinds.proofs.ByKind.{end, ◌&◌, past}
 use Rattle.writer.proofs.Lines.{no_word}
 use borrow.Author.Rules.{rules}
@@ -18,10 +19,9 @@ put_bytes-requires-in-15 c = rw c.in-15.is at c.requires.1
 
 pub put_bytes-requires-in_default : goal.put_bytes-requires-in_default
 put_bytes-requires-in_default c =
-    let n = c.in-12.rest in
     let q = c.requires in
     let a = c.args in
-    rw (no_word a.kind a.operand (past {b = 12} (n.0.0.0.1 & n.0.0.1 & n.0.1 & n.1 & end) q.0)) at q.1
+    rw (no_word a.kind a.operand (omega arith)) at q.1
 
 pub returns-in-12 : goal.returns-in-12
 returns-in-12 c = rw c.in-12.is c.put_with.ensures
@@ -37,6 +37,5 @@ returns-in-15 c = rw c.in-15.is c.put_bytes-in-15.ensures
 
 pub returns-in_default : goal.returns-in_default
 returns-in_default c =
-    let n = c.in-12.rest in
     let a = c.args in
-    rw (no_word a.kind a.operand (past {b = 12} (n.0.0.0.1 & n.0.0.1 & n.0.1 & n.1 & end) c.requires.0)) c.put_bytes-in_default.ensures
+    rw (no_word a.kind a.operand (omega arith)) c.put_bytes-in_default.ensures

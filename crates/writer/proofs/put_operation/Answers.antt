@@ -26,7 +26,7 @@ pub put_bytes-requires-in-6 : goal.put_bytes-requires-in-6
 put_bytes-requires-in-6 c = rw c.in-6.is at c.requires
 
 pub put_from_seven-requires : goal.put_from_seven-requires
-put_from_seven-requires c = let n = c.in-0.rest in (past {b = 0} (n.0.0.0.0.0.0.1 & n.0.0.0.0.0.1 & n.0.0.0.0.1 & n.0.0.0.1 & n.0.0.1 & n.0.1 & n.1 & end) (omega arith), c.requires)
+put_from_seven-requires c = (omega arith, c.requires)
 
 pub returns-in-0 : goal.returns-in-0
 returns-in-0 c = rw c.in-0.is c.put_push.ensures
