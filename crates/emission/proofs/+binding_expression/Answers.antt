@@ -33,14 +33,9 @@ binding-expression-behind-requires t c =
     let a = c.wide-start.ensures.0 in
     let w = c.wide-size.ensures.0 in
     let z = ap (λ (k : ℕ). c.wide-start.result + k) w in
-    let h = c.if-size-eq0.false in
-    (
+    let h = c.if-size-eq0.false in (
       omega arith,
-      record {
-        means_tree = binding_means q.b_bound.0 q.b_bound.1 a z (omega (arith, w, h));
-        end_in_bounds = rw (binding_text q.b_bound.0 q.b_bound.1 a z (omega (arith, w, h))) at q.b_in_bounds;
-        keeps_written = q.keeps_written;
-      },
+      (binding_means q.b_bound.0 q.b_bound.1 a z (omega (arith, w, h)), (rw (binding_text q.b_bound.0 q.b_bound.1 a z (omega (arith, w, h))) at q.b_in_bounds, q.keeps_written)),
     )
 
 pub binding-returns : goal.binding-returns
@@ -98,14 +93,9 @@ expression-binding-to-requires t c =
     let v = running_as c.loop-i.invariant c.if-due.true in
     let q = c.in-Name.is in
     let b = c.in-Name.b in
-    let l = name_below v.fixed v.going c.factor_at-next.ensures b q in
-    (
+    let l = name_below v.fixed v.going c.factor_at-next.ensures b q in (
       omega (arith, l),
-      record {
-        b_bound = (omega (arith, l, c.requires.means_tree.few), name_stands v.fixed v.going c.factor_at-next.ensures b q);
-        b_in_bounds = name_fits v.fixed v.going c.factor_at-next.ensures b q;
-        keeps_written = v.kept;
-      },
+      ((omega (arith, l, c.requires.means_tree.few), name_stands v.fixed v.going c.factor_at-next.ensures b q), (name_fits v.fixed v.going c.factor_at-next.ensures b q, v.kept)),
     )
 
 pub expression-loop-i-smaller-in-Name : goal.expression-loop-i-smaller-in-Name
@@ -161,4 +151,3 @@ expression-returns t c =
     let l = c.loop-i-test.false in
     let e = c.pop-last.ensures.put in
     record { wrote = end_put v.fixed v.going l e; keeps = kept_put v.kept e (end_fits v.fixed v.going l) }
-

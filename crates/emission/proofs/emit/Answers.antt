@@ -8,4 +8,4 @@ pub expression-requires : goal.expression-requires
 expression-requires c =
     let a = c.args in
     let q = c.requires in
-    (q.0, (q.1, kept_none a.text.now _ a.out.now a.at _ refl))
+    record { means_tree = q.means_tree; end_in_bounds = q.end_in_bounds; keeps_written = kept_none a.text.now _ a.out.now a.at _ refl }

@@ -1,4 +1,5 @@
 -- `emission::waiting::operator_kind` meets its contract: by the sign.
+use native.Mathlib.Omega.{arith}
 use Rattle.grammar.proofs.Steps.{operator-div}
 use Rattle.emission.proofs.waiting.operator_kind.Goals as goal
 
@@ -18,4 +19,4 @@ pub returns-in-61 : goal.returns-in-61
 returns-in-61 c = rw c.in-61.is
 
 pub returns-in_default : goal.returns-in_default
-returns-in_default c = let n = c.in-43.rest in rw (operator-div c.args.sign n.0.0.0.0.1 n.0.0.0.1 n.0.0.1 n.0.1 n.1)
+returns-in_default c = rw (operator-div c.args.sign (omega arith) (omega arith) (omega arith) (omega arith) (omega arith))
