@@ -2,7 +2,6 @@
 use mathlib.Core.Path.{refl, ◌∙◌}
 use Rattle.base.proofs.Tests.{and_both}
 use Rattle.key.proofs.Quoted.{opening_here, closing_here, byte_here}
-use borrow.Author.Rules.{rules}
 use Rattle.key.proofs.agrees.Goals as goal
 
 pub returns : goal.returns

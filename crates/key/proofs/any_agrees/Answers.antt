@@ -1,12 +1,8 @@
 -- `key::any_agrees` meets its contract: while there is no hit, the key stands in double quotes at none of the places that are passed.
-use Prim.Native.Nat.{◌-◌, ◌≤◌}
 use mathlib.Core.Path.{◌≡◌, sym, ◌∙◌}
-use mathlib.Core.Bool.{false}
 use native.Mathlib.Omega.{arith}
-use Rattle.search.specs.Code.Scan.{Misses}
 use Rattle.search.proofs.Laws.{miss_more, misses}
 use Rattle.key.specs.Key.{quoted}
-use borrow.Author.Rules.{rules}
 use Rattle.key.proofs.any_agrees.Goals as goal
 
 pub loop-k-init : goal.loop-k-init

@@ -1,11 +1,8 @@
 use Prim.Native.Nat.{◌-◌, ◌≤◌}
-use mathlib.Core.Path.{◌≡◌, sym, ◌∙◌}
+use mathlib.Core.Path.{◌≡◌}
 use mathlib.Core.Bool.{false}
-use native.Mathlib.Omega.{arith}
 use Rattle.search.specs.Code.Scan.{Misses}
-use Rattle.search.proofs.Laws.{miss_more, misses}
 use Rattle.key.specs.Key.{quoted}
-use borrow.Author.Rules.{rules}
 use Rattle.key.proofs.any_agrees.Given as goal
 
 abbrev pub invariant-loop-k : goal.invariant-loop-k

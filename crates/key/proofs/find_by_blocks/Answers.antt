@@ -1,10 +1,6 @@
 -- `key::find_by_blocks` meets its contract: the key stands at no place that is passed.
-use Prim.Native.Nat.{◌-◌, ◌≤◌}
-use mathlib.Core.Path.{◌≡◌, refl, sym, ◌∙◌}
+use mathlib.Core.Path.{refl, sym, ◌∙◌}
 use native.Mathlib.Omega.{arith}
-use Rattle.search.specs.First.{first_at}
-use Rattle.key.specs.Key.{quoted}
-use borrow.Author.Rules.{rules}
 use Rattle.key.proofs.find_by_blocks.Goals as goal
 
 pub loop-i-init : goal.loop-i-init

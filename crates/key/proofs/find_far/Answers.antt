@@ -6,7 +6,6 @@ use native.Mathlib.Omega.{arith}
 use lib.Seq.{length-take-le}
 use Rattle.search.specs.First.{first_at}
 use Rattle.key.proofs.Quoted.{nowhere_else}
-use borrow.Author.Rules.{rules}
 use Rattle.key.proofs.find_far.Goals as goal
 
 pub returns-then-key-gt-MOST : goal.returns-then-key-gt-MOST

@@ -1,10 +1,8 @@
 -- `key::find_last` meets its contract: from `stop` on there is no room for the key.
 use Prim.Native.Nat.{◌+◌, ◌-◌}
 use mathlib.Core.Path.{◌≡◌, sym, ◌∙◌}
-use borrow.Author.Tests.{not-true}
 use native.Mathlib.Omega.{arith}
 use Rattle.key.proofs.Quoted.{none_behind, nowhere_else}
-use borrow.Author.Rules.{rules}
 use Rattle.key.proofs.find_last.Goals as goal
 
 pub returns-then-not-any_agrees : goal.returns-then-not-any_agrees

@@ -4,7 +4,6 @@ use native.Mathlib.Omega.{arith}
 use Rattle.search.proofs.Laws.{no_room}
 use Rattle.key.specs.Key.{quoted}
 use Rattle.key.proofs.Quoted.{quoted-length}
-use borrow.Author.Rules.{rules}
 use Rattle.key.proofs.find_quoted.Goals as goal
 
 pub returns-then-s-key : goal.returns-then-s-key

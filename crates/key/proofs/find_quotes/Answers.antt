@@ -1,13 +1,10 @@
 -- `key::find_quotes` meets its contract: no place from which another byte is in reach is the first.
-use Prim.Native.Nat.{◌-◌}
-use mathlib.Core.Path.{◌≡◌, refl, sym, ◌∙◌}
+use mathlib.Core.Path.{refl, sym, ◌∙◌}
 use native.Mathlib.Omega.{arith}
-use Rattle.search.specs.First.{first_at}
 use Rattle.search.proofs.Laws.{no_room}
 use Rattle.key.specs.Key.{quoted}
 use Rattle.key.proofs.Quoted.{quoted-length}
 use Rattle.key.proofs.Quotes.{stands, go_on}
-use borrow.Author.Rules.{rules}
 use Rattle.key.proofs.find_quotes.Goals as goal
 
 pub loop-i-init : goal.loop-i-init

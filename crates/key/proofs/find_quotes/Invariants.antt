@@ -1,12 +1,7 @@
 use Prim.Native.Nat.{◌-◌}
-use mathlib.Core.Path.{◌≡◌, refl, sym, ◌∙◌}
-use native.Mathlib.Omega.{arith}
+use mathlib.Core.Path.{◌≡◌}
 use Rattle.search.specs.First.{first_at}
-use Rattle.search.proofs.Laws.{no_room}
 use Rattle.key.specs.Key.{quoted}
-use Rattle.key.proofs.Quoted.{quoted-length}
-use Rattle.key.proofs.Quotes.{stands, go_on}
-use borrow.Author.Rules.{rules}
 use Rattle.key.proofs.find_quotes.Given as goal
 
 abbrev pub invariant-loop-i : goal.invariant-loop-i

@@ -1,11 +1,8 @@
 -- `key::has_other` meets its contract: while there is no other, the bytes that are passed are quotes.
-use Prim.Native.Nat.{◌+◌, ◌-◌, ◌≤◌}
+use Prim.Native.Nat.{◌+◌}
 use mathlib.Core.Path.{◌≡◌, sym, ◌∙◌}
-use mathlib.Core.Bool.{false}
 use native.Mathlib.Omega.{arith}
-use Rattle.key.specs.Code.Marked.{Quotes}
 use Rattle.key.proofs.Quotes.{none_read, one_more}
-use borrow.Author.Rules.{rules}
 use Rattle.key.proofs.has_other.Goals as goal
 
 pub loop-i-init : goal.loop-i-init

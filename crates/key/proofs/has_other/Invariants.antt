@@ -1,10 +1,7 @@
 use Prim.Native.Nat.{◌+◌, ◌-◌, ◌≤◌}
-use mathlib.Core.Path.{◌≡◌, sym, ◌∙◌}
+use mathlib.Core.Path.{◌≡◌}
 use mathlib.Core.Bool.{false}
-use native.Mathlib.Omega.{arith}
 use Rattle.key.specs.Code.Marked.{Quotes}
-use Rattle.key.proofs.Quotes.{none_read, one_more}
-use borrow.Author.Rules.{rules}
 use Rattle.key.proofs.has_other.Given as goal
 
 abbrev pub invariant-loop-i : goal.invariant-loop-i

@@ -5,7 +5,6 @@ use native.Mathlib.Omega.{arith}
 use lib.ListN.{length}
 use Rattle.base.proofs.Tests.{by_bool, false_true, and_both}
 use Rattle.key.proofs.Quoted.{between, opening_here, closing_here}
-use borrow.Author.Rules.{rules}
 use Rattle.key.proofs.is_quoted_at.Goals as goal
 
 pub returns-then-both : goal.returns-then-both

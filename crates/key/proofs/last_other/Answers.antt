@@ -1,10 +1,7 @@
 -- `key::last_other` meets its contract: behind the place that is read there are quotes alone.
-use Prim.Native.Nat.{◌-◌, ◌≤◌}
 use mathlib.Core.Path.{◌≡◌}
 use native.Mathlib.Omega.{arith}
-use Rattle.key.specs.Code.Marked.{Quotes}
 use Rattle.key.proofs.Quotes.{one_before}
-use borrow.Author.Rules.{rules}
 use Rattle.key.proofs.last_other.Goals as goal
 
 pub loop-k-init : goal.loop-k-init

@@ -1,9 +1,5 @@
 use Prim.Native.Nat.{◌-◌, ◌≤◌}
-use mathlib.Core.Path.{◌≡◌}
-use native.Mathlib.Omega.{arith}
 use Rattle.key.specs.Code.Marked.{Quotes}
-use Rattle.key.proofs.Quotes.{one_before}
-use borrow.Author.Rules.{rules}
 use Rattle.key.proofs.last_other.Given as goal
 
 abbrev pub invariant-loop-k : goal.invariant-loop-k

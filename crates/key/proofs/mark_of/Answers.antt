@@ -5,7 +5,6 @@ use native.Mathlib.Omega.{arith}
 use lib.ListN.{get_or}
 use Rattle.key.proofs.Quoted.{key_byte}
 use Rattle.key.proofs.Quotes.{quotes_around}
-use borrow.Author.Rules.{rules}
 use Rattle.key.proofs.mark_of.Goals as goal
 
 pub overflow_add-result : goal.overflow_add-result

@@ -1,11 +1,7 @@
 -- `key::put_quoted` meets its contract: behind the opening quote stand the bytes of the key that are written.
-use Prim.Native.Nat.{◌+◌, ◌-◌, ◌≤◌}
-use mathlib.Core.Path.{◌≡◌}
-use mathlib.Core.List.{◌∷◌}
 use native.Mathlib.Omega.{arith}
-use lib.ListN.{length, take, length-set}
+use lib.ListN.{length-set}
 use Rattle.key.proofs.Quoted.{put_opening, put_byte, put_closing}
-use borrow.Author.Rules.{rules}
 use Rattle.key.proofs.put_quoted.Goals as goal
 
 pub loop-k-init : goal.loop-k-init

@@ -1,10 +1,7 @@
 use Prim.Native.Nat.{◌+◌, ◌-◌, ◌≤◌}
 use mathlib.Core.Path.{◌≡◌}
 use mathlib.Core.List.{◌∷◌}
-use native.Mathlib.Omega.{arith}
-use lib.ListN.{length, take, length-set}
-use Rattle.key.proofs.Quoted.{put_opening, put_byte, put_closing}
-use borrow.Author.Rules.{rules}
+use lib.ListN.{length, take}
 use Rattle.key.proofs.put_quoted.Given as goal
 
 abbrev pub invariant-loop-k : goal.invariant-loop-k

@@ -1,11 +1,9 @@
 -- `key::quoted_before` meets its contract: at each place that is passed the quoted key does not stand.
-use Prim.Native.Nat.{◌-◌, ◌≤◌}
 use mathlib.Core.Path.{◌≡◌, refl, sym, ap, ◌∙◌}
 use native.Mathlib.Omega.{arith}
 use Rattle.search.specs.First.{first_at}
 use Rattle.search.proofs.Laws.{hit, miss}
 use Rattle.key.specs.Key.{quoted}
-use borrow.Author.Rules.{rules}
 use Rattle.key.proofs.quoted_before.Goals as goal
 
 pub loop-i-init : goal.loop-i-init

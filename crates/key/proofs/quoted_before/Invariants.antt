@@ -1,10 +1,7 @@
 use Prim.Native.Nat.{◌-◌, ◌≤◌}
-use mathlib.Core.Path.{◌≡◌, refl, sym, ap, ◌∙◌}
-use native.Mathlib.Omega.{arith}
+use mathlib.Core.Path.{◌≡◌}
 use Rattle.search.specs.First.{first_at}
-use Rattle.search.proofs.Laws.{hit, miss}
 use Rattle.key.specs.Key.{quoted}
-use borrow.Author.Rules.{rules}
 use Rattle.key.proofs.quoted_before.Given as goal
 
 abbrev pub invariant-loop-i : goal.invariant-loop-i

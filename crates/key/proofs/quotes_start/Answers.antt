@@ -1,10 +1,8 @@
 -- `key::quotes_start` meets its contract: behind the place that is reached there are quotes alone.
-use Prim.Native.Nat.{◌+◌, ◌-◌, ◌≤◌}
+use Prim.Native.Nat.{◌+◌, ◌-◌}
 use mathlib.Core.Path.{◌≡◌}
 use native.Mathlib.Omega.{arith}
-use Rattle.key.specs.Code.Marked.{Quotes}
 use Rattle.key.proofs.Quotes.{none_read, joined}
-use borrow.Author.Rules.{rules}
 use Rattle.key.proofs.quotes_start.Goals as goal
 
 pub loop-k-init : goal.loop-k-init

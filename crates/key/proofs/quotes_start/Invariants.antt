@@ -1,9 +1,5 @@
-use Prim.Native.Nat.{◌+◌, ◌-◌, ◌≤◌}
-use mathlib.Core.Path.{◌≡◌}
-use native.Mathlib.Omega.{arith}
+use Prim.Native.Nat.{◌-◌, ◌≤◌}
 use Rattle.key.specs.Code.Marked.{Quotes}
-use Rattle.key.proofs.Quotes.{none_read, joined}
-use borrow.Author.Rules.{rules}
 use Rattle.key.proofs.quotes_start.Given as goal
 
 abbrev pub invariant-loop-k : goal.invariant-loop-k

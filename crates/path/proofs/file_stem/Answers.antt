@@ -2,7 +2,6 @@
 -- Assumes nothing.
 use mathlib.Core.Path.{ap, ◌∙◌}
 use Rattle.path.specs.Stem.{stem_of}
-use borrow.Author.Rules.{rules}
 use Rattle.path.proofs.file_stem.Goals as goal
 
 pub returns : goal.returns

@@ -2,7 +2,6 @@
 -- Assumes nothing.
 use mathlib.Core.Path.{sym, ◌∙◌}
 use Rattle.path.proofs.Laws.{ignored_empty, ignored_some}
-use borrow.Author.Rules.{rules}
 use Rattle.path.proofs.is_ignored.Goals as goal
 
 pub returns-then-part-eq0 : goal.returns-then-part-eq0

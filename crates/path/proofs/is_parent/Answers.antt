@@ -2,7 +2,6 @@
 -- Assumes nothing.
 use mathlib.Core.Path.{sym, ◌∙◌}
 use Rattle.path.proofs.Laws.{parent_two, parent_none}
-use borrow.Author.Rules.{rules}
 use Rattle.path.proofs.is_parent.Goals as goal
 
 pub returns-then-part-ne2 : goal.returns-then-part-ne2

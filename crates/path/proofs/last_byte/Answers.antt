@@ -1,10 +1,7 @@
 -- `path::last_byte` meets its contract: the byte stands at no place that is passed.
 -- Assumes nothing.
-use Prim.Native.Nat.{◌≤◌}
 use mathlib.Core.Path.{◌≡◌, ap}
-use mathlib.Core.Bool.{false}
 use native.Mathlib.Omega.{arith}
-use lib.ListN.{length, drop}
 use lib.Seq.{drop-length}
 use Rattle.path.specs.Stem.{has}
 use Rattle.path.proofs.Laws.{scan_hit, scan_miss}

@@ -1,12 +1,8 @@
 use Prim.Native.Nat.{◌≤◌}
-use mathlib.Core.Path.{◌≡◌, ap}
+use mathlib.Core.Path.{◌≡◌}
 use mathlib.Core.Bool.{false}
-use native.Mathlib.Omega.{arith}
 use lib.ListN.{length, drop}
-use lib.Seq.{drop-length}
 use Rattle.path.specs.Stem.{has}
-use Rattle.path.proofs.Laws.{scan_hit, scan_miss}
-use borrow.Author.Rules.{rules}
 use Rattle.path.proofs.last_byte.Given as goal
 
 abbrev pub invariant-loop-i : goal.invariant-loop-i

@@ -1,10 +1,7 @@
 -- `path::last_component` meets its contract: what is left has the same last component as the whole.
 -- Assumes nothing.
-use Prim.Native.Nat.{◌≤◌}
-use mathlib.Core.Path.{◌≡◌, sym, ap, ◌∙◌}
-use borrow.Author.Tests.{not-true, not-false}
+use mathlib.Core.Path.{sym, ap, ◌∙◌}
 use native.Mathlib.Omega.{arith}
-use lib.ListN.{length, take}
 use lib.Seq.{take-length}
 use Rattle.path.specs.Stem.{component}
 use Rattle.path.proofs.Laws.{component_part, component-before}

@@ -1,12 +1,7 @@
 use Prim.Native.Nat.{◌≤◌}
-use mathlib.Core.Path.{◌≡◌, sym, ap, ◌∙◌}
-use borrow.Author.Tests.{not-true, not-false}
-use native.Mathlib.Omega.{arith}
+use mathlib.Core.Path.{◌≡◌}
 use lib.ListN.{length, take}
-use lib.Seq.{take-length}
 use Rattle.path.specs.Stem.{component}
-use Rattle.path.proofs.Laws.{component_part, component-before}
-use borrow.Author.Rules.{rules}
 use Rattle.path.proofs.last_component.Given as goal
 
 abbrev pub invariant-loop-end : goal.invariant-loop-end

@@ -6,7 +6,6 @@ use lib.ListN.{take}
 use lib.Seq.{length-take-le}
 use Rattle.path.specs.Code.Scan.{LastAt}
 use Rattle.path.proofs.Laws.{starts_first, starts_behind}
-use borrow.Author.Rules.{rules}
 use Rattle.path.proofs.part_start.Goals as goal
 
 pub slice_bounds-last_byte-end : goal.slice_bounds-last_byte-end

@@ -5,7 +5,6 @@ use native.Mathlib.Omega.{arith}
 use lib.Seq.{length-take-le}
 use Rattle.path.specs.Code.Scan.{LastAt}
 use Rattle.path.proofs.Laws.{stem_empty, stem_whole, stem_cut, tail, tail_length}
-use borrow.Author.Rules.{rules}
 use Rattle.path.proofs.stem.Goals as goal
 
 pub returns-then-name-eq0 : goal.returns-then-name-eq0
