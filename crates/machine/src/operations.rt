@@ -84,7 +84,7 @@ pub fn swap(stack: &mut [u64], r: Regs) -> Regs
 
 pub fn jump(r: Regs, t: u64) -> Regs
     requires ops_bound { r.ops + 1 < 2 ^ 64 }
-    requires r_bound { r.items ≤ 4096 }
+    requires items_bound { r.items ≤ 4096 }
     ensures { (s : List ℕ) → RefinesOnStack 0 (jumps t) r result s s }
 {
     go_on(r, t as usize, r.items, r.used)

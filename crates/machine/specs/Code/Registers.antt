@@ -64,7 +64,7 @@ pub record KeepsBounds (lo room : ℕ) (r q : Regs) : Type 0 where
 
 -- an operation's effect on the buffers s and w, which it leaves as s' and w'.
 -- Free are the stack buffer above the items and the work buffer past the used slots, and the note where the code is 0 or 1.
--- After a refusal both buffers are free; items, used, position and count are so within `KeepsBounds`, and of code and note what `faultOf` leaves
+-- After a refusal both buffers are free; items, used, position and count are so within `KeepsBounds`, and of code and note what `fault_of` leaves
 pub record RefinesEffect (lo : ℕ) (effect : List ℕ → List ℕ → Effect) (r q : Regs) (s w s' w' : List ℕ) : Type 0 where
   pub progress : progress_of s' w' q ≡ settle r.gas (frame_of s w r) (effect (stack_of s r.items) (take r.used w))
   pub kept : KeepsBounds lo (length w) r q

@@ -64,7 +64,7 @@ pub swap-requires : goal.swap-requires
 swap-requires c = ready_here (goal.at.swap-requires c).After-pay-q
 
 pub jump-requires : goal.jump-requires
-jump-requires c = let h = ready_here (goal.at.jump-requires c).After-pay-q in record { ops_bound = h.ops; r_bound = h.items }
+jump-requires c = let h = ready_here (goal.at.jump-requires c).After-pay-q in record { ops_bound = h.ops; items_bound = h.items }
 
 pub jump_if_not_zero-requires : goal.jump_if_not_zero-requires
 jump_if_not_zero-requires c = ready_here (goal.at.jump_if_not_zero-requires c).After-pay-q
