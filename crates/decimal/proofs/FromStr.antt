@@ -13,9 +13,7 @@ use Rattle.base.proofs.Lists.{take_while_all, all_length, length-take_while}
 use Rattle.decimal.specs.Decimal.{digit, value, without_plus, from_digits, number_of}
 use Rattle.decimal.specs.Code.Digits.{capped, digits_at}
 use Rattle.decimal.specs.declared.Value.{Value}
-use Rattle.decimal.specs.declared.Value.TheVariants as Value
 use Rattle.decimal.specs.declared.Number.{Number}
-use Rattle.decimal.specs.declared.Number.TheVariants as Number
 
 -- the plus that a text may start with
 pub signed : (s : List ℕ) → get_or s 0 0 ≡ 43 → drop 1 s ≡ without_plus s

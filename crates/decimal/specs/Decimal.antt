@@ -3,7 +3,6 @@ use Rattle.std.specs.Prelude.{ℕ, zero, suc, ◌+◌, ◌-◌, ◌*◌, ◌/◌
 use Rattle.base.specs.Range.{within}
 use Rattle.base.specs.Lists.{all}
 use Rattle.decimal.specs.declared.Number.{Number}
-use Rattle.decimal.specs.declared.Number.TheVariants as Number
 
 -- 0 to 9
 abbrev pub digit : ℕ → Bool

@@ -14,7 +14,6 @@ use Rattle.token.specs.Token.{tokens, scan}
 use Rattle.token.specs.Code.Places.{token_at, start_at, first}
 use Rattle.token.proofs.Tokens.{token_none, token_next, token_from, next_at}
 use Rattle.bindings.specs.declared.names.BoundName.{BoundName}
-use Rattle.bindings.specs.declared.names.BoundName.TheVariants as Found
 use Rattle.grammar.specs.Tree.{Tree}
 use Rattle.grammar.specs.Grammar.{levels}
 use Rattle.grammar.specs.Parse.{lookup, symbol}

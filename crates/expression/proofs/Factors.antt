@@ -25,7 +25,6 @@ use Rattle.expression.specs.declared.ExprError.TheVariants.{UnexpectedEnd, Unbal
 use Rattle.expression.specs.declared.Operand.{Operand}
 use Rattle.expression.specs.declared.OperandResult.TheVariants.{Done, Refused}
 use Rattle.expression.specs.declared.ParseResult.{ParseResult}
-use Rattle.expression.specs.declared.ParseResult.TheVariants as ParseResult
 use Rattle.grammar.specs.Tree.{num}
 use Rattle.grammar.specs.Parse.{Binding, lookup, symbol, factor, expression}
 use Rattle.figures.specs.Code.Figures.{FiguresOf, option_of}

@@ -17,7 +17,6 @@ use Rattle.expression.specs.declared.ExprError.{ExprError}
 use Rattle.expression.specs.declared.ExprError.TheVariants.{InvalidCharacter, UnconsumedTokens}
 use Rattle.expression.specs.declared.Operand.{Operand}
 use Rattle.expression.specs.declared.OperandResult.{OperandResult}
-use Rattle.expression.specs.declared.OperandResult.TheVariants as OperandResult
 use Rattle.expression.specs.declared.ParseResult.{ParseResult}
 use Rattle.expression.specs.declared.ParseResult.TheVariants.{Done, Refused}
 use Rattle.grammar.specs.Tree.{Tree}

@@ -1,13 +1,11 @@
 -- `context::agree` meets its contract: the test of the bytes passed, joined with that of what is left.
-use Prim.Native.Nat.{◌+◌, ◌-◌, ◌≤◌}
+use Prim.Native.Nat.{◌+◌}
 use mathlib.Core.Path.{◌≡◌, refl}
 use native.Mathlib.Omega.{arith}
 use lib.ListN.{drop}
-use Rattle.base.specs.Code.Skips.{SkipsIf}
 use Rattle.base.proofs.Skips.{skips_if_more}
 use Rattle.base.specs.Equal.{equal}
 use Rattle.context.proofs.Laws.{equal_next}
-use borrow.Author.Rules.{rules}
 use Rattle.context.proofs.agree.Goals as goal
 
 pub loop-k-init : goal.loop-k-init

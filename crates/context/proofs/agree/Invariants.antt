@@ -1,12 +1,7 @@
 use Prim.Native.Nat.{◌+◌, ◌-◌, ◌≤◌}
-use mathlib.Core.Path.{◌≡◌, refl}
-use native.Mathlib.Omega.{arith}
 use lib.ListN.{drop}
 use Rattle.base.specs.Code.Skips.{SkipsIf}
-use Rattle.base.proofs.Skips.{skips_if_more}
 use Rattle.base.specs.Equal.{equal}
-use Rattle.context.proofs.Laws.{equal_next}
-use borrow.Author.Rules.{rules}
 use Rattle.context.proofs.agree.Given as goal
 
 abbrev pub invariant-loop-k : goal.invariant-loop-k

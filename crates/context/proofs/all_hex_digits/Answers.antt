@@ -1,16 +1,13 @@
 -- `context::all_hex_digits` meets its contract: the test of the bytes passed, joined with that of what is left.
-use Prim.Native.Nat.{◌-◌, ◌≤◌}
 use mathlib.Core.Path.{refl, sym, ap, ◌∙◌}
 use mathlib.Core.Bool.{◌&&◌, and-true}
 use native.Mathlib.Omega.{arith}
-use lib.ListN.{length, drop}
-use Rattle.base.specs.Code.Skips.{SkipsIf}
+use lib.ListN.{drop}
 use Rattle.base.proofs.Skips.{skips_if_more}
 use Rattle.context.specs.Gate.{is_hex_digit}
 use Rattle.context.proofs.Laws.{hex_next}
 use Rattle.base.specs.Lists.{all}
 use Rattle.base.proofs.Lists.{all_end}
-use borrow.Author.Rules.{rules}
 use Rattle.context.proofs.all_hex_digits.Goals as goal
 
 pub loop-i-init : goal.loop-i-init

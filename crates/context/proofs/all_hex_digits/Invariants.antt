@@ -1,15 +1,8 @@
 use Prim.Native.Nat.{◌-◌, ◌≤◌}
-use mathlib.Core.Path.{refl, sym, ap, ◌∙◌}
-use mathlib.Core.Bool.{◌&&◌, and-true}
-use native.Mathlib.Omega.{arith}
 use lib.ListN.{length, drop}
 use Rattle.base.specs.Code.Skips.{SkipsIf}
-use Rattle.base.proofs.Skips.{skips_if_more}
 use Rattle.context.specs.Gate.{is_hex_digit}
-use Rattle.context.proofs.Laws.{hex_next}
 use Rattle.base.specs.Lists.{all}
-use Rattle.base.proofs.Lists.{all_end}
-use borrow.Author.Rules.{rules}
 use Rattle.context.proofs.all_hex_digits.Given as goal
 
 abbrev pub invariant-loop-i : goal.invariant-loop-i

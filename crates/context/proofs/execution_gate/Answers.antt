@@ -1,7 +1,6 @@
 -- `context::execution_gate` meets its contract: a test that is passed leaves the answer to the next one.
 use mathlib.Core.Path.{refl}
 use Rattle.context.proofs.Laws.{holds, fails}
-use borrow.Author.Rules.{rules}
 use Rattle.context.proofs.execution_gate.Goals as goal
 
 pub returns-then-not-same : goal.returns-then-not-same

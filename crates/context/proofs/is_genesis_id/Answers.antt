@@ -5,7 +5,6 @@ use borrow.Author.Tests.{eq-eqb, ne_eqb}
 use lib.ListN.{length}
 use Rattle.base.specs.Lists.{all}
 use Rattle.context.specs.Gate.{is_hex_digit}
-use borrow.Author.Rules.{rules}
 use Rattle.context.proofs.is_genesis_id.Goals as goal
 
 pub returns-then-s-ne64 : goal.returns-then-s-ne64

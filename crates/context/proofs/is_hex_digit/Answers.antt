@@ -1,5 +1,4 @@
 -- `context::is_hex_digit` meets its contract: the three ranges are joined as the definition joins them.
-use borrow.Author.Rules.{rules}
 use Rattle.context.proofs.is_hex_digit.Goals as goal
 
 pub returns : goal.returns

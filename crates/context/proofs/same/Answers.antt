@@ -1,15 +1,12 @@
 -- `context::same` meets its contract: the blocks passed agree, so the texts are equal where what is left of them is.
-use Prim.Native.Nat.{◌+◌, ◌-◌, ◌≤◌}
+use Prim.Native.Nat.{◌+◌, ◌-◌}
 use mathlib.Core.Path.{◌≡◌, refl, sym, ap, ap₂, ◌∙◌}
 use mathlib.Core.Bool.{true, ◌&&◌, and-true}
-use borrow.Author.Tests.{not-true, not-false}
 use native.Mathlib.Omega.{arith}
 use lib.ListN.{length, drop, drop_of_length-le}
 use Rattle.base.specs.Equal.{equal}
-use Rattle.base.specs.Code.Skips.{Skips}
 use Rattle.base.proofs.Skips.{skips_yes, skips_no}
 use Rattle.context.proofs.Laws.{equal_lengths}
-use borrow.Author.Rules.{rules}
 use Rattle.context.proofs.same.Goals as goal
 
 pub returns-then-a-b : goal.returns-then-a-b

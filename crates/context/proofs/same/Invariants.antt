@@ -1,14 +1,8 @@
-use Prim.Native.Nat.{◌+◌, ◌-◌, ◌≤◌}
-use mathlib.Core.Path.{◌≡◌, refl, sym, ap, ap₂, ◌∙◌}
-use mathlib.Core.Bool.{true, ◌&&◌, and-true}
-use borrow.Author.Tests.{not-true, not-false}
-use native.Mathlib.Omega.{arith}
-use lib.ListN.{length, drop, drop_of_length-le}
+use Prim.Native.Nat.{◌-◌, ◌≤◌}
+use mathlib.Core.Path.{◌≡◌}
+use lib.ListN.{length, drop}
 use Rattle.base.specs.Equal.{equal}
 use Rattle.base.specs.Code.Skips.{Skips}
-use Rattle.base.proofs.Skips.{skips_yes, skips_no}
-use Rattle.context.proofs.Laws.{equal_lengths}
-use borrow.Author.Rules.{rules}
 use Rattle.context.proofs.same.Given as goal
 
 abbrev pub invariant-loop-i : goal.invariant-loop-i

@@ -1,15 +1,12 @@
 -- `decimal::all_zeros` meets its contract: as long as each byte was a zero, those read may be passed.
-use Prim.Native.Nat.{◌+◌, ◌-◌, ◌<◌, ◌≤◌}
+use Prim.Native.Nat.{◌+◌, ◌<◌}
 use mathlib.Core.Path.{◌≡◌, sym, ◌∙◌}
-use mathlib.Core.Bool.{true}
 use borrow.Author.Tests.{eqb-true}
 use native.Mathlib.Omega.{arith}
 use lib.Dec.{eqb}
 use lib.ListN.{length, get_or}
 use Rattle.base.proofs.Tests.{and_left, and_right}
-use Rattle.decimal.specs.Code.Zeros.{ZerosTo}
 use Rattle.decimal.proofs.Runs.{no_zeros, more_zeros, one_zero}
-use borrow.Author.Rules.{rules}
 use Rattle.decimal.proofs.all_zeros.Goals as goal
 
 pub loop-k-init : goal.loop-k-init

@@ -1,14 +1,7 @@
-use Prim.Native.Nat.{◌+◌, ◌-◌, ◌<◌, ◌≤◌}
-use mathlib.Core.Path.{◌≡◌, sym, ◌∙◌}
+use Prim.Native.Nat.{◌+◌, ◌-◌, ◌≤◌}
+use mathlib.Core.Path.{◌≡◌}
 use mathlib.Core.Bool.{true}
-use borrow.Author.Tests.{eqb-true}
-use native.Mathlib.Omega.{arith}
-use lib.Dec.{eqb}
-use lib.ListN.{length, get_or}
-use Rattle.base.proofs.Tests.{and_left, and_right}
 use Rattle.decimal.specs.Code.Zeros.{ZerosTo}
-use Rattle.decimal.proofs.Runs.{no_zeros, more_zeros, one_zero}
-use borrow.Author.Rules.{rules}
 use Rattle.decimal.proofs.all_zeros.Given as goal
 
 abbrev pub invariant-loop-k : goal.invariant-loop-k

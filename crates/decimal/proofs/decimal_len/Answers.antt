@@ -1,11 +1,6 @@
 -- `decimal::decimal_len` meets its contract: len digits are behind what is left of the number.
-use Prim.Native.Nat.{◌+◌, ◌^◌, ◌<◌}
-use mathlib.Core.Path.{◌≡◌}
 use native.Mathlib.Omega.{arith}
-use lib.ListN.{length}
-use Rattle.decimal.specs.Decimal.{decimal}
 use Rattle.decimal.proofs.Laws.{length_four_more, length_word}
-use borrow.Author.Rules.{rules}
 use Rattle.decimal.proofs.decimal_len.Goals as goal
 
 pub overflow_add-len : goal.overflow_add-len

@@ -1,10 +1,7 @@
 use Prim.Native.Nat.{◌+◌, ◌^◌, ◌<◌}
 use mathlib.Core.Path.{◌≡◌}
-use native.Mathlib.Omega.{arith}
 use lib.ListN.{length}
 use Rattle.decimal.specs.Decimal.{decimal}
-use Rattle.decimal.proofs.Laws.{length_four_more, length_word}
-use borrow.Author.Rules.{rules}
 use Rattle.decimal.proofs.decimal_len.Given as goal
 
 abbrev pub invariant-loop-rest : goal.invariant-loop-rest

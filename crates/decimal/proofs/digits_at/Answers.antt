@@ -1,7 +1,6 @@
 -- `decimal::digits_at` meets its contract: the zeros that are passed, and the digits behind them.
 use native.Mathlib.Omega.{arith}
 use Rattle.decimal.proofs.Runs.{behind_fits, behind_zeros}
-use borrow.Author.Rules.{rules}
 use Rattle.decimal.proofs.digits_at.Goals as goal
 
 pub overflow_add-len : goal.overflow_add-len

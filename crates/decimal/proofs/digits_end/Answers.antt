@@ -1,12 +1,9 @@
 -- `decimal::digits_end` meets its contract: the digits from each place passed end where those from at do.
-use Prim.Native.Nat.{◌-◌}
-use mathlib.Core.Path.{◌≡◌, refl, sym, ◌∙◌}
+use mathlib.Core.Path.{refl, sym, ◌∙◌}
 use native.Mathlib.Omega.{arith}
-use lib.ListN.{length}
-use Rattle.base.proofs.Lists.{end_from, end_more, end_none}
+use Rattle.base.proofs.Lists.{end_more, end_none}
 use Rattle.decimal.specs.Decimal.{digit}
 use Rattle.decimal.proofs.Runs.{DigitAt, digit_at}
-use borrow.Author.Rules.{rules}
 use Rattle.decimal.proofs.digits_end.Goals as goal
 use Rattle.decimal.proofs.digits_end.Goals.{In-loop-i}
 

@@ -1,16 +1,15 @@
 -- `decimal::few_digits_at` meets its contract: what is left of the digits, after acc, writes the number that all of them write.
-use Prim.Native.Nat.{ℕ, ◌+◌, ◌-◌, ◌*◌, ◌^◌, ◌<◌, ◌≤◌}
+use Prim.Native.Nat.{ℕ, ◌+◌, ◌*◌, ◌^◌, ◌<◌, ◌≤◌}
 use mathlib.Core.Path.{◌≡◌, refl, sym, ap, ◌∙◌}
 use mathlib.Core.Bool.{false}
 use native.Mathlib.Omega.{arith}
-use borrow.Author.Tests.{ltb-true, ltb-false, not-true, not-false}
-use lib.ListN.{length, get_or, drop}
+use borrow.Author.Tests.{ltb-true, ltb-false}
+use lib.ListN.{get_or, drop}
 use Rattle.base.specs.Lists.{take_while}
-use Rattle.base.proofs.Lists.{end_from, end_more, end_none}
+use Rattle.base.proofs.Lists.{end_more, end_none}
 use Rattle.decimal.specs.Decimal.{digit, value, value_from}
 use Rattle.decimal.specs.Code.Digits.{capped}
 use Rattle.decimal.proofs.Runs.{DigitAt, digit_at, value_more, value_none, fitting, over, answer}
-use borrow.Author.Rules.{rules}
 use Rattle.decimal.proofs.few_digits_at.Goals as goal
 use Rattle.decimal.proofs.few_digits_at.Goals.{After-loop-d, After-widen-d, Else-not-next_fits, In-loop-d, Then-not-next_fits}
 

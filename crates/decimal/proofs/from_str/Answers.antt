@@ -6,7 +6,6 @@ use Rattle.base.specs.Lists.{take_while}
 use Rattle.decimal.specs.Decimal.{digit, number_of}
 use Rattle.decimal.specs.declared.Digits.{Digits}
 use Rattle.decimal.proofs.FromStr.{as_number, read_none, read_other, read_all}
-use borrow.Author.Rules.{rules}
 use Rattle.decimal.proofs.from_str.Goals as goal
 use Rattle.decimal.proofs.from_str.Goals.{After-digits_at-run, Else-len-s}
 

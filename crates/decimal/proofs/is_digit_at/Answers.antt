@@ -2,7 +2,6 @@
 use mathlib.Core.Path.{sym, ap}
 use lib.ListN.{get_or-eq_default}
 use Rattle.decimal.specs.Decimal.{digit}
-use borrow.Author.Rules.{rules}
 use Rattle.decimal.proofs.is_digit_at.Goals as goal
 
 pub returns : goal.returns

@@ -1,11 +1,7 @@
 -- `decimal::pass_zeros` meets its contract: block after block.
-use Prim.Native.Nat.{◌-◌}
 use mathlib.Core.Path.{refl}
 use native.Mathlib.Omega.{arith}
-use lib.ListN.{length}
-use Rattle.decimal.specs.Code.Zeros.{ZerosTo}
 use Rattle.decimal.proofs.Runs.{no_zeros, more_zeros}
-use borrow.Author.Rules.{rules}
 use Rattle.decimal.proofs.pass_zeros.Goals as goal
 
 pub returns-then-not-is_zero_at : goal.returns-then-not-is_zero_at

@@ -1,10 +1,6 @@
 use Prim.Native.Nat.{◌-◌}
-use mathlib.Core.Path.{refl}
-use native.Mathlib.Omega.{arith}
 use lib.ListN.{length}
 use Rattle.decimal.specs.Code.Zeros.{ZerosTo}
-use Rattle.decimal.proofs.Runs.{no_zeros, more_zeros}
-use borrow.Author.Rules.{rules}
 use Rattle.decimal.proofs.pass_zeros.Given as goal
 
 abbrev pub invariant-loop-i : goal.invariant-loop-i

@@ -2,7 +2,6 @@
 use native.Mathlib.Omega.{arith}
 use lib.ListN.{get_or-eq_default}
 use Rattle.decimal.proofs.FromStr.{signed, not_signed}
-use borrow.Author.Rules.{rules}
 use Rattle.decimal.proofs.plus_len.Goals as goal
 
 pub returns-then-s-eq43 : goal.returns-then-s-eq43

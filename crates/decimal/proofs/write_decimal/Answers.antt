@@ -4,7 +4,6 @@ use mathlib.Core.Path.{ap, ◌∙◌}
 use native.Mathlib.Omega.{arith}
 use Rattle.decimal.specs.declared.Written.TheVariants.{To}
 use Rattle.decimal.proofs.Buffer.{room, no_room}
-use borrow.Author.Rules.{rules}
 use Rattle.decimal.proofs.write_decimal.Goals as goal
 
 pub returns-then-at-room : goal.returns-then-at-room

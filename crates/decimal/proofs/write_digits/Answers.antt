@@ -1,12 +1,9 @@
 -- `decimal::write_digits` meets its contract: what is left of the number, written over the buffer, gives what the whole number gives.
-use mathlib.Core.Path.{◌≡◌, refl, sym, ◌∙◌}
+use mathlib.Core.Path.{refl, sym, ◌∙◌}
 use native.Mathlib.Omega.{arith}
-use lib.ListN.{length, length-set}
-use Rattle.base.specs.Overwrite.{overwrite}
-use Rattle.decimal.specs.Decimal.{decimal}
+use lib.ListN.{length-set}
 use Rattle.decimal.proofs.Laws.{length_positive}
-use Rattle.decimal.proofs.Buffer.{Ends, left_one, left_two, writes_one, writes_more, ends_more, writes_two, ends_two}
-use borrow.Author.Rules.{rules}
+use Rattle.decimal.proofs.Buffer.{left_one, left_two, writes_one, writes_more, ends_more, writes_two, ends_two}
 use Rattle.decimal.proofs.write_digits.Goals as goal
 
 pub overflow_sub-i : goal.overflow_sub-i

@@ -1,11 +1,8 @@
-use mathlib.Core.Path.{◌≡◌, refl, sym, ◌∙◌}
-use native.Mathlib.Omega.{arith}
-use lib.ListN.{length, length-set}
+use mathlib.Core.Path.{◌≡◌}
+use lib.ListN.{length}
 use Rattle.base.specs.Overwrite.{overwrite}
 use Rattle.decimal.specs.Decimal.{decimal}
-use Rattle.decimal.proofs.Laws.{length_positive}
-use Rattle.decimal.proofs.Buffer.{Ends, left_one, left_two, writes_one, writes_more, ends_more, writes_two, ends_two}
-use borrow.Author.Rules.{rules}
+use Rattle.decimal.proofs.Buffer.{Ends}
 use Rattle.decimal.proofs.write_digits.Given as goal
 
 abbrev pub invariant-loop-rest : goal.invariant-loop-rest

@@ -1,6 +1,5 @@
 -- `decimal::zeros_at` meets its contract: a block that doesn't fit is none.
 use Rattle.base.proofs.Tests.{false_true}
-use borrow.Author.Rules.{rules}
 use Rattle.decimal.proofs.zeros_at.Goals as goal
 
 pub returns-then-s-lt-BLOCK : goal.returns-then-s-lt-BLOCK

@@ -1,9 +1,9 @@
 -- `emission::expression` and `emission::binding` meet their contracts: the number of bindings falls at each name.
-use Rattle.std.proofs.Common.{ℕ, ◌+◌, ◌-◌, ◌*◌, ◌<◌, refl, sym, ap, ◌∙◌}
+use Rattle.std.proofs.Common.{ℕ, ◌+◌, refl, sym, ap, ◌∙◌}
 use native.Mathlib.Omega.{arith}
 use Rattle.writer.proofs.Pieces.{overwrites_length}
 use Rattle.emission.proofs.WrittenBindings.{kept_put, kept_mark, again_fits, again_put}
-use Rattle.emission.proofs.Loop.{Running, running_starts, running_as, factor_past, no_factor, open_room, opened, literal_fits, literal_goes, name_below, name_stands, name_fits, name_goes, turn_ready, turn_room, turn_past, turn_goes, end_fits, end_put, parameter_text, binding_means, binding_text}
+use Rattle.emission.proofs.Loop.{running_starts, running_as, factor_past, no_factor, open_room, opened, literal_fits, literal_goes, name_below, name_stands, name_fits, name_goes, turn_ready, turn_room, turn_past, turn_goes, end_fits, end_put, parameter_text, binding_means, binding_text}
 use Rattle.emission.proofs.+binding_expression.Goals as goal
 
 pub binding-put_again-requires : goal.binding-put_again-requires

@@ -1,7 +1,6 @@
 -- `emission::emit` meets its contract: nothing is marked at first.
 use mathlib.Core.Path.{refl}
 use Rattle.emission.proofs.WrittenBindings.{kept_none}
-use borrow.Author.Rules.{rules}
 use Rattle.emission.proofs.emit.Goals as goal
 
 pub expression-requires : goal.expression-requires

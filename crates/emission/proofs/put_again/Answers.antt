@@ -1,10 +1,7 @@
 -- `emission::put_again` meets its contract: byte by byte, each read before the place.
-use Prim.Native.Nat.{◌+◌, ◌-◌}
 use native.Mathlib.Omega.{arith}
-use lib.Seq.{slice}
-use Rattle.writer.proofs.Pieces.{Filling, fill_none, fill_length, fill_more, fill_all}
+use Rattle.writer.proofs.Pieces.{fill_none, fill_length, fill_more, fill_all}
 use Rattle.emission.proofs.Again.{again_length, again_byte}
-use borrow.Author.Rules.{rules}
 use Rattle.emission.proofs.put_again.Goals as goal
 
 pub loop-j-init : goal.loop-j-init

@@ -5,7 +5,6 @@ use Rattle.decimal.specs.Decimal.{digit, value}
 use Rattle.token.specs.Token.{tokens}
 use Rattle.token.specs.Code.Places.{token_at}
 use Rattle.bindings.specs.declared.names.BoundName.{BoundName}
-use Rattle.bindings.specs.declared.names.BoundName.TheVariants as Found
 use Rattle.grammar.specs.Parse.{symbol}
 use Rattle.bindings.specs.Code.Table.{found}
 use Rattle.emission.specs.declared.factor.Factor.{Factor}

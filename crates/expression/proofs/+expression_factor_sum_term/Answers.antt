@@ -1,5 +1,5 @@
 -- expression, sum, term and factor meet their contracts: every call is at a later byte, or at the same byte and of a lower rank.
-use Rattle.std.proofs.Common.{ℕ, suc, ◌+◌, ◌-◌, ◌*◌, ◌<◌, ◌≡◌, refl, sym, ap, subst, ◌∙◌, length}
+use Rattle.std.proofs.Common.{ℕ, suc, ◌-◌, ◌≡◌, refl, sym, ap, subst, ◌∙◌}
 use native.Mathlib.Omega.{arith}
 use Rattle.grammar.specs.Parse.{symbol}
 use Rattle.expression.specs.Code.Parts.{followed_by, AllFit}

@@ -1,5 +1,5 @@
 -- Every call of the cycle is at a later byte, or at the same byte and of a lower rank.
-use Rattle.std.proofs.Common.{ℕ, ◌+◌, ◌-◌, ◌*◌, length}
+use Rattle.std.proofs.Common.{◌+◌, ◌-◌, ◌*◌, length}
 use Rattle.bindings.specs.Code.Table.{columns_of}
 use Rattle.expression.proofs.Reading.{Chain}
 use Rattle.expression.proofs.+expression_factor_sum_term.Given as goal

@@ -2,7 +2,6 @@
 use mathlib.Core.Path.{ap}
 use Rattle.expression.specs.declared.OperandResult.TheVariants.{Done}
 use Rattle.expression.specs.declared.parts.Sign.{Sign}
-use borrow.Author.Rules.{rules}
 use Rattle.expression.proofs.followed.Goals as goal
 
 pub returns-in-Refused : goal.returns-in-Refused

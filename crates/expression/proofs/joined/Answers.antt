@@ -1,6 +1,5 @@
 -- `expression::joined` meets its contract: by whether a sign stands before the right operand.
 use mathlib.Core.Path.{refl}
-use borrow.Author.Rules.{rules}
 use Rattle.expression.proofs.joined.Goals as goal
 
 pub returns-then-left-eq0 : goal.returns-then-left-eq0

@@ -1,7 +1,6 @@
 -- `expression::parse` meets its contract: what the cycle reads is what the text means, in each environment that the table holds.
 use mathlib.Core.Path.{refl, sym, subst, ◌∙◌}
 use native.Mathlib.Omega.{arith}
-use borrow.Author.Tests.{not-true, not-false}
 use Rattle.expression.specs.declared.ParseResult.{ParseResult}
 use Rattle.bindings.specs.Code.Table.{columns}
 use Rattle.expression.specs.Code.Answers.{Answers}

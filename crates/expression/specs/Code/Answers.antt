@@ -2,7 +2,6 @@
 use Rattle.std.specs.Prelude.{ℕ, ◌≡◌, List, drop}
 use Rattle.token.specs.Code.Places.{last_end}
 use Rattle.expression.specs.declared.ParseResult.{ParseResult}
-use Rattle.expression.specs.declared.ParseResult.TheVariants as Parsed
 use Rattle.grammar.specs.Code.Meant.{ParseAnswer, figures, refusal, meaning_answer, ShortText}
 use Rattle.figures.specs.Code.Figures.{option_of}
 use Rattle.grammar.specs.Parse.{Env, meaning}

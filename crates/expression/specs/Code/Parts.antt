@@ -12,7 +12,6 @@ use Rattle.expression.specs.declared.parts.Sign.{Sign}
 use Rattle.expression.specs.declared.ExprError.TheVariants.{UnexpectedEnd, UnbalancedParenthesis, InvalidLiteral, UnknownIdentifier, UnconsumedTokens}
 use Rattle.expression.specs.declared.Operand.{Operand}
 use Rattle.expression.specs.declared.OperandResult.{OperandResult}
-use Rattle.expression.specs.declared.OperandResult.TheVariants as OperandResult
 use Rattle.expression.specs.declared.ParseResult.{ParseResult}
 use Rattle.expression.specs.declared.ParseResult.TheVariants.{Done, Refused}
 use Rattle.grammar.specs.Parse.{symbol}

@@ -2,7 +2,6 @@
 use Rattle.std.specs.Prelude.{◌≡◌, ℕ, ◌+◌, ◌*◌, ◌^◌, ◌<◌, ◌≤◌, max}
 use Rattle.std.proofs.Math.Option.{Option, some, none}
 use Rattle.figures.specs.declared.TreeValue.{TreeValue}
-use Rattle.figures.specs.declared.TreeValue.TheVariants as Value
 use Rattle.figures.specs.declared.Figures.{Figures}
 use Rattle.grammar.specs.Tree.{Tree, applied, value_of, k_of, p_of}
 use Rattle.grammar.specs.Code.Lengths.{operator_length, len_of}

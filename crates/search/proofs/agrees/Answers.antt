@@ -5,7 +5,6 @@ use native.Mathlib.Omega.{arith}
 use lib.ListN.{length}
 use Rattle.base.proofs.Tests.{and_both}
 use Rattle.search.proofs.Prefix.{each}
-use borrow.Author.Rules.{rules}
 use Rattle.search.proofs.agrees.Goals as goal
 
 pub returns : goal.returns

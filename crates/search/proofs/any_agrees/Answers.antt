@@ -1,11 +1,7 @@
 -- `search::any_agrees` meets its contract: while there is no hit, p stands at none of the places that are passed.
-use Prim.Native.Nat.{◌-◌, ◌≤◌}
 use mathlib.Core.Path.{◌≡◌, sym, ◌∙◌}
-use mathlib.Core.Bool.{false}
 use native.Mathlib.Omega.{arith}
-use Rattle.search.specs.Code.Scan.{Misses}
 use Rattle.search.proofs.Laws.{miss_more, misses}
-use borrow.Author.Rules.{rules}
 use Rattle.search.proofs.any_agrees.Goals as goal
 
 pub loop-k-init : goal.loop-k-init

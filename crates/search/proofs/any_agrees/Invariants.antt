@@ -1,10 +1,7 @@
 use Prim.Native.Nat.{◌-◌, ◌≤◌}
-use mathlib.Core.Path.{◌≡◌, sym, ◌∙◌}
+use mathlib.Core.Path.{◌≡◌}
 use mathlib.Core.Bool.{false}
-use native.Mathlib.Omega.{arith}
 use Rattle.search.specs.Code.Scan.{Misses}
-use Rattle.search.proofs.Laws.{miss_more, misses}
-use borrow.Author.Rules.{rules}
 use Rattle.search.proofs.any_agrees.Given as goal
 
 abbrev pub invariant-loop-k : goal.invariant-loop-k

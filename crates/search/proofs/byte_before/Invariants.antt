@@ -1,12 +1,7 @@
 use Prim.Native.Nat.{◌-◌, ◌≤◌}
-use mathlib.Core.Path.{◌≡◌, refl, ap, ◌∙◌}
 use mathlib.Core.List.{[], ◌∷◌}
-use native.Mathlib.Omega.{arith}
 use Rattle.base.specs.Code.Skips.{Skips}
 use Rattle.search.specs.First.{first_at}
-use Rattle.search.proofs.Prefix.{byte_yes, byte_no}
-use Rattle.search.proofs.Laws.{hit, miss}
-use borrow.Author.Rules.{rules}
 use Rattle.search.proofs.byte_before.Given as goal
 
 abbrev pub invariant-loop-i : goal.invariant-loop-i

@@ -2,13 +2,12 @@
 use Prim.Native.Nat.{ℕ, ◌+◌, ◌≤◌}
 use mathlib.Core.Path.{sym, ap, ◌∙◌}
 use mathlib.Core.List.{List}
-use borrow.Author.Tests.{leb-true, leb-false, not-true, not-false}
+use borrow.Author.Tests.{leb-true, leb-false}
 use native.Mathlib.Omega.{arith}
 use lib.ListN.{length}
 use Rattle.search.specs.First.{first_at}
 use Rattle.search.proofs.Prefix.{empty, single}
 use Rattle.search.proofs.Laws.{hit, no_room}
-use borrow.Author.Rules.{rules}
 use Rattle.search.proofs.find.Goals as goal
 use Rattle.search.proofs.find.Goals.{Else-not-has_room}
 

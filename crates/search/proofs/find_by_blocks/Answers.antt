@@ -4,7 +4,6 @@ use mathlib.Core.List.{[], ◌∷◌}
 use native.Mathlib.Omega.{arith}
 use Rattle.search.specs.Code.Scan.{or_else}
 use Rattle.search.proofs.Laws.{no_room, or_nothing}
-use borrow.Author.Rules.{rules}
 use Rattle.search.proofs.find_by_blocks.Goals as goal
 
 pub returns : goal.returns

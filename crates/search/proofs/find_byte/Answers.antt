@@ -3,7 +3,6 @@ use mathlib.Core.Path.{sym, ◌∙◌}
 use mathlib.Core.List.{[], ◌∷◌}
 use native.Mathlib.Omega.{arith}
 use Rattle.search.proofs.Laws.{no_room}
-use borrow.Author.Rules.{rules}
 use Rattle.search.proofs.find_byte.Goals as goal
 
 pub returns-then-s-at : goal.returns-then-s-at

@@ -1,14 +1,10 @@
 -- `search::find_far_byte` meets its contract: each block that is passed is without the byte.
 -- Assumes nothing.
-use Prim.Native.Nat.{◌+◌, ◌-◌, ◌≤◌}
+use Prim.Native.Nat.{◌+◌, ◌≤◌}
 use mathlib.Core.Path.{refl, sym, ◌∙◌}
-use mathlib.Core.List.{[], ◌∷◌}
 use borrow.Author.Tests.{leb-true}
 use native.Mathlib.Omega.{arith}
 use lib.ListN.{length}
-use Rattle.base.specs.Code.Skips.{Skips}
-use Rattle.search.specs.First.{first_at}
-use borrow.Author.Rules.{rules}
 use Rattle.search.proofs.find_far_byte.Goals as goal
 use Rattle.search.proofs.find_far_byte.Goals.{In-loop-k}
 

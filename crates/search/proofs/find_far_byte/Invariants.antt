@@ -1,12 +1,8 @@
-use Prim.Native.Nat.{◌+◌, ◌-◌, ◌≤◌}
-use mathlib.Core.Path.{refl, sym, ◌∙◌}
+use Prim.Native.Nat.{◌-◌}
 use mathlib.Core.List.{[], ◌∷◌}
-use borrow.Author.Tests.{leb-true}
-use native.Mathlib.Omega.{arith}
 use lib.ListN.{length}
 use Rattle.base.specs.Code.Skips.{Skips}
 use Rattle.search.specs.First.{first_at}
-use borrow.Author.Rules.{rules}
 use Rattle.search.proofs.find_far_byte.Given as goal
 
 abbrev pub invariant-loop-k : goal.invariant-loop-k

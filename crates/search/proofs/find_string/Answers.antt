@@ -1,10 +1,6 @@
 -- `search::find_string` meets its contract: p stands at no place of a block that is passed, and from `stop` on there is no room for it.
-use Prim.Native.Nat.{◌-◌}
 use mathlib.Core.Path.{refl, sym, ◌∙◌}
 use native.Mathlib.Omega.{arith}
-use Rattle.base.specs.Code.Skips.{Skips}
-use Rattle.search.specs.First.{first_at}
-use Rattle.search.specs.Code.Scan.{RoomAtEach}
 use Rattle.search.proofs.Laws.{no_room}
 use borrow.Author.Rules.{rules}
 use Rattle.search.proofs.find_string.Goals as goal

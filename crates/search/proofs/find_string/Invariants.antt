@@ -1,11 +1,7 @@
 use Prim.Native.Nat.{◌-◌}
-use mathlib.Core.Path.{refl, sym, ◌∙◌}
-use native.Mathlib.Omega.{arith}
 use Rattle.base.specs.Code.Skips.{Skips}
 use Rattle.search.specs.First.{first_at}
 use Rattle.search.specs.Code.Scan.{RoomAtEach}
-use Rattle.search.proofs.Laws.{no_room}
-use borrow.Author.Rules.{rules}
 use Rattle.search.proofs.find_string.Given as goal
 
 abbrev pub invariant-loop-i : goal.invariant-loop-i

@@ -1,14 +1,10 @@
 -- `search::has_byte` meets its contract: while there is no hit, the byte stands at none of the places that are passed.
-use Prim.Native.Nat.{◌-◌, ◌≤◌}
 use mathlib.Core.Path.{◌≡◌, sym, ◌∙◌}
 use mathlib.Core.List.{[], ◌∷◌}
-use mathlib.Core.Bool.{false}
 use borrow.Author.Tests.{eq-eqb}
 use native.Mathlib.Omega.{arith}
-use Rattle.search.specs.Code.Scan.{Misses}
 use Rattle.search.proofs.Prefix.{byte_at}
 use Rattle.search.proofs.Laws.{miss_more, misses}
-use borrow.Author.Rules.{rules}
 use Rattle.search.proofs.has_byte.Goals as goal
 
 pub loop-k-init : goal.loop-k-init

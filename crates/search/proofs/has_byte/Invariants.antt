@@ -1,13 +1,8 @@
 use Prim.Native.Nat.{◌-◌, ◌≤◌}
-use mathlib.Core.Path.{◌≡◌, sym, ◌∙◌}
+use mathlib.Core.Path.{◌≡◌}
 use mathlib.Core.List.{[], ◌∷◌}
 use mathlib.Core.Bool.{false}
-use borrow.Author.Tests.{eq-eqb}
-use native.Mathlib.Omega.{arith}
 use Rattle.search.specs.Code.Scan.{Misses}
-use Rattle.search.proofs.Prefix.{byte_at}
-use Rattle.search.proofs.Laws.{miss_more, misses}
-use borrow.Author.Rules.{rules}
 use Rattle.search.proofs.has_byte.Given as goal
 
 abbrev pub invariant-loop-k : goal.invariant-loop-k

@@ -5,7 +5,6 @@ use borrow.Author.Tests.{le-leb, lt-leb}
 use native.Mathlib.Omega.{arith}
 use lib.ListN.{length}
 use Rattle.base.proofs.Tests.{by_leb}
-use borrow.Author.Rules.{rules}
 use Rattle.search.proofs.has_room.Goals as goal
 
 pub returns-then-n-s : goal.returns-then-n-s

@@ -3,7 +3,6 @@ use Prim.Native.Nat.{◌+◌}
 use mathlib.Core.Path.{◌≡◌, sym}
 use native.Mathlib.Omega.{arith}
 use Rattle.base.proofs.Tests.{false_true}
-use borrow.Author.Rules.{rules}
 use Rattle.search.proofs.may_stand.Goals as goal
 
 pub returns-then-end-at-ne-BLOCK : goal.returns-then-end-at-ne-BLOCK

@@ -1,14 +1,10 @@
 -- `search::pass_blocks` meets its contract: each block that is passed is without the byte.
-use Prim.Native.Nat.{◌+◌, ◌-◌, ◌≤◌}
+use Prim.Native.Nat.{◌+◌, ◌≤◌}
 use mathlib.Core.Path.{refl, sym, ◌∙◌}
-use mathlib.Core.List.{[], ◌∷◌}
 use borrow.Author.Tests.{leb-true}
 use native.Mathlib.Omega.{arith}
 use lib.ListN.{length}
-use Rattle.base.specs.Code.Skips.{SkipsTo}
 use Rattle.base.proofs.Skips.{skips_none, skips_on}
-use Rattle.search.specs.First.{first_at}
-use borrow.Author.Rules.{rules}
 use Rattle.search.proofs.pass_blocks.Goals as goal
 use Rattle.search.proofs.pass_blocks.Goals.{In-loop-b}
 

@@ -1,13 +1,8 @@
-use Prim.Native.Nat.{◌+◌, ◌-◌, ◌≤◌}
-use mathlib.Core.Path.{refl, sym, ◌∙◌}
+use Prim.Native.Nat.{◌-◌}
 use mathlib.Core.List.{[], ◌∷◌}
-use borrow.Author.Tests.{leb-true}
-use native.Mathlib.Omega.{arith}
 use lib.ListN.{length}
 use Rattle.base.specs.Code.Skips.{SkipsTo}
-use Rattle.base.proofs.Skips.{skips_none, skips_on}
 use Rattle.search.specs.First.{first_at}
-use borrow.Author.Rules.{rules}
 use Rattle.search.proofs.pass_blocks.Given as goal
 
 abbrev pub invariant-loop-b : goal.invariant-loop-b

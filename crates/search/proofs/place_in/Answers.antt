@@ -1,12 +1,9 @@
 -- `search::place_in` meets its contract: the least place so far.
 -- Assumes nothing.
-use Prim.Native.Nat.{◌-◌, ◌≤◌}
 use mathlib.Core.Path.{◌≡◌}
 use mathlib.Core.List.{[], ◌∷◌}
 use native.Mathlib.Omega.{arith}
-use Rattle.search.specs.Code.Scan.{Least}
 use Rattle.search.proofs.Placed.{none_placed, one_placed}
-use borrow.Author.Rules.{rules}
 use Rattle.search.proofs.place_in.Goals as goal
 
 pub loop-k-init : goal.loop-k-init

@@ -1,10 +1,6 @@
 use Prim.Native.Nat.{◌-◌, ◌≤◌}
-use mathlib.Core.Path.{◌≡◌}
 use mathlib.Core.List.{[], ◌∷◌}
-use native.Mathlib.Omega.{arith}
 use Rattle.search.specs.Code.Scan.{Least}
-use Rattle.search.proofs.Placed.{none_placed, one_placed}
-use borrow.Author.Rules.{rules}
 use Rattle.search.proofs.place_in.Given as goal
 
 abbrev pub invariant-loop-k : goal.invariant-loop-k

@@ -1,12 +1,11 @@
 -- `search::stands` meets its contract: the first `j` bytes agree, so p stands where what is left of it does.
-use Prim.Native.Nat.{ℕ, ◌+◌, ◌-◌, ◌≤◌}
+use Prim.Native.Nat.{ℕ, ◌+◌}
 use mathlib.Core.Path.{◌≡◌, refl, sym, ap, ◌∙◌}
 use mathlib.Core.List.{List}
 use native.Mathlib.Omega.{arith}
-use lib.ListN.{length, drop, drop_of_length-le}
+use lib.ListN.{drop, drop_of_length-le}
 use Rattle.search.specs.First.{prefix_of}
 use Rattle.search.proofs.Prefix.{same_at, other_at}
-use borrow.Author.Rules.{rules}
 use Rattle.search.proofs.stands.Goals as goal
 
 pub loop-j-init : goal.loop-j-init

@@ -1,11 +1,7 @@
-use Prim.Native.Nat.{ℕ, ◌+◌, ◌-◌, ◌≤◌}
-use mathlib.Core.Path.{◌≡◌, refl, sym, ap, ◌∙◌}
-use mathlib.Core.List.{List}
-use native.Mathlib.Omega.{arith}
-use lib.ListN.{length, drop, drop_of_length-le}
+use Prim.Native.Nat.{◌+◌, ◌-◌, ◌≤◌}
+use mathlib.Core.Path.{◌≡◌}
+use lib.ListN.{length, drop}
 use Rattle.search.specs.First.{prefix_of}
-use Rattle.search.proofs.Prefix.{same_at, other_at}
-use borrow.Author.Rules.{rules}
 use Rattle.search.proofs.stands.Given as goal
 
 abbrev pub invariant-loop-j : goal.invariant-loop-j

@@ -2,7 +2,6 @@
 use mathlib.Core.Path.{sym, ◌∙◌}
 use borrow.Author.Tests.{leb-true, leb-false}
 use Rattle.search.proofs.Prefix.{no_room}
-use borrow.Author.Rules.{rules}
 use Rattle.search.proofs.starts_with.Goals as goal
 
 pub stands-requires : goal.stands-requires

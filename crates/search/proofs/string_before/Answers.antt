@@ -1,15 +1,12 @@
 -- `search::string_before` meets its contract: at each place that is passed p does not stand.
-use Prim.Native.Nat.{◌+◌, ◌-◌, ◌≤◌}
+use Prim.Native.Nat.{◌+◌}
 use mathlib.Core.Path.{◌≡◌, refl, sym, ap, ◌∙◌}
-use mathlib.Core.Logic.{⊎_elim}
 use mathlib.Core.Bool.{false}
 use native.Mathlib.Omega.{arith}
 use lib.ListN.{drop}
-use Rattle.base.specs.Code.Skips.{Skips}
 use Rattle.search.specs.First.{prefix_of, first_at}
 use Rattle.search.proofs.Prefix.{other_at}
 use Rattle.search.proofs.Laws.{hit, miss}
-use borrow.Author.Rules.{rules}
 use Rattle.search.proofs.string_before.Goals as goal
 use Rattle.search.proofs.string_before.Goals.{else-s-i-via-then-s-i+else-stands, else-s-i-via-else-s-i}
 

@@ -1,5 +1,4 @@
 -- `token::goes_on` meets its contract: the tests joined are those of the definition.
-use borrow.Author.Rules.{rules}
 use Rattle.token.proofs.goes_on.Goals as goal
 
 pub returns : goal.returns

@@ -4,7 +4,6 @@ use mathlib.Core.Path.{sym, ap, ◌∙◌}
 use lib.ListN.{get_or-eq_default}
 use Rattle.token.specs.Code.Bytes.{goes_on}
 use Rattle.token.proofs.Classes.{goes_on_end}
-use borrow.Author.Rules.{rules}
 use Rattle.token.proofs.goes_on_at.Goals as goal
 
 pub returns : goal.returns

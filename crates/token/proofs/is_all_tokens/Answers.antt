@@ -1,12 +1,6 @@
 -- `token::is_all_tokens` meets its contract: what is left is allowed exactly where all of it is.
-use Prim.Native.Nat.{◌-◌}
-use mathlib.Core.Path.{◌≡◌, sym, ◌∙◌}
-use borrow.Author.Tests.{not-true, not-false}
-use native.Mathlib.Omega.{arith}
-use lib.ListN.{length, drop}
-use Rattle.token.specs.Token.{allowed}
+use mathlib.Core.Path.{sym, ◌∙◌}
 use Rattle.token.proofs.Allowed.{one_more, pair_more, none_more, none_left}
-use borrow.Author.Rules.{rules}
 use Rattle.token.proofs.is_all_tokens.Goals as goal
 
 pub loop-i-preserved-then-is_allowed : goal.loop-i-preserved-then-is_allowed

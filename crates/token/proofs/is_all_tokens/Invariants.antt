@@ -1,11 +1,7 @@
 use Prim.Native.Nat.{◌-◌}
-use mathlib.Core.Path.{◌≡◌, sym, ◌∙◌}
-use borrow.Author.Tests.{not-true, not-false}
-use native.Mathlib.Omega.{arith}
+use mathlib.Core.Path.{◌≡◌}
 use lib.ListN.{length, drop}
 use Rattle.token.specs.Token.{allowed}
-use Rattle.token.proofs.Allowed.{one_more, pair_more, none_more, none_left}
-use borrow.Author.Rules.{rules}
 use Rattle.token.proofs.is_all_tokens.Given as goal
 
 abbrev pub invariant-loop-i : goal.invariant-loop-i

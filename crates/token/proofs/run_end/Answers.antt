@@ -1,12 +1,9 @@
 -- `token::run_end` meets its contract: the bytes that go on from each offset passed end where those from the first one do.
-use Prim.Native.Nat.{◌-◌}
-use mathlib.Core.Path.{◌≡◌, sym, ◌∙◌}
+use mathlib.Core.Path.{sym, ◌∙◌}
 use native.Mathlib.Omega.{arith}
-use lib.ListN.{length}
-use Rattle.base.proofs.Lists.{end_from, passes_inside, end_more, end_none}
+use Rattle.base.proofs.Lists.{passes_inside, end_more, end_none}
 use Rattle.token.specs.Code.Bytes.{goes_on}
 use Rattle.token.proofs.Classes.{goes_on_end}
-use borrow.Author.Rules.{rules}
 use Rattle.token.proofs.run_end.Goals as goal
 
 pub overflow_add-i : goal.overflow_add-i

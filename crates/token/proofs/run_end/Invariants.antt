@@ -1,11 +1,8 @@
 use Prim.Native.Nat.{◌-◌}
-use mathlib.Core.Path.{◌≡◌, sym, ◌∙◌}
-use native.Mathlib.Omega.{arith}
+use mathlib.Core.Path.{◌≡◌}
 use lib.ListN.{length}
-use Rattle.base.proofs.Lists.{end_from, passes_inside, end_more, end_none}
+use Rattle.base.proofs.Lists.{end_from}
 use Rattle.token.specs.Code.Bytes.{goes_on}
-use Rattle.token.proofs.Classes.{goes_on_end}
-use borrow.Author.Rules.{rules}
 use Rattle.token.proofs.run_end.Given as goal
 
 abbrev pub invariant-loop-i : goal.invariant-loop-i

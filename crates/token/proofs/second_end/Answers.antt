@@ -2,7 +2,6 @@
 use mathlib.Core.Path.{sym, ◌∙◌}
 use native.Mathlib.Omega.{arith}
 use Rattle.token.proofs.Tokens.{second_there, second-not}
-use borrow.Author.Rules.{rules}
 use Rattle.token.proofs.second_end.Goals as goal
 
 pub returns-then-is_equals_at : goal.returns-then-is_equals_at

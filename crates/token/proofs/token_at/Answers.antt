@@ -1,6 +1,5 @@
 -- `token::token_at` meets its contract: the bytes that go on from the first one are the first token.
 use Rattle.token.proofs.Tokens.{next_at, is_token, is_none}
-use borrow.Author.Rules.{rules}
 use Rattle.token.proofs.token_at.Goals as goal
 
 pub returns-then-start-text : goal.returns-then-start-text

@@ -5,7 +5,6 @@ use native.Mathlib.Omega.{arith}
 use borrow.Author.Tests.{eq-eqb, ne_eqb}
 use lib.ListN.{length, get_or, drop}
 use Rattle.token.proofs.Tokens.{rest_run, rest_none}
-use borrow.Author.Rules.{rules}
 use Rattle.token.proofs.token_end.Goals as goal
 
 pub returns-then-is_name_part : goal.returns-then-is_name_part

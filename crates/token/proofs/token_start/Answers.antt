@@ -1,11 +1,8 @@
 -- `token::token_start` meets its contract: the spaces from each place passed end where those from at do.
-use Prim.Native.Nat.{◌-◌}
-use mathlib.Core.Path.{◌≡◌, refl, sym, ◌∙◌}
+use mathlib.Core.Path.{refl, sym, ◌∙◌}
 use native.Mathlib.Omega.{arith}
-use lib.ListN.{length}
-use Rattle.base.proofs.Lists.{end_from, passes_inside, end_more, end_none}
+use Rattle.base.proofs.Lists.{passes_inside, end_more, end_none}
 use Rattle.token.specs.Token.{space}
-use borrow.Author.Rules.{rules}
 use Rattle.token.proofs.token_start.Goals as goal
 
 pub overflow_add-i : goal.overflow_add-i

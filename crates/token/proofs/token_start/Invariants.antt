@@ -1,10 +1,8 @@
 use Prim.Native.Nat.{◌-◌}
-use mathlib.Core.Path.{◌≡◌, refl, sym, ◌∙◌}
-use native.Mathlib.Omega.{arith}
+use mathlib.Core.Path.{◌≡◌}
 use lib.ListN.{length}
-use Rattle.base.proofs.Lists.{end_from, passes_inside, end_more, end_none}
+use Rattle.base.proofs.Lists.{end_from}
 use Rattle.token.specs.Token.{space}
-use borrow.Author.Rules.{rules}
 use Rattle.token.proofs.token_start.Given as goal
 
 abbrev pub invariant-loop-i : goal.invariant-loop-i

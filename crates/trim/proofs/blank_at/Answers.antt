@@ -9,7 +9,6 @@ use Rattle.base.proofs.Bytes.{at1}
 use Rattle.trim.specs.Trim.{white1}
 use Rattle.trim.specs.Code.Blank.{blanks_len}
 use Rattle.trim.proofs.Blanks.{at_feed, no_blank, none_here, one_here, three_here}
-use borrow.Author.Rules.{rules}
 use Rattle.trim.proofs.blank_at.Goals as goal
 
 pub returns-then-a-eq10 : goal.returns-then-a-eq10

@@ -1,11 +1,9 @@
 -- `trim::blanks_end` meets its contract: what is left ends where the whole does.
 -- Assumes nothing.
-use Prim.Native.Nat.{◌-◌}
-use mathlib.Core.Path.{◌≡◌, refl, ap}
+use mathlib.Core.Path.{refl, ap}
 use native.Mathlib.Omega.{arith}
-use lib.ListN.{length, drop_of_length-le}
-use Rattle.trim.specs.Code.Blank.{blanks_len, blanks_end}
-use borrow.Author.Rules.{rules}
+use lib.ListN.{drop_of_length-le}
+use Rattle.trim.specs.Code.Blank.{blanks_len}
 use Rattle.trim.proofs.blanks_end.Goals as goal
 
 pub loop-i-init : goal.loop-i-init

@@ -1,9 +1,7 @@
 use Prim.Native.Nat.{◌-◌}
-use mathlib.Core.Path.{◌≡◌, refl, ap}
-use native.Mathlib.Omega.{arith}
-use lib.ListN.{length, drop_of_length-le}
-use Rattle.trim.specs.Code.Blank.{blanks_len, blanks_end}
-use borrow.Author.Rules.{rules}
+use mathlib.Core.Path.{◌≡◌}
+use lib.ListN.{length}
+use Rattle.trim.specs.Code.Blank.{blanks_end}
 use Rattle.trim.proofs.blanks_end.Given as goal
 
 abbrev pub invariant-loop-i : goal.invariant-loop-i

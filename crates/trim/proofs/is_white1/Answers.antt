@@ -1,7 +1,6 @@
 -- `trim::is_white1` meets its contract: the two tests stand in either order.
 -- Assumes nothing.
 use mathlib.Core.Bool.{or_comm}
-use borrow.Author.Rules.{rules}
 use lib.Dec.{eqb}
 use Rattle.base.specs.Range.{within}
 use Rattle.trim.proofs.is_white1.Goals as goal

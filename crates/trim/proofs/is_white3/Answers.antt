@@ -1,6 +1,5 @@
 -- `trim::is_white3` meets its contract: the tests are joined as the definition joins them.
 -- Assumes nothing.
-use borrow.Author.Rules.{rules}
 use Rattle.trim.proofs.is_white3.Goals as goal
 
 pub returns : goal.returns

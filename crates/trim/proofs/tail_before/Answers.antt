@@ -9,7 +9,6 @@ use Rattle.trim.specs.Code.Trims.{back2, back3}
 use Rattle.trim.proofs.White.{not1}
 use Rattle.trim.proofs.Laws.{yes2, yes3, no3, end1, end2}
 use Rattle.trim.proofs.Steps.{stays, goes, none, before1, before2, before3}
-use borrow.Author.Rules.{rules}
 use Rattle.trim.proofs.tail_before.Goals as goal
 
 pub returns-then-e-lt2 : goal.returns-then-e-lt2

@@ -7,7 +7,6 @@ use lib.ListN.{length-drop, drop}
 use Rattle.base.proofs.Bytes.{at3}
 use Rattle.trim.specs.Code.Trims.{three_len}
 use Rattle.trim.proofs.Steps.{three_short}
-use borrow.Author.Rules.{rules}
 use Rattle.trim.proofs.three_at.Goals as goal
 
 pub returns-then-s-at-lt3 : goal.returns-then-s-at-lt3

@@ -1,9 +1,8 @@
 -- `trim::trim_start` meets its contract: what is left has the same trimmed text as the whole.
 -- Assumes nothing.
-use Prim.Native.Nat.{ℕ, ◌≤◌, ◌-◌}
+use Prim.Native.Nat.{ℕ, ◌≤◌}
 use mathlib.Core.Path.{◌≡◌, refl, sym, ap, ◌∙◌}
 use mathlib.Core.List.{List}
-use mathlib.Core.Logic.{⊎_elim}
 use native.Mathlib.Omega.{arith}
 use lib.ListN.{length, drop, drop_of_length-le, length-drop}
 use Rattle.base.proofs.Parts.{take-length-drop}

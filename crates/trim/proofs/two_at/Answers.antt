@@ -9,7 +9,6 @@ use Rattle.trim.specs.Trim.{white2, white3}
 use Rattle.trim.proofs.White.{not1, not3}
 use Rattle.trim.proofs.Laws.{yes2, no2, end1}
 use Rattle.trim.proofs.Steps.{stays, goes}
-use borrow.Author.Rules.{rules}
 use Rattle.trim.proofs.two_at.Goals as goal
 
 pub returns-then-s-at-lt2 : goal.returns-then-s-at-lt2

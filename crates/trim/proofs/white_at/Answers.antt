@@ -10,7 +10,6 @@ use Rattle.trim.specs.Trim.{white2, white3}
 use Rattle.trim.proofs.White.{not1}
 use Rattle.trim.proofs.Laws.{yes1, start_stays}
 use Rattle.trim.proofs.Steps.{stays, goes, white_three}
-use borrow.Author.Rules.{rules}
 use Rattle.trim.proofs.white_at.Goals as goal
 
 pub returns-then-is_white1 : goal.returns-then-is_white1

@@ -9,7 +9,6 @@ use Rattle.trim.specs.Code.Trims.{back2, back3}
 use Rattle.trim.proofs.White.{not1}
 use Rattle.trim.proofs.Laws.{yes1, back_stays}
 use Rattle.trim.proofs.Steps.{stays, goes, before1}
-use borrow.Author.Rules.{rules}
 use Rattle.trim.proofs.white_before.Goals as goal
 
 pub returns-then-is_white1 : goal.returns-then-is_white1

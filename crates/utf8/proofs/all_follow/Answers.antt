@@ -1,12 +1,10 @@
 -- `utf8::all_follow` meets its contract: each byte so far follows the three before it.
 -- Assumes nothing.
-use Prim.Native.Nat.{◌-◌, ◌≤◌}
 use mathlib.Core.Path.{◌≡◌, sym, ◌∙◌}
 use mathlib.Core.Bool.{true}
 use native.Mathlib.Omega.{arith}
 use Rattle.base.proofs.Skips.{both_more}
-use Rattle.utf8.specs.Code.Windows.{follows_at, Follow}
-use borrow.Author.Rules.{rules}
+use Rattle.utf8.specs.Code.Windows.{follows_at}
 use Rattle.utf8.proofs.all_follow.Goals as goal
 
 pub loop-k-init : goal.loop-k-init

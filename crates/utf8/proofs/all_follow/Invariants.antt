@@ -1,10 +1,7 @@
 use Prim.Native.Nat.{◌-◌, ◌≤◌}
-use mathlib.Core.Path.{◌≡◌, sym, ◌∙◌}
+use mathlib.Core.Path.{◌≡◌}
 use mathlib.Core.Bool.{true}
-use native.Mathlib.Omega.{arith}
-use Rattle.base.proofs.Skips.{both_more}
-use Rattle.utf8.specs.Code.Windows.{follows_at, Follow}
-use borrow.Author.Rules.{rules}
+use Rattle.utf8.specs.Code.Windows.{Follow}
 use Rattle.utf8.proofs.all_follow.Given as goal
 
 abbrev pub invariant-loop-k : goal.invariant-loop-k

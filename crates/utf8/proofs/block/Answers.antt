@@ -2,11 +2,9 @@
 -- Assumes nothing.
 use Prim.Native.Nat.{◌-◌}
 use mathlib.Core.Path.{sym, ◌∙◌}
-use borrow.Author.Tests.{not-false}
 use native.Mathlib.Omega.{arith}
 use Rattle.base.proofs.Skips.{skips_none}
 use Rattle.utf8.proofs.Whole.{skips_block}
-use borrow.Author.Rules.{rules}
 use Rattle.utf8.proofs.block.Goals as goal
 
 pub returns-then-is_ascii : goal.returns-then-is_ascii

@@ -1,13 +1,8 @@
 -- `utf8::characters` meets its contract: what is left is UTF-8 where the text from at on is.
 -- Assumes nothing.
-use Prim.Native.Nat.{◌-◌}
 use mathlib.Core.Path.{refl}
 use native.Mathlib.Omega.{arith}
-use lib.ListN.{length}
-use Rattle.base.specs.Code.Skips.{SkipsTo}
 use Rattle.base.proofs.Skips.{skips_none, skips_on}
-use Rattle.utf8.specs.Code.From.{utf8_from}
-use borrow.Author.Rules.{rules}
 use Rattle.utf8.proofs.characters.Goals as goal
 
 pub loop-i-init : goal.loop-i-init

@@ -1,11 +1,7 @@
 use Prim.Native.Nat.{◌-◌}
-use mathlib.Core.Path.{refl}
-use native.Mathlib.Omega.{arith}
 use lib.ListN.{length}
 use Rattle.base.specs.Code.Skips.{SkipsTo}
-use Rattle.base.proofs.Skips.{skips_none, skips_on}
 use Rattle.utf8.specs.Code.From.{utf8_from}
-use borrow.Author.Rules.{rules}
 use Rattle.utf8.proofs.characters.Given as goal
 
 abbrev pub invariant-loop-i : goal.invariant-loop-i

@@ -1,6 +1,5 @@
 -- `utf8::does_follow` meets its contract: the tests are those of the definition.
 -- Assumes nothing.
-use borrow.Author.Rules.{rules}
 use Rattle.utf8.proofs.does_follow.Goals as goal
 
 pub returns : goal.returns

@@ -5,7 +5,6 @@ use native.Mathlib.Nat.{le_trans}
 use native.Mathlib.Omega.{arith}
 use Rattle.base.proofs.Tests.{false_true}
 use Rattle.utf8.proofs.Laws.{ascii}
-use borrow.Author.Rules.{rules}
 use Rattle.utf8.proofs.is_ascii.Goals as goal
 
 pub returns-then-s-at : goal.returns-then-s-at

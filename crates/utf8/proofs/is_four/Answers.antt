@@ -1,7 +1,6 @@
 -- `utf8::is_four` meets its contract: by the range of the second byte.
 -- Assumes nothing.
 use Rattle.utf8.proofs.Second.{four_by}
-use borrow.Author.Rules.{rules}
 use Rattle.utf8.proofs.is_four.Goals as goal
 
 pub returns : goal.returns

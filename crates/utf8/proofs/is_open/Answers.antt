@@ -1,6 +1,5 @@
 -- `utf8::is_open` meets its contract: the tests are those of the definition.
 -- Assumes nothing.
-use borrow.Author.Rules.{rules}
 use Rattle.utf8.proofs.is_open.Goals as goal
 
 pub returns : goal.returns

@@ -1,4 +1,3 @@
-use borrow.Author.Rules.{rules}
 use Rattle.utf8.proofs.is_two.Goals as goal
 
 pub returns : goal.returns

@@ -1,14 +1,10 @@
 -- `utf8::is_utf8` meets its contract: the whole text is UTF-8 where what is left of it is.
 -- Assumes nothing.
-use Prim.Native.Nat.{◌-◌}
 use mathlib.Core.Path.{refl, sym, ap, ◌∙◌}
 use native.Mathlib.Omega.{arith}
-use lib.ListN.{length, drop_of_length-le}
-use Rattle.base.specs.Code.Skips.{SkipsTo}
+use lib.ListN.{drop_of_length-le}
 use Rattle.base.proofs.Skips.{skips_none, skips_on}
 use Rattle.utf8.specs.Utf8.{utf8}
-use Rattle.utf8.specs.Code.From.{utf8_from}
-use borrow.Author.Rules.{rules}
 use Rattle.utf8.proofs.is_utf8.Goals as goal
 
 pub loop-i-init : goal.loop-i-init

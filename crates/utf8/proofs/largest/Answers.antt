@@ -1,13 +1,11 @@
 -- `utf8::largest` meets its contract: the largest so far is at least each byte passed.
 -- Assumes nothing.
-use Prim.Native.Nat.{◌-◌, ◌≤◌}
+use Prim.Native.Nat.{◌≤◌}
 use mathlib.Core.Path.{◌≡◌}
 use native.Mathlib.Nat.{le_trans}
 use native.Mathlib.Omega.{arith}
 use lib.ListN.{get_or}
-use Rattle.base.specs.Code.Skips.{AllFrom}
 use Rattle.base.proofs.Skips.{all_more}
-use borrow.Author.Rules.{rules}
 use Rattle.utf8.proofs.largest.Goals as goal
 
 pub loop-k-init : goal.loop-k-init

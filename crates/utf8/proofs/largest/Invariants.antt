@@ -1,11 +1,6 @@
 use Prim.Native.Nat.{◌-◌, ◌≤◌}
-use mathlib.Core.Path.{◌≡◌}
-use native.Mathlib.Nat.{le_trans}
-use native.Mathlib.Omega.{arith}
 use lib.ListN.{get_or}
 use Rattle.base.specs.Code.Skips.{AllFrom}
-use Rattle.base.proofs.Skips.{all_more}
-use borrow.Author.Rules.{rules}
 use Rattle.utf8.proofs.largest.Given as goal
 
 abbrev pub invariant-loop-k : goal.invariant-loop-k

@@ -2,7 +2,6 @@
 -- Assumes nothing.
 use native.Mathlib.Omega.{arith}
 use Rattle.utf8.proofs.Laws.{at_one, skipped}
-use borrow.Author.Rules.{rules}
 use Rattle.utf8.proofs.step.Goals as goal
 
 pub returns-then-is_ascii : goal.returns-then-is_ascii

@@ -3,7 +3,6 @@
 use mathlib.Core.Path.{sym, ◌∙◌}
 use native.Mathlib.Omega.{arith}
 use Rattle.utf8.proofs.Laws.{chosen, refused, at_two, short_two}
-use borrow.Author.Rules.{rules}
 use Rattle.utf8.proofs.step2.Goals as goal
 
 pub returns-then-s-at-lt2 : goal.returns-then-s-at-lt2

@@ -3,7 +3,6 @@
 use mathlib.Core.Path.{sym, ◌∙◌}
 use native.Mathlib.Omega.{arith}
 use Rattle.utf8.proofs.Laws.{chosen, refused, at_four, short_four}
-use borrow.Author.Rules.{rules}
 use Rattle.utf8.proofs.step4.Goals as goal
 
 pub returns-then-s-at-lt4 : goal.returns-then-s-at-lt4

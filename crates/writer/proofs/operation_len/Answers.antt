@@ -2,16 +2,15 @@
 use Prim.Native.Nat.{ℕ, ◌≤◌}
 use mathlib.Core.Path.{◌≡◌, refl}
 use mathlib.Core.List.{[], ◌∷◌}
-use mathlib.Core.Logic.{inl, inr, ⊎_elim}
+use mathlib.Core.Logic.{⊎_elim}
 use native.Mathlib.Omega.{arith}
 use lib.ListN.{length, length-append}
 use Rattle.decimal.specs.Decimal.{decimal}
 use Rattle.decimal.proofs.Laws.{length_word}
 use Rattle.kinds.specs.Kinds.{operation}
-use Rattle.kinds.proofs.ByKind.{end, ◌&◌, span, past}
+use Rattle.kinds.proofs.ByKind.{end, ◌&◌, span}
 use Rattle.mnemonic.specs.Written.{written}
 use Rattle.writer.proofs.Lines.{no_word}
-use borrow.Author.Rules.{rules}
 use Rattle.writer.proofs.operation_len.Goals as goal
 
 pub overflow_add-result : goal.overflow_add-result

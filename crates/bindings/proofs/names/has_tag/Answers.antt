@@ -1,10 +1,9 @@
 -- `bindings::names::has_tag` meets its contract: what is compared so far.
-use Prim.Native.Nat.{ℕ, ◌-◌, ◌≤◌}
+use Prim.Native.Nat.{ℕ}
 use mathlib.Core.Path.{◌≡◌, ap, ◌∙◌}
 use native.Mathlib.Omega.{arith}
 use Rattle.bindings.specs.Code.Table.{has_tag}
 use Rattle.bindings.proofs.Tags.{has_none, has_more}
-use borrow.Author.Rules.{rules}
 use Rattle.bindings.proofs.names.has_tag.Goals as goal
 
 pub loop-i-init : goal.loop-i-init

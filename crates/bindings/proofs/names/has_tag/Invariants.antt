@@ -1,9 +1,6 @@
-use Prim.Native.Nat.{ℕ, ◌-◌, ◌≤◌}
-use mathlib.Core.Path.{◌≡◌, ap, ◌∙◌}
-use native.Mathlib.Omega.{arith}
+use Prim.Native.Nat.{◌-◌, ◌≤◌}
+use mathlib.Core.Path.{◌≡◌}
 use Rattle.bindings.specs.Code.Table.{has_tag}
-use Rattle.bindings.proofs.Tags.{has_none, has_more}
-use borrow.Author.Rules.{rules}
 use Rattle.bindings.proofs.names.has_tag.Given as goal
 
 abbrev pub invariant-loop-i : goal.invariant-loop-i

@@ -1,6 +1,5 @@
 -- `bindings::names::is_called` meets its contract: by the tag, then by the name.
 use Rattle.bindings.proofs.Lookup.{called_other, called_by}
-use borrow.Author.Rules.{rules}
 use Rattle.bindings.proofs.names.is_called.Goals as goal
 
 pub returns-then-tags-i : goal.returns-then-tags-i

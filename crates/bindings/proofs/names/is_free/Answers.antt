@@ -1,6 +1,5 @@
 -- `bindings::names::is_free` meets its contract: fewer than 16 are no block.
 use Rattle.bindings.proofs.Tags.{free_few, free_block}
-use borrow.Author.Rules.{rules}
 use Rattle.bindings.proofs.names.is_free.Goals as goal
 
 pub returns-then-left-lt16 : goal.returns-then-left-lt16

@@ -2,7 +2,6 @@
 use native.Mathlib.Omega.{arith}
 use mathlib.Core.Path.{◌∙◌}
 use Rattle.bindings.proofs.Lookup.{name_outside, name_other, name_same}
-use borrow.Author.Rules.{rules}
 use Rattle.bindings.proofs.names.is_name.Goals as goal
 
 pub returns-then-name-size : goal.returns-then-name-size

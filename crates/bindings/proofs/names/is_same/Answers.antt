@@ -1,11 +1,7 @@
 -- `bindings::names::is_same` meets its contract: what is left of the two parts is the same exactly where they are.
-use lib.ListN.{take, drop}
-use Rattle.base.specs.Equal.{equal}
-use Rattle.bindings.proofs.Lookup.{same_from, same_start, same_more, same_stop, same_end}
-use Prim.Native.Nat.{◌-◌, ◌≤◌}
-use mathlib.Core.Path.{◌≡◌, sym, ◌∙◌}
+use Rattle.bindings.proofs.Lookup.{same_start, same_more, same_stop, same_end}
+use mathlib.Core.Path.{sym, ◌∙◌}
 use native.Mathlib.Omega.{arith}
-use borrow.Author.Rules.{rules}
 use Rattle.bindings.proofs.names.is_same.Goals as goal
 
 pub loop-i-init : goal.loop-i-init

@@ -1,10 +1,8 @@
 use lib.ListN.{take, drop}
 use Rattle.base.specs.Equal.{equal}
-use Rattle.bindings.proofs.Lookup.{same_from, same_start, same_more, same_stop, same_end}
+use Rattle.bindings.proofs.Lookup.{same_from}
 use Prim.Native.Nat.{◌-◌, ◌≤◌}
-use mathlib.Core.Path.{◌≡◌, sym, ◌∙◌}
-use native.Mathlib.Omega.{arith}
-use borrow.Author.Rules.{rules}
+use mathlib.Core.Path.{◌≡◌}
 use Rattle.bindings.proofs.names.is_same.Given as goal
 
 abbrev pub invariant-loop-i : goal.invariant-loop-i

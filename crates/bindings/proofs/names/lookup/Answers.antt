@@ -1,11 +1,8 @@
 -- `bindings::names::lookup` meets its contract: the bindings passed have other names.
-use Prim.Native.Nat.{◌≤◌}
 use native.Mathlib.Omega.{arith}
-use mathlib.Core.Path.{◌≡◌, sym, ◌∙◌}
+use mathlib.Core.Path.{sym, ◌∙◌}
 use lib.ListN.{take, drop}
-use Rattle.bindings.specs.Code.Table.{tag_of, found}
 use Rattle.bindings.proofs.Lookup.{found_here, found_older, found_none}
-use borrow.Author.Rules.{rules}
 use Rattle.bindings.proofs.names.lookup.Goals as goal
 
 pub loop-left-init : goal.loop-left-init

@@ -1,10 +1,7 @@
 use Prim.Native.Nat.{◌≤◌}
-use native.Mathlib.Omega.{arith}
-use mathlib.Core.Path.{◌≡◌, sym, ◌∙◌}
+use mathlib.Core.Path.{◌≡◌}
 use lib.ListN.{take, drop}
 use Rattle.bindings.specs.Code.Table.{tag_of, found}
-use Rattle.bindings.proofs.Lookup.{found_here, found_older, found_none}
-use borrow.Author.Rules.{rules}
 use Rattle.bindings.proofs.names.lookup.Given as goal
 
 abbrev pub invariant-loop-left : goal.invariant-loop-left

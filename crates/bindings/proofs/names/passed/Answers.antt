@@ -1,9 +1,7 @@
 -- `bindings::names::passed` meets its contract: block by block.
 use mathlib.Core.Path.{refl, sym, ◌∙◌}
 use native.Mathlib.Omega.{arith}
-use Rattle.bindings.specs.Code.Table.{Passes}
 use Rattle.bindings.proofs.Tags.{free_room, free_passes}
-use borrow.Author.Rules.{rules}
 use Rattle.bindings.proofs.names.passed.Goals as goal
 
 pub loop-left-init : goal.loop-left-init

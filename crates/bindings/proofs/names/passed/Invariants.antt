@@ -1,8 +1,4 @@
-use mathlib.Core.Path.{refl, sym, ◌∙◌}
-use native.Mathlib.Omega.{arith}
 use Rattle.bindings.specs.Code.Table.{Passes}
-use Rattle.bindings.proofs.Tags.{free_room, free_passes}
-use borrow.Author.Rules.{rules}
 use Rattle.bindings.proofs.names.passed.Given as goal
 
 abbrev pub invariant-loop-left : goal.invariant-loop-left

@@ -2,7 +2,6 @@
 use mathlib.Core.Path.{◌∙◌}
 use native.Mathlib.Omega.{arith}
 use Rattle.bindings.proofs.Tags.{tag_empty, tag_part}
-use borrow.Author.Rules.{rules}
 use Rattle.bindings.proofs.names.tag_of.Goals as goal
 
 pub returns-then-len-eq0 : goal.returns-then-len-eq0

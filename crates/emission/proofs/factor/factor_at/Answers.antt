@@ -6,7 +6,6 @@ use lib.Seq.{length-take-le}
 use Rattle.emission.specs.declared.factor.Factor.{Factor}
 use Rattle.emission.specs.declared.factor.FactorAt.{FactorAt}
 use Rattle.emission.proofs.Factors.{factor_none, token, token_inside, factor_open, factor-literal, factor_name}
-use borrow.Author.Rules.{rules}
 use Rattle.emission.proofs.factor.factor_at.Goals as goal
 
 with_factor : (end : ℕ) {f g : Factor} {r : FactorAt} → f ≡ g → ◌≡◌ {A = FactorAt} (record { factor = g; end = end }) r → ◌≡◌ {A = FactorAt} (record { factor = f; end = end }) r

@@ -5,7 +5,6 @@ use Rattle.base.specs.Lists.{take_while}
 use Rattle.decimal.specs.Decimal.{digit}
 use Rattle.decimal.specs.declared.Digits.{Digits}
 use Rattle.emission.proofs.Factors.{literal_is, literal_large}
-use borrow.Author.Rules.{rules}
 use Rattle.emission.proofs.factor.literal.Goals as goal
 
 pub returns-in-Is : goal.returns-in-Is

@@ -1,7 +1,6 @@
 -- `emission::factor::named` meets its contract: by what is found.
 use mathlib.Core.Path.{sym, ap}
 use Rattle.emission.specs.Code.Factor.{named_by}
-use borrow.Author.Rules.{rules}
 use Rattle.emission.proofs.factor.named.Goals as goal
 
 pub returns-in-At : goal.returns-in-At

@@ -5,7 +5,6 @@ use lib.Seq.{length-take-le}
 use Rattle.expression.specs.declared.parts.Sign.{Sign}
 use Rattle.emission.proofs.OperatorStep.{operator_pops, operator_room, operator_turns, close_pops, close_mark, close_turns}
 use Rattle.writer.proofs.Pieces.{overwrites_length}
-use borrow.Author.Rules.{rules}
 use Rattle.emission.proofs.operator.operate.Goals as goal
 
 pub slice_bounds-sign_at-end : goal.slice_bounds-sign_at-end

@@ -1,6 +1,5 @@
 -- `emission::waiting::level_of` meets its contract: by the sign.
 use mathlib.Core.Path.{sym, ◌∙◌}
-use borrow.Author.Rules.{rules}
 use Rattle.emission.proofs.waiting.level_of.Goals as goal
 
 pub returns-then-is_product : goal.returns-then-is_product

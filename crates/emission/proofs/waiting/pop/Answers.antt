@@ -1,7 +1,6 @@
 -- `emission::waiting::pop` meets its contract: operator by operator, the newest first.
 use native.Mathlib.Omega.{arith}
-use Rattle.emission.proofs.WaitingLoop.{Popping, popping_starts, popping_length, popping_empty, popping_shut, popping_fits, popping_more}
-use borrow.Author.Rules.{rules}
+use Rattle.emission.proofs.WaitingLoop.{popping_starts, popping_length, popping_empty, popping_shut, popping_fits, popping_more}
 use Rattle.emission.proofs.waiting.pop.Goals as goal
 
 pub loop-left-init : goal.loop-left-init

@@ -1,6 +1,4 @@
-use native.Mathlib.Omega.{arith}
-use Rattle.emission.proofs.WaitingLoop.{Popping, popping_starts, popping_length, popping_empty, popping_shut, popping_fits, popping_more}
-use borrow.Author.Rules.{rules}
+use Rattle.emission.proofs.WaitingLoop.{Popping}
 use Rattle.emission.proofs.waiting.pop.Given as goal
 
 abbrev pub invariant-loop-left : goal.invariant-loop-left

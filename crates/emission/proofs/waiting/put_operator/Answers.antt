@@ -1,5 +1,4 @@
 -- `emission::waiting::put_operator` meets its contract: the kind is that of the sign's operator.
-use borrow.Author.Rules.{rules}
 use Rattle.emission.proofs.waiting.put_operator.Goals as goal
 
 pub put_operation-requires : goal.put_operation-requires

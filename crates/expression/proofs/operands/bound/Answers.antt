@@ -1,5 +1,4 @@
 -- `expression::operands::bound` meets its contract: each figure is the table's.
-use borrow.Author.Rules.{rules}
 use Rattle.expression.proofs.operands.bound.Goals as goal
 
 pub returns : goal.returns

@@ -1,5 +1,4 @@
 -- `expression::operands::bound_value` meets its contract.
-use borrow.Author.Rules.{rules}
 use Rattle.expression.proofs.operands.bound_value.Goals as goal
 
 pub returns-else-none : goal.returns-else-none

@@ -1,7 +1,6 @@
 -- `expression::operands::close` meets its contract: the token at a place is the first of the list.
 use Rattle.expression.proofs.Signs.{next_of}
 use Rattle.expression.proofs.Atoms.{close_end, close_is, close_other}
-use borrow.Author.Rules.{rules}
 use Rattle.expression.proofs.operands.close.Goals as goal
 
 pub returns-then-start-end : goal.returns-then-start-end

@@ -8,7 +8,6 @@ use Rattle.decimal.specs.Decimal.{digit}
 use Rattle.decimal.specs.declared.Digits.{Digits}
 use Rattle.decimal.proofs.Laws.{length_word}
 use Rattle.expression.proofs.Atoms.{run_inside, literal_large, literal_is}
-use borrow.Author.Rules.{rules}
 use Rattle.expression.proofs.operands.literal.Goals as goal
 
 pub overflow_add-result : goal.overflow_add-result

@@ -5,7 +5,6 @@ use mathlib.Core.Path.{sym, ap, ◌∙◌}
 use lib.ListN.{take, drop}
 use Rattle.expression.specs.declared.ParseResult.TheVariants.{Done}
 use Rattle.bindings.proofs.Lookup.{found_below}
-use borrow.Author.Rules.{rules}
 use Rattle.expression.proofs.operands.name.Goals as goal
 
 pub bound-requires : goal.bound-requires

@@ -1,6 +1,5 @@
 -- `expression::operands::whole` meets its contract: the token at a place is the first of the list.
 use Rattle.expression.proofs.Meaning.{whole_done, whole_more}
-use borrow.Author.Rules.{rules}
 use Rattle.expression.proofs.operands.whole.Goals as goal
 
 pub returns-then-start-end : goal.returns-then-start-end

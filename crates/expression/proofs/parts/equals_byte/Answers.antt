@@ -6,7 +6,6 @@ use borrow.Author.Tests.{eq-eqb}
 use lib.Dec.{eqb}
 use Rattle.base.proofs.Lists.{passes_inside}
 use Rattle.expression.proofs.Signs.{symbol_pair, symbol_no_pair}
-use borrow.Author.Rules.{rules}
 use Rattle.expression.proofs.parts.equals_byte.Goals as goal
 
 pub bounds-text-start : goal.bounds-text-start

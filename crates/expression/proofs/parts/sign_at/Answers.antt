@@ -1,6 +1,5 @@
 -- `expression::parts::sign_at` meets its contract: the token at a place is the first of the list.
 use Rattle.expression.proofs.Signs.{next_of, sign_none, sign_some}
-use borrow.Author.Rules.{rules}
 use Rattle.expression.proofs.parts.sign_at.Goals as goal
 
 pub returns-then-start-end : goal.returns-then-start-end

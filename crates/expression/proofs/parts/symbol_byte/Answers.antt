@@ -2,7 +2,6 @@
 use native.Mathlib.Omega.{arith}
 use borrow.Author.Tests.{ne_eqb}
 use Rattle.expression.proofs.Signs.{symbol_one, symbol_more}
-use borrow.Author.Rules.{rules}
 use Rattle.expression.proofs.parts.symbol_byte.Goals as goal
 
 pub equals_byte-requires : goal.equals_byte-requires

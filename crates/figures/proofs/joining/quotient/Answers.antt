@@ -1,5 +1,5 @@
 -- `figures::joining::quotient` meets its contract: 0 divides nothing.
-use Rattle.std.proofs.Common.{rules, eq-eqb, ne_eqb}
+use Rattle.std.proofs.Common.{eq-eqb, ne_eqb}
 use Rattle.figures.proofs.joining.quotient.Goals as goal
 
 pub returns-then-y-eq0 : goal.returns-then-y-eq0

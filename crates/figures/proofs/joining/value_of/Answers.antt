@@ -1,5 +1,5 @@
 -- `figures::joining::value_of` meets its contract: the sign decides the operator as in the definition.
-use Rattle.std.proofs.Common.{◌≡◌, ℕ, ◌+◌, ◌-◌, ◌%◌, ◌^◌, ◌<◌, ap, arith, rules}
+use Rattle.std.proofs.Common.{◌≡◌, ℕ, ◌+◌, ◌-◌, ◌%◌, ◌^◌, ◌<◌, ap, arith}
 use mathlib.Core.Option.{some}
 use Rattle.grammar.proofs.Steps.{operator-div}
 use Rattle.figures.proofs.joining.value_of.Goals as goal
