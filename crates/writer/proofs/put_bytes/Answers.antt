@@ -1,10 +1,7 @@
 -- `writer::put_bytes` meets its contract: byte by byte.
-use Prim.Native.Nat.{◌-◌}
-use mathlib.Core.Path.{◌≡◌, refl}
+use mathlib.Core.Path.{refl}
 use native.Mathlib.Omega.{arith}
-use lib.ListN.{length}
-use Rattle.writer.proofs.Pieces.{Filling, fill_none, fill_length, fill_more, fill_all}
-use borrow.Author.Rules.{rules}
+use Rattle.writer.proofs.Pieces.{fill_none, fill_length, fill_more, fill_all}
 use Rattle.writer.proofs.put_bytes.Goals as goal
 
 pub loop-j-init : goal.loop-j-init

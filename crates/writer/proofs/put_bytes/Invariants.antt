@@ -1,9 +1,7 @@
 use Prim.Native.Nat.{◌-◌}
-use mathlib.Core.Path.{◌≡◌, refl}
-use native.Mathlib.Omega.{arith}
+use mathlib.Core.Path.{◌≡◌}
 use lib.ListN.{length}
-use Rattle.writer.proofs.Pieces.{Filling, fill_none, fill_length, fill_more, fill_all}
-use borrow.Author.Rules.{rules}
+use Rattle.writer.proofs.Pieces.{Filling}
 use Rattle.writer.proofs.put_bytes.Given as goal
 
 abbrev pub invariant-loop-j : goal.invariant-loop-j

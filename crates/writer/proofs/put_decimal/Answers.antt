@@ -1,6 +1,5 @@
 -- `writer::put_decimal` meets its contract: the number has room.
 use Rattle.writer.proofs.Pieces.{decimal_put, decimal_room}
-use borrow.Author.Rules.{rules}
 use Rattle.writer.proofs.put_decimal.Goals as goal
 
 pub returns-in-To : goal.returns-in-To

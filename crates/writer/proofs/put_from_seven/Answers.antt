@@ -1,7 +1,5 @@
 -- `writer::put_from_seven` meets its contract: each arm by the number of its kind.
 use native.Mathlib.Omega.{arith}
-use Rattle.kinds.proofs.ByKind.{end, ◌&◌, past}
-use borrow.Author.Rules.{rules}
 use Rattle.writer.proofs.put_from_seven.Goals as goal
 
 pub put_with-requires : goal.put_with-requires

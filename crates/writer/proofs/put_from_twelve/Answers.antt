@@ -1,8 +1,6 @@
 -- `writer::put_from_twelve` meets its contract: each arm by the number of its kind, and none has a word behind the last.
 use native.Mathlib.Omega.{arith}
-use Rattle.kinds.proofs.ByKind.{end, ◌&◌, past}
 use Rattle.writer.proofs.Lines.{no_word}
-use borrow.Author.Rules.{rules}
 use Rattle.writer.proofs.put_from_twelve.Goals as goal
 
 pub put_with-requires : goal.put_with-requires

@@ -1,7 +1,5 @@
 -- `writer::put_operation` meets its contract: each arm by the number of its kind.
 use native.Mathlib.Omega.{arith}
-use Rattle.kinds.proofs.ByKind.{end, ◌&◌, past}
-use borrow.Author.Rules.{rules}
 use Rattle.writer.proofs.put_operation.Goals as goal
 
 pub put_push-requires : goal.put_push-requires

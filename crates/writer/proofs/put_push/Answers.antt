@@ -1,6 +1,5 @@
 -- `writer::put_push` meets its contract: three pieces.
 use Rattle.writer.proofs.Lines.{number_fits, feed_fits, line_whole}
-use borrow.Author.Rules.{rules}
 use Rattle.writer.proofs.put_push.Goals as goal
 
 pub put_decimal-end-requires : goal.put_decimal-end-requires

@@ -1,7 +1,6 @@
 -- `writer::put_with` meets its contract: three pieces.
 use native.Mathlib.Omega.{arith}
 use Rattle.writer.proofs.Lines.{line_length, number_fits, feed_fits, line_whole}
-use borrow.Author.Rules.{rules}
 use Rattle.writer.proofs.put_with.Goals as goal
 
 pub put_bytes-number-requires : goal.put_bytes-number-requires
