@@ -10,7 +10,6 @@ use Rattle.numbered.specs.declared.Numbered.{Numbered}
 use Rattle.decimal.specs.Decimal.{value}
 use Rattle.decimal.specs.Code.Digits.{capped}
 use Rattle.decimal.specs.declared.Value.{Value}
-use Rattle.decimal.specs.declared.Value.TheVariants as Value
 use Rattle.source.specs.Vector.{of_digits}
 use Rattle.source.specs.declared.vector.KeyError.TheVariants.{NoDigit, TooLarge}
 use Rattle.source.specs.declared.vector.KeyValue.{KeyValue}

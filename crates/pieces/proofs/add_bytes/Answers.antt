@@ -6,7 +6,6 @@ use native.Mathlib.Omega.{arith}
 use lib.ListN.{length}
 use lib.Seq.{length-take-le}
 use Rattle.pieces.proofs.Laws.{add_none, add_all, add_some}
-use borrow.Author.Rules.{rules}
 use Rattle.pieces.proofs.add_bytes.Goals as goal
 
 pub returns-then-size-len : goal.returns-then-size-len

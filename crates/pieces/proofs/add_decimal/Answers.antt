@@ -5,7 +5,6 @@ use native.Mathlib.Omega.{arith}
 use lib.Seq.{length-take-le}
 use Rattle.decimal.proofs.Laws.{length_word}
 use Rattle.pieces.proofs.Laws.{added_same, digits_fit, digits_are}
-use borrow.Author.Rules.{rules}
 use Rattle.pieces.proofs.add_decimal.Goals as goal
 
 pub put_decimal-count-requires : goal.put_decimal-count-requires

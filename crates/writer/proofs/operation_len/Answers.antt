@@ -1,5 +1,5 @@
 -- `writer::operation_len` meets its contract: each arm by the numbers of its kinds.
-use Prim.Native.Nat.{ℕ, ◌≤◌}
+use Prim.Native.Nat.{ℕ}
 use mathlib.Core.Path.{◌≡◌, refl}
 use mathlib.Core.List.{[], ◌∷◌}
 use mathlib.Core.Logic.{⊎_elim}
@@ -49,17 +49,14 @@ returns-in-13 c = rw c.in-13.is refl
 pub returns-in-1 : goal.returns-in-1
 returns-in-1 c =
     let a = c.args in
-    let low : 1 ≤ a.kind = grind arith in
-    span {P = λ j. ◌≡◌ {A = ℕ} 4 (length (written (operation j a.operand)))} 1 5 a.kind (refl & refl & refl & refl & refl & end) low (omega arith)
+    span {P = λ j. ◌≡◌ {A = ℕ} 4 (length (written (operation j a.operand)))} 1 5 a.kind (refl & refl & refl & refl & refl & end) (grind arith) (omega arith)
 
 pub returns-in-9 : goal.returns-in-9
 returns-in-9 c =
     let a = c.args in
-    let low : 9 ≤ a.kind = grind arith in
-    span {P = λ j. ◌≡◌ {A = ℕ} 3 (length (written (operation j a.operand)))} 9 2 a.kind (refl & refl & end) low (omega arith)
+    span {P = λ j. ◌≡◌ {A = ℕ} 3 (length (written (operation j a.operand)))} 9 2 a.kind (refl & refl & end) (grind arith) (omega arith)
 
 pub returns-in_default : goal.returns-in_default
 returns-in_default c =
     let a = c.args in
-    let high : 16 ≤ a.kind = grind arith in
-    rw (no_word a.kind a.operand high) refl
+    rw (no_word a.kind a.operand (grind arith)) refl

@@ -1,7 +1,6 @@
 -- `source::parameters::cut` meets its contract: by what the search found.
 use mathlib.Core.Path.{sym, ◌∙◌}
 use Rattle.source.proofs.Cuts.{cut_found, cut_absent}
-use borrow.Author.Rules.{rules}
 use Rattle.source.proofs.parameters.cut.Goals as goal
 
 pub returns-in-At : goal.returns-in-At

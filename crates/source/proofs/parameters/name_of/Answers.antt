@@ -5,7 +5,6 @@ use native.Mathlib.Omega.{arith}
 use lib.ListN.{length}
 use lib.Seq.{length-take-le}
 use Rattle.source.proofs.Names.{whole_fits, colon_fits, name_is, name_inside}
-use borrow.Author.Rules.{rules}
 use Rattle.source.proofs.parameters.name_of.Goals as goal
 use Rattle.source.proofs.parameters.name_of.Goals.{After-trimmed_span-name, After-trimmed_span-whole}
 

@@ -1,12 +1,8 @@
 -- `source::parameters::next_of` meets its contract: the pieces that are passed have empty names, so the next parameter from `at` on is the next from `i` on.
-use Prim.Native.Nat.{◌-◌}
-use mathlib.Core.Path.{◌≡◌, sym, ◌∙◌}
+use mathlib.Core.Path.{sym, ◌∙◌}
 use native.Mathlib.Omega.{arith}
-use lib.ListN.{length}
-use Rattle.source.specs.Code.Cursor.{parameter_at}
 use Rattle.source.proofs.Pieces.{past, Stands, stands}
 use Rattle.source.proofs.Cursor.{here, skipped}
-use borrow.Author.Rules.{rules}
 use Rattle.source.proofs.parameters.next_of.Goals as goal
 use Rattle.source.proofs.parameters.next_of.Goals.{After-parameter_at-parameter}
 

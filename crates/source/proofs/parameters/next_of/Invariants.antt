@@ -1,11 +1,7 @@
 use Prim.Native.Nat.{◌-◌}
-use mathlib.Core.Path.{◌≡◌, sym, ◌∙◌}
-use native.Mathlib.Omega.{arith}
+use mathlib.Core.Path.{◌≡◌}
 use lib.ListN.{length}
 use Rattle.source.specs.Code.Cursor.{parameter_at}
-use Rattle.source.proofs.Pieces.{past, Stands, stands}
-use Rattle.source.proofs.Cursor.{here, skipped}
-use borrow.Author.Rules.{rules}
 use Rattle.source.proofs.parameters.next_of.Given as goal
 
 abbrev pub invariant-loop-i : goal.invariant-loop-i

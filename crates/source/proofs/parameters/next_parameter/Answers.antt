@@ -5,7 +5,6 @@ use Prim.Native.Nat.{ℕ}
 use native.Mathlib.Omega.{arith}
 use lib.Seq.{take_all, length-take-le}
 use Rattle.source.specs.Code.Cursor.{parameter_at}
-use borrow.Author.Rules.{rules}
 use Rattle.source.proofs.parameters.next_parameter.Goals as goal
 
 pub returns-then-text-end : goal.returns-then-text-end

@@ -4,7 +4,6 @@ use native.Mathlib.Omega.{arith}
 use lib.ListN.{length}
 use Rattle.source.proofs.Cuts.{cut_length}
 use Rattle.source.proofs.Pieces.{placed_inside, placed_last, placed_more}
-use borrow.Author.Rules.{rules}
 use Rattle.source.proofs.parameters.parameter_at.Goals as goal
 use Rattle.source.proofs.parameters.parameter_at.Goals.{After-name_of-name}
 

@@ -3,7 +3,6 @@ use mathlib.Core.Path.{ap}
 use native.Mathlib.Omega.{arith}
 use lib.ListN.{length}
 use Rattle.trim.proofs.Laws.{start_trimmed-length}
-use borrow.Author.Rules.{rules}
 use Rattle.source.proofs.parameters.trimmed_span.Goals as goal
 
 pub overflow_sub-start : goal.overflow_sub-start

@@ -6,7 +6,6 @@ use Rattle.decimal.specs.Decimal.{digit}
 use Rattle.decimal.specs.declared.Digits.{Digits}
 use Rattle.source.specs.Vector.{of_digits}
 use Rattle.source.proofs.Numbers.{as_key_value, no_digit, some_digits}
-use borrow.Author.Rules.{rules}
 use Rattle.source.proofs.vector.leading_number.Goals as goal
 use Rattle.source.proofs.vector.leading_number.Goals.{After-digits_at-run, Else-run-eq0}
 
