@@ -9,12 +9,12 @@ use Rattle.assembler.proofs.assemble.Goals as goal
 pub returns-then-not-stem_fits : goal.returns-then-not-stem_fits
 returns-then-not-stem_fits c =
     let a = c.args in
-    as_assembled a.contract.now a.vector.now a.stem.now (stem_refused a.stem.now a.out.now (is_going c.check_contract-assembly.ensures c.in-Going.is) (sym c.stem_fits_lem.ensures ∙ c.if-not-stem_fits.true))
+    as_assembled a.contract.now a.vector.now a.stem.now (stem_refused a.stem.now a.out.now (is_going c.check_contract-assembly.ensures c.in-Going.is) (sym c.stem_fits.ensures ∙ c.if-not-stem_fits.true))
 
 pub write_output-requires : goal.write_output-requires
 write_output-requires c =
     let a = c.args in
-    record { short = stem_short a.stem.now (sym c.stem_fits_lem.ensures ∙ c.if-not-stem_fits.false); vector = _; o = _; accepts = is_going c.check_contract-assembly.ensures c.in-Going.is }
+    record { short = stem_short a.stem.now (sym c.stem_fits.ensures ∙ c.if-not-stem_fits.false); vector = _; o = _; accepts = is_going c.check_contract-assembly.ensures c.in-Going.is }
 
 pub returns-in-Refused : goal.returns-in-Refused
 returns-in-Refused c =
@@ -24,4 +24,4 @@ returns-in-Refused c =
 pub returns-else-not-stem_fits : goal.returns-else-not-stem_fits
 returns-else-not-stem_fits c =
     let a = c.args in
-    as_assembled a.contract.now a.vector.now a.stem.now (c.write_output.ensures.is _ _ (is_going c.check_contract-assembly.ensures c.in-Going.is) (sym c.stem_fits_lem.ensures ∙ c.if-not-stem_fits.false))
+    as_assembled a.contract.now a.vector.now a.stem.now (c.write_output.ensures.is _ _ (is_going c.check_contract-assembly.ensures c.in-Going.is) (sym c.stem_fits.ensures ∙ c.if-not-stem_fits.false))

@@ -12,8 +12,8 @@ use Rattle.scope.proofs.parameters.bind_parameters.Given as goal
 
 abbrev pub invariant-loop-at : goal.invariant-loop-at
 invariant-loop-at l =
-    Turn l.contract (parameter_bound l.vector) (names_from l.contract l.end) (parameters (part l.contract l.start l.end)) l.start l.end (record { l.table = l.initial.table; l.values = l.initial.values; l.last = l.last; l.status = l.status }) l.at l.place
-    (record { l.table = l.table; l.values = l.values; l.last = l.last; l.status = l.status })
+    Turn l.contract (parameter_bound l.vector) (names_from l.contract l.end) (parameters (part l.contract l.start l.end)) l.start l.end (record { table = l.initial.table; values = l.initial.values; last = l.last; status = l.status }) l.at l.place
+    (record { table = l.table; values = l.values; last = l.last; status = l.status })
     × Full l.table l.values
 
 abbrev pub decreases-loop-at : goal.decreases-loop-at
