@@ -22,9 +22,7 @@ pub fn assembly(rt: &impl Print, a: assembler::AssemblyAnswer) -> io::Result<()>
             number(rt, p)?;
             number(rt, value)
         }
-        assembler::AssemblyAnswer::Refused(_) => {
-            rt.write_all(b" refused")
-        }
+        assembler::AssemblyAnswer::Refused(_) => { rt.write_all(b" refused") }
     }
 }
 

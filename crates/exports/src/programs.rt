@@ -99,7 +99,14 @@ fn limitless(rt: &impl Print, kinds: &[u8], operands: &[u64]) -> io::Result<()> 
     left(rt, number, &answer, &stack, &work, &storage)
 }
 
-fn left(rt: &impl Print, number: u64, answer: &[u64; 8], stack: &[u64; 4096], work: &[u64; 4], storage: &[u64; 4]) -> io::Result<()> {
+fn left(
+    rt: &impl Print,
+    number: u64,
+    answer: &[u64; 8],
+    stack: &[u64; 4096],
+    work: &[u64; 4],
+    storage: &[u64; 4],
+) -> io::Result<()> {
     show::answer(rt, number, answer)?;
     show::stack(rt, stack)?;
     show::slots(rt, work)?;

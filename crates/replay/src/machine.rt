@@ -28,7 +28,13 @@ pub fn replay(rt: &impl Print, call: u8, line: &[u8]) -> io::Result<()> {
     program(rt, call, line, &kinds[..n], &operands[..m])
 }
 
-fn program(rt: &impl Print, call: u8, line: &[u8], kinds: &[u8], operands: &[u64]) -> io::Result<()> {
+fn program(
+    rt: &impl Print,
+    call: u8,
+    line: &[u8],
+    kinds: &[u8],
+    operands: &[u64],
+) -> io::Result<()> {
     if call == b'C' {
         verify(rt, line, kinds, operands)
     } else {
@@ -157,7 +163,14 @@ fn transition(
 }
 
 // What the original has after the call: the items and the used slots. Document 01 says it of all three buffers whole.
-fn left(rt: &impl Print, line: &[u8], told: Numbered, stack: &[u64], work: &[u64], storage: &[u64]) -> io::Result<()> {
+fn left(
+    rt: &impl Print,
+    line: &[u8],
+    told: Numbered,
+    stack: &[u64],
+    work: &[u64],
+    storage: &[u64],
+) -> io::Result<()> {
     if field::letter(line, 0) == b'd' {
         answer::list(rt, stack)?;
         answer::list(rt, storage)?;

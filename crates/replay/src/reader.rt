@@ -21,7 +21,14 @@ fn read(rt: &impl Print, text: &[u8], kinds: usize, operands: usize) -> io::Resu
     answer::list(rt, &o)
 }
 
-fn lent(rt: &impl Print, text: &[u8], k: &mut [u8], o: &mut [u64], kinds: usize, operands: usize) -> io::Result<()> {
+fn lent(
+    rt: &impl Print,
+    text: &[u8],
+    k: &mut [u8],
+    o: &mut [u64],
+    kinds: usize,
+    operands: usize,
+) -> io::Result<()> {
     let n = hex::within(kinds, k);
     let m = list::within(operands, o);
     let r = ops::parse_ops(text, &mut k[..n], &mut o[..m]);

@@ -56,12 +56,8 @@ fn all_lines(rt: &impl Print, s: &[u8]) -> io::Result<()> {
 fn parsed(rt: &impl Print, s: &[u8]) -> io::Result<()> {
     let number = decimal::from_str(s);
     match number {
-        Number::Is(n) => {
-            rt.print(n)
-        }
-        Number::Invalid => {
-            rt.write_all(b"-")
-        }
+        Number::Is(n) => { rt.print(n) }
+        Number::Invalid => { rt.write_all(b"-") }
     }
 }
 
@@ -88,20 +84,14 @@ fn digits(rt: &impl Print, s: &[u8]) -> io::Result<()> {
     let value = run.value;
     match value {
         Value::Is(n) => answer::spaced(rt, n),
-        Value::TooLarge => {
-            rt.write_all(b" +")
-        }
+        Value::TooLarge => { rt.write_all(b" +") }
     }
 }
 
 fn found(rt: &impl Print, f: Found) -> io::Result<()> {
     match f {
-        Found::At(i) => {
-            rt.print(i as u64)
-        }
-        Found::Nothing => {
-            rt.write_all(b"-")
-        }
+        Found::At(i) => { rt.print(i as u64) }
+        Found::Nothing => { rt.write_all(b"-") }
     }
 }
 
