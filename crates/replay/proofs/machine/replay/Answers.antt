@@ -6,37 +6,37 @@ use lib.ListN.{length-replicate}
 use Rattle.replay.proofs.machine.replay.Goals as goal
 
 pub at-requires : goal.at-requires
-at-requires c = tt
+at-requires g c = tt
 
 pub slice_bounds-bytes-end : goal.slice_bounds-bytes-end
-slice_bounds-bytes-end c = sym (length-replicate {A = ℕ} 65540 0)
+slice_bounds-bytes-end g c = sym (length-replicate {A = ℕ} 65540 0)
 
 pub bytes-n-requires : goal.bytes-n-requires
-bytes-n-requires c = tt
+bytes-n-requires g c = tt
 
 pub at-requires-2 : goal.at-requires-2
-at-requires-2 c = tt
+at-requires-2 g c = tt
 
 pub slice_bounds-numbers-end : goal.slice_bounds-numbers-end
-slice_bounds-numbers-end c = sym (length-replicate {A = ℕ} 65540 0)
+slice_bounds-numbers-end g c = sym (length-replicate {A = ℕ} 65540 0)
 
 pub numbers-m-requires : goal.numbers-m-requires
-numbers-m-requires c = tt
+numbers-m-requires g c = tt
 
 pub slice_bounds-kinds-end : goal.slice_bounds-kinds-end
-slice_bounds-kinds-end c = c.bytes-n.ensures.0
+slice_bounds-kinds-end g c = c.bytes-n.ensures.0
 
 pub slice_bounds-program-end : goal.slice_bounds-program-end
-slice_bounds-program-end c = c.bytes-n.ensures.1
+slice_bounds-program-end g c = c.bytes-n.ensures.1
 
 pub slice_bounds-operands-end : goal.slice_bounds-operands-end
-slice_bounds-operands-end c = c.numbers-m.ensures.0
+slice_bounds-operands-end g c = c.numbers-m.ensures.0
 
 pub slice_bounds-program-end-2 : goal.slice_bounds-program-end-2
-slice_bounds-program-end-2 c = c.numbers-m.ensures.1
+slice_bounds-program-end-2 g c = c.numbers-m.ensures.1
 
 pub program-requires : goal.program-requires
-program-requires c = tt
+program-requires g c = tt
 
 pub returns : goal.returns
-returns c = tt
+returns g c = tt

@@ -8,13 +8,13 @@ use Rattle.replay.proofs.parts.function.Goals as goal
 use Rattle.replay.proofs.parts.function.Goals.{In-Found-2}
 
 order : (c : In-Found-2) → Ordered c.args.contract.now c.in-Found.places
-order c = ordered c.args.contract.now c.in-Found.places (sym c.find_function-answer.ensures.0 ∙ c.in-Found.is)
+order g c = ordered c.args.contract.now c.in-Found.places (sym c.find_function-answer.ensures.0 ∙ c.in-Found.is)
 
 pub slice_bounds-bytes-count : goal.slice_bounds-bytes-count
-slice_bounds-bytes-count c = let o = order (goal.at.slice_bounds-bytes-count c).In-Found-2 in let b = o.body in let f = o.fits in omega arith
+slice_bounds-bytes-count g c = let o = order (goal.at.slice_bounds-bytes-count c).In-Found-2 in let b = o.body in let f = o.fits in omega arith
 
 pub slice_bounds-bytes-start : goal.slice_bounds-bytes-start
-slice_bounds-bytes-start c = let o = order (goal.at.slice_bounds-bytes-start c).In-Found-2 in let b = o.body in let f = o.fits in omega arith
+slice_bounds-bytes-start g c = let o = order (goal.at.slice_bounds-bytes-start c).In-Found-2 in let b = o.body in let f = o.fits in omega arith
 
 pub slice_bounds-bytes-end : goal.slice_bounds-bytes-end
-slice_bounds-bytes-end c = let o = order (goal.at.slice_bounds-bytes-end c).In-Found-2 in let b = o.body in let f = o.fits in omega arith
+slice_bounds-bytes-end g c = let o = order (goal.at.slice_bounds-bytes-end c).In-Found-2 in let b = o.body in let f = o.fits in omega arith
