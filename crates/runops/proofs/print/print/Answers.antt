@@ -3,7 +3,6 @@
 use mathlib.Core.Path.{sym}
 use lib.Seq.{length-take-le}
 use Rattle.runops.proofs.PrintedLines.{prints_fit}
-use borrow.Author.Rules.{rules}
 use Rattle.runops.proofs.print.print.Goals as goal
 
 pub slice_bounds-out-end : goal.slice_bounds-out-end
