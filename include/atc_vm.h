@@ -1,9 +1,9 @@
 /*
  * The atc-vm rule machine: assembler, ops reader, chain gate, verifier and metered stack machine.
  *
- * `rt staticlib atc_vm` proves crates/atc_vm and writes target/staticlib/libatc_vm.a, for x86-64. For every input that
+ * `tools/library` proves crates/atc_vm_c and writes target/staticlib/libatc_vm.a, for x86-64. For every input that
  * keeps what is asked below, the number, the answer and the contents of every buffer are proved to be those of document
- * 01; the contracts stand in crates/atc_vm/src/lib.rt. Tests of rust/atc-vm hold these declarations to the functions
+ * 01; the contracts stand in crates/atc_vm_c/src/lib.rt. Tests of rust/atc-vm hold these declarations to the functions
  * there (tests/header.rs) and the refusals to the definitions (tests/refusals.rs). rust/atc-vm/tests/abi.c is an
  * example: a contract assembled, read and run.
  *

@@ -1,4 +1,4 @@
-//! Finds the proved static library: in ATC_VM_LIB_DIR, or where `rt staticlib atc_vm` writes it.
+//! Finds the proved static library: in ATC_VM_LIB_DIR, or where `tools/library` writes it.
 
 use std::path::{Path, PathBuf};
 use std::process::exit;
@@ -23,7 +23,7 @@ fn main() {
     match changed(&library) {
         // Only linking needs it.
         None => println!(
-            "cargo:warning={} is missing: run `rt staticlib atc_vm` in the repository's root, or set ATC_VM_LIB_DIR to the folder that has libatc_vm.a.",
+            "cargo:warning={} is missing: run `tools/library` in the repository's root, or set ATC_VM_LIB_DIR to the folder that has libatc_vm.a.",
             library.display()
         ),
         Some(made) if given.is_none() => warn_if_older(made, &root),
@@ -40,7 +40,7 @@ fn warn_if_older(made: SystemTime, root: &Path) {
     for sources in [root.join("crates"), root.join("crates.txt")] {
         println!("cargo:rerun-if-changed={}", sources.display());
         if newest(&sources) > Some(made) {
-            println!("cargo:warning=libatc_vm.a is older than {}: run `rt staticlib atc_vm` in the repository's root.", sources.display());
+            println!("cargo:warning=libatc_vm.a is older than {}: run `tools/library` in the repository's root.", sources.display());
         }
     }
 }

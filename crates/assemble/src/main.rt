@@ -1,5 +1,5 @@
 // Assembles the contract and the vector in the two files that its arguments name. The ops text goes to standard
-// output; a refusal, and a file that can't be read, are named on standard error.
+// output; a refusal, and a file that can't be read, are named on standard error. The exit status is 1 where a read or a write fails.
 #![tactic(auto)]
 
 ghost use Rattle.std.specs.Prelude.{◌≤◌, length};
@@ -10,48 +10,93 @@ mod say;
 
 use files::Contents;
 use say::Said;
+use std::env::{Env, FillError};
+use std::io::Write;
+use std::process::ExitCode;
+use std::rt::Files;
 
-fn main() {
-    if os::arg_count() != 3 {
-        report::usage();
-        return;
+fn main(rt: HostRuntime) -> ExitCode {
+    if !two_given(&rt) {
+        return report::usage(&mut rt.stderr());
     }
-    let mut contract_path = io::buffer();
-    let contract_len = files::argument(1, &mut contract_path);
-    let mut vector_path = io::buffer();
-    let vector_len = files::argument(2, &mut vector_path);
-    read(&contract_path[..contract_len], &vector_path[..vector_len]);
+    let mut contract_path = [0u8; 4096];
+    let contract_len = files::argument(&rt, 1, &mut contract_path);
+    let mut vector_path = [0u8; 4096];
+    let vector_len = files::argument(&rt, 2, &mut vector_path);
+    read(
+        &rt,
+        &mut rt.stdout(),
+        &mut rt.stderr(),
+        &contract_path[..contract_len],
+        &vector_path[..vector_len],
+    )
+}
+
+// Whether there are two arguments behind the program's name.
+fn two_given(rt: &impl Env) -> bool {
+    is_given(rt, 2) && !is_given(rt, 3)
+}
+
+fn is_given(rt: &impl Env, i: usize) -> bool {
+    match rt.arg(i, &mut []) {
+        Ok(_) => true,
+        Err(FillError::TooLong) => true,
+        Err(FillError::NotPresent) => false,
+    }
 }
 
 // Each file is read up to one byte more than a contract or a vector may have.
-fn read(contract_path: &[u8], vector_path: &[u8]) {
+fn read(
+    rt: &impl Files,
+    stdout: &mut impl Write,
+    stderr: &mut impl Write,
+    contract_path: &[u8],
+    vector_path: &[u8],
+) -> ExitCode {
     let mut contract = [0u8; 65537];
     let mut vector = [0u8; 65537];
-    let contract_read = files::read(contract_path, &mut contract);
+    let contract_read = files::read(rt, contract_path, &mut contract);
     let Contents::Read(n) = contract_read else {
-        report::unreadable(contract_path);
-        return;
+        return report::unreadable(stderr, contract_path);
     };
-    let vector_read = files::read(vector_path, &mut vector);
+    let vector_read = files::read(rt, vector_path, &mut vector);
     let Contents::Read(m) = vector_read else {
-        report::unreadable(vector_path);
-        return;
+        return report::unreadable(stderr, vector_path);
     };
-    assemble(&contract[..n], &vector[..m], path::file_stem(contract_path));
+    assemble(
+        stdout,
+        stderr,
+        &contract[..n],
+        &vector[..m],
+        path::file_stem(contract_path),
+    )
 }
 
 // The buffer is longer than any ops text that is assembled.
-fn assemble(contract: &[u8], vector: &[u8], stem: &[u8]) {
+fn assemble(
+    stdout: &mut impl Write,
+    stderr: &mut impl Write,
+    contract: &[u8],
+    vector: &[u8],
+    stem: &[u8],
+) -> ExitCode {
     let mut out = [0u8; 1048576];
-    assemble_into(contract, vector, stem, &mut out);
+    assemble_into(stdout, stderr, contract, vector, stem, &mut out)
 }
 
-fn assemble_into(contract: &[u8], vector: &[u8], stem: &[u8], out: &mut [u8])
+fn assemble_into(
+    stdout: &mut impl Write,
+    stderr: &mut impl Write,
+    contract: &[u8],
+    vector: &[u8],
+    stem: &[u8],
+    out: &mut [u8],
+) -> ExitCode
     requires { 128 ≤ length out.old }
 {
     let said = say::say(contract, vector, stem, out);
     match said {
-        Said::Text(n) => report::text(&out[..n]),
-        Said::Message(n) => report::refused(&out[..n]),
+        Said::Text(n) => report::text(stdout, stderr, &out[..n]),
+        Said::Message(n) => report::refused(stderr, &out[..n]),
     }
 }

@@ -1,22 +1,28 @@
-// What the program writes. A write to standard output that fails is named on standard error.
-use libc::{STDERR_FILENO, STDOUT_FILENO};
+// What the program writes, and its exit status. A write to standard output that fails is named on standard error.
+use std::io::Write;
+use std::process::ExitCode;
 
-pub fn text(out: &[u8]) {
-    if !io::write_all(STDOUT_FILENO, out) {
-        os::fail(b"assemble: standard output");
+pub fn text(stdout: &mut impl Write, stderr: &mut impl Write, out: &[u8]) -> ExitCode {
+    if let Err(e) = stdout.write_all(out) {
+        let _ = writeln!(stderr, "assemble: standard output: {e}");
+        return ExitCode::FAILURE;
     }
+    ExitCode::SUCCESS
 }
 
-pub fn refused(message: &[u8]) {
-    io::write_all(STDERR_FILENO, message);
+pub fn refused(stderr: &mut impl Write, message: &[u8]) -> ExitCode {
+    let _ = stderr.write_all(message);
+    ExitCode::SUCCESS
 }
 
-pub fn usage() {
-    io::write_all(STDERR_FILENO, b"usage: assemble CONTRACT VECTOR\n");
+pub fn usage(stderr: &mut impl Write) -> ExitCode {
+    let _ = stderr.write_all(b"usage: assemble CONTRACT VECTOR\n");
+    ExitCode::SUCCESS
 }
 
-pub fn unreadable(path: &[u8]) {
-    io::write_all(STDERR_FILENO, b"assemble: can't read ");
-    io::write_all(STDERR_FILENO, path);
-    io::write_all(STDERR_FILENO, b"\n");
+pub fn unreadable(stderr: &mut impl Write, path: &[u8]) -> ExitCode {
+    let _ = stderr.write_all(b"assemble: can't read ");
+    let _ = stderr.write_all(path);
+    let _ = stderr.write_all(b"\n");
+    ExitCode::FAILURE
 }

@@ -1,4 +1,4 @@
-// The C ABI: each call of document 01, with its number as the result and what the answer carries in eight words.
+// The calls that C makes, by atc_vm_c: each call of document 01, with its number as the result and what the answer carries in eight words.
 #![tactic(auto)]
 
 ghost use Rattle.std.specs.Prelude.{◌≡◌, length};
@@ -23,8 +23,7 @@ fn tell(answer: &mut [u64; 8], n: Numbered) -> u64
     n.number
 }
 
-#[unsafe(no_mangle)]
-pub extern "C" fn atc_assemble(
+pub fn atc_assemble(
     contract: &[u8],
     vector: &[u8],
     stem: &[u8],
@@ -38,8 +37,7 @@ pub extern "C" fn atc_assemble(
     tell(answer, assembled.numbered())
 }
 
-#[unsafe(no_mangle)]
-pub extern "C" fn atc_parse_ops(
+pub fn atc_parse_ops(
     text: &[u8],
     kinds: &mut [u8],
     operands: &mut [u64],
@@ -53,8 +51,7 @@ pub extern "C" fn atc_parse_ops(
 }
 
 // The place and the length of the trimmed line of a number from 1; 0 and 0 where there is none.
-#[unsafe(no_mangle)]
-pub extern "C" fn atc_trimmed_line(text: &[u8], line: u64, answer: &mut [u64; 8]) -> u64
+pub fn atc_trimmed_line(text: &[u8], line: u64, answer: &mut [u64; 8]) -> u64
     ensures { Tells (place_numbered text.now line) answer.new result }
 {
     let step = ops::nth_line(text, line as usize);
@@ -71,8 +68,7 @@ pub extern "C" fn atc_trimmed_line(text: &[u8], line: u64, answer: &mut [u64; 8]
     }
 }
 
-#[unsafe(no_mangle)]
-pub extern "C" fn atc_execution_gate(
+pub fn atc_execution_gate(
     chain_id: &[u8],
     network_id: &[u8],
     genesis_id: &[u8],
@@ -100,21 +96,14 @@ pub extern "C" fn atc_execution_gate(
     told.number
 }
 
-#[unsafe(no_mangle)]
-pub extern "C" fn atc_verify(
-    kinds: &[u8],
-    operands: &[u64],
-    used: u64,
-    answer: &mut [u64; 8],
-) -> u64
+pub fn atc_verify(kinds: &[u8], operands: &[u64], used: u64, answer: &mut [u64; 8]) -> u64
     ensures { Tells (check_numbered (verify_of kinds.now operands.now used)) answer.new result }
 {
     let check = checks::verify(kinds, operands, used as usize);
     tell(answer, check.numbered())
 }
 
-#[unsafe(no_mangle)]
-pub extern "C" fn atc_run_with_gas(
+pub fn atc_run_with_gas(
     kinds: &[u8],
     operands: &[u64],
     caller: u64,
@@ -147,8 +136,7 @@ pub extern "C" fn atc_run_with_gas(
     tell(answer, ran.numbered())
 }
 
-#[unsafe(no_mangle)]
-pub extern "C" fn atc_execute_state_transition_with_gas(
+pub fn atc_execute_state_transition_with_gas(
     chain_id: &[u8],
     network_id: &[u8],
     genesis_id: &[u8],
@@ -208,8 +196,7 @@ pub extern "C" fn atc_execute_state_transition_with_gas(
     tell(answer, ran.numbered())
 }
 
-#[unsafe(no_mangle)]
-pub extern "C" fn atc_execute_state_transition(
+pub fn atc_execute_state_transition(
     chain_id: &[u8],
     network_id: &[u8],
     genesis_id: &[u8],

@@ -5,9 +5,10 @@ use context::Gate;
 use operation::OpsError;
 use ops::ParsedOps;
 use perform::RunAnswer;
+use std::io;
 
 // 0 and the four values of a success. A refusal is not told apart here.
-pub fn assembly(a: assembler::AssemblyAnswer) {
+pub fn assembly(rt: &impl Print, a: assembler::AssemblyAnswer) -> io::Result<()> {
     match a {
         assembler::AssemblyAnswer::Success {
             written,
@@ -15,51 +16,49 @@ pub fn assembly(a: assembler::AssemblyAnswer) {
             p,
             value,
         } => {
-            number(0);
-            number(written as u64);
-            number(k);
-            number(p);
-            number(value);
+            number(rt, 0)?;
+            number(rt, written as u64)?;
+            number(rt, k)?;
+            number(rt, p)?;
+            number(rt, value)
         }
-        assembler::AssemblyAnswer::Refused(_) => {
-            io::write_all(1, b" refused");
-        }
+        assembler::AssemblyAnswer::Refused(_) => { rt.write_all(b" refused") }
     }
 }
 
-pub fn reading(r: ParsedOps) {
+pub fn reading(rt: &impl Print, r: ParsedOps) -> io::Result<()> {
     match r {
         ParsedOps::Read(n) => {
-            number(0);
-            number(n as u64);
+            number(rt, 0)?;
+            number(rt, n as u64)
         }
         ParsedOps::Refused(e) => {
             let refusal = e.numbered();
-            number(refusal.number);
-            reading_values(e);
+            number(rt, refusal.number)?;
+            reading_values(rt, e)
         }
     }
 }
 
-fn reading_values(e: OpsError) {
+fn reading_values(rt: &impl Print, e: OpsError) -> io::Result<()> {
     match e {
-        OpsError::NotUtf8 => {}
-        OpsError::BadPush { line, place, len } => part(line, place, len),
-        OpsError::BadSlot { line, place, len } => part(line, place, len),
-        OpsError::UnknownOp { line, place, len } => part(line, place, len),
-        OpsError::BadTarget { line, place, len } => part(line, place, len),
-        OpsError::Full { line } => number(line as u64),
-        OpsError::Empty => {}
+        OpsError::NotUtf8 => Ok(()),
+        OpsError::BadPush { line, place, len } => part(rt, line, place, len),
+        OpsError::BadSlot { line, place, len } => part(rt, line, place, len),
+        OpsError::UnknownOp { line, place, len } => part(rt, line, place, len),
+        OpsError::BadTarget { line, place, len } => part(rt, line, place, len),
+        OpsError::Full { line } => number(rt, line as u64),
+        OpsError::Empty => Ok(()),
     }
 }
 
-fn part(line: usize, place: usize, len: usize) {
-    number(line as u64);
-    number(place as u64);
-    number(len as u64);
+fn part(rt: &impl Print, line: usize, place: usize, len: usize) -> io::Result<()> {
+    number(rt, line as u64)?;
+    number(rt, place as u64)?;
+    number(rt, len as u64)
 }
 
-pub fn run(a: RunAnswer) {
+pub fn run(rt: &impl Print, a: RunAnswer) -> io::Result<()> {
     match a {
         RunAnswer::Success {
             gas_spent,
@@ -67,54 +66,53 @@ pub fn run(a: RunAnswer) {
             items,
             state,
         } => {
-            number(0);
-            number(gas_spent);
-            number(operations);
-            number(items as u64);
-            number(state.used as u64);
+            number(rt, 0)?;
+            number(rt, gas_spent)?;
+            number(rt, operations)?;
+            number(rt, items as u64)?;
+            number(rt, state.used as u64)
         }
         RunAnswer::Refused(f) => {
             let refusal = f.numbered();
-            number(refusal.number);
-            run_values(f);
+            number(rt, refusal.number)?;
+            run_values(rt, f)
         }
     }
 }
 
-fn run_values(f: VmError) {
+fn run_values(rt: &impl Print, f: VmError) -> io::Result<()> {
     match f {
-        VmError::ProgramTooLarge(size) => number(size as u64),
-        VmError::StorageTooLarge(used) => number(used as u64),
+        VmError::ProgramTooLarge(size) => number(rt, size as u64),
+        VmError::StorageTooLarge(used) => number(rt, used as u64),
         VmError::OutOfGas { price, left } => {
-            number(price);
-            number(left);
+            number(rt, price)?;
+            number(rt, left)
         }
-        VmError::StorageLimitExceeded(slots) => number(slots),
-        _ => {}
+        VmError::StorageLimitExceeded(slots) => number(rt, slots),
+        _ => Ok(()),
     }
 }
 
 // The number and the four values of a success.
-pub fn compiled(r: Compiled) {
+pub fn compiled(rt: &impl Print, r: Compiled) -> io::Result<()> {
     let told = r.numbered();
     let words = told.words;
-    number(told.number);
-    number(words[0]);
-    number(words[1]);
-    number(words[2]);
-    number(words[3]);
+    number(rt, told.number)?;
+    number(rt, words[0])?;
+    number(rt, words[1])?;
+    number(rt, words[2])?;
+    number(rt, words[3])
 }
 
-pub fn gate(g: Gate) {
+pub fn gate(rt: &impl Print, g: Gate) -> io::Result<()> {
     let told = g.numbered();
-    number(told.number);
+    number(rt, told.number)
 }
 
-pub fn byte(b: u8) {
-    number(b as u64);
+pub fn byte(rt: &impl Print, b: u8) -> io::Result<()> {
+    number(rt, b as u64)
 }
 
-pub fn number(n: u64) {
-    io::write_all(1, b" ");
-    io::print_decimal(1, n);
+pub fn number(rt: &impl Print, n: u64) -> io::Result<()> {
+    print!(rt; " {n}")
 }

@@ -6,28 +6,30 @@ mod programs;
 mod show;
 mod texts;
 
-fn main() {
-    texts::assemble();
-    texts::parse_ops();
-    texts::trimmed_line();
-    gates();
-    programs::verify();
-    programs::run_with_gas();
-    programs::transition_with_gas();
-    programs::transition();
+use std::io;
+
+fn main(rt: HostRuntime) -> io::Result<()> {
+    texts::assemble(&rt)?;
+    texts::parse_ops(&rt)?;
+    texts::trimmed_line(&rt)?;
+    gates(&rt)?;
+    programs::verify(&rt)?;
+    programs::run_with_gas(&rt)?;
+    programs::transition_with_gas(&rt)?;
+    programs::transition(&rt)
 }
 
 // Passed; then with a genesis id, and with a computed one, that is no 64 hex digits.
-fn gates() {
+fn gates(rt: &impl Print) -> io::Result<()> {
     let genesis = [65u8; 64];
-    io::write_all(1, b"gate");
-    gate(&genesis, &genesis);
-    gate(b"x", &genesis);
-    gate(&genesis, b"x");
-    io::write_all(1, b"\n");
+    rt.write_all(b"gate")?;
+    gate(rt, &genesis, &genesis)?;
+    gate(rt, b"x", &genesis)?;
+    gate(rt, &genesis, b"x")?;
+    rt.write_all(b"\n")
 }
 
-fn gate(genesis_id: &[u8], computed_genesis_id: &[u8]) {
+fn gate(rt: &impl Print, genesis_id: &[u8], computed_genesis_id: &[u8]) -> io::Result<()> {
     let number = atc_vm::atc_execution_gate(
         b"atc",
         b"devnet",
@@ -38,5 +40,5 @@ fn gate(genesis_id: &[u8], computed_genesis_id: &[u8]) {
         b"1",
         b"2",
     );
-    show::number(number);
+    show::number(rt, number)
 }

@@ -1,17 +1,18 @@
 // The calls on a program: Caller, Store 1, Load 0, Load 3, Halt; two of four slots are used.
 use crate::show;
+use std::io;
 
-pub fn verify() {
+pub fn verify(rt: &impl Print) -> io::Result<()> {
     let kinds = [13u8, 12, 11, 11, 15];
     let operands = [0u64, 1, 0, 3, 0];
     let mut answer = [9u64; 8];
     let number = atc_vm::atc_verify(&kinds, &operands, 65537, &mut answer);
-    io::write_all(1, b"verify");
-    show::answer(number, &answer);
-    io::write_all(1, b"\n");
+    rt.write_all(b"verify")?;
+    show::answer(rt, number, &answer)?;
+    rt.write_all(b"\n")
 }
 
-pub fn run_with_gas() {
+pub fn run_with_gas(rt: &impl Print) -> io::Result<()> {
     let kinds = [13u8, 12, 11, 11, 15];
     let operands = [0u64, 1, 0, 3, 0];
     let mut stack = [20u64; 4096];
@@ -29,11 +30,11 @@ pub fn run_with_gas() {
         2,
         &mut answer,
     );
-    io::write_all(1, b"run_with_gas");
-    left(number, &answer, &stack, &work, &storage);
+    rt.write_all(b"run_with_gas")?;
+    left(rt, number, &answer, &stack, &work, &storage)
 }
 
-pub fn transition_with_gas() {
+pub fn transition_with_gas(rt: &impl Print) -> io::Result<()> {
     let genesis = [65u8; 64];
     let kinds = [13u8, 12, 11, 11, 15];
     let operands = [0u64, 1, 0, 3, 0];
@@ -60,17 +61,17 @@ pub fn transition_with_gas() {
         2,
         &mut answer,
     );
-    io::write_all(1, b"transition_with_gas");
-    left(number, &answer, &stack, &work, &storage);
+    rt.write_all(b"transition_with_gas")?;
+    left(rt, number, &answer, &stack, &work, &storage)
 }
 
 // Without gas the first operation is refused, and Halt alone is not.
-pub fn transition() {
-    limitless(&[13u8, 12, 11, 11, 15], &[0u64, 1, 0, 3, 0]);
-    limitless(&[15u8], &[0u64]);
+pub fn transition(rt: &impl Print) -> io::Result<()> {
+    limitless(rt, &[13u8, 12, 11, 11, 15], &[0u64, 1, 0, 3, 0])?;
+    limitless(rt, &[15u8], &[0u64])
 }
 
-fn limitless(kinds: &[u8], operands: &[u64]) {
+fn limitless(rt: &impl Print, kinds: &[u8], operands: &[u64]) -> io::Result<()> {
     let genesis = [65u8; 64];
     let mut stack = [20u64; 4096];
     let mut work = [21u64; 4];
@@ -94,14 +95,21 @@ fn limitless(kinds: &[u8], operands: &[u64]) {
         2,
         &mut answer,
     );
-    io::write_all(1, b"transition");
-    left(number, &answer, &stack, &work, &storage);
+    rt.write_all(b"transition")?;
+    left(rt, number, &answer, &stack, &work, &storage)
 }
 
-fn left(number: u64, answer: &[u64; 8], stack: &[u64; 4096], work: &[u64; 4], storage: &[u64; 4]) {
-    show::answer(number, answer);
-    show::stack(stack);
-    show::slots(work);
-    show::slots(storage);
-    io::write_all(1, b"\n");
+fn left(
+    rt: &impl Print,
+    number: u64,
+    answer: &[u64; 8],
+    stack: &[u64; 4096],
+    work: &[u64; 4],
+    storage: &[u64; 4],
+) -> io::Result<()> {
+    show::answer(rt, number, answer)?;
+    show::stack(rt, stack)?;
+    show::slots(rt, work)?;
+    show::slots(rt, storage)?;
+    rt.write_all(b"\n")
 }

@@ -1,45 +1,46 @@
 // Numbers, each behind a space.
-pub fn number(n: u64) {
-    io::write_all(1, b" ");
-    io::print_decimal(1, n);
+use std::io;
+
+pub fn number(rt: &impl Print, n: u64) -> io::Result<()> {
+    print!(rt; " {n}")
 }
 
-pub fn answer(n: u64, words: &[u64; 8]) {
-    number(n);
-    number(words[0]);
-    number(words[1]);
-    number(words[2]);
-    number(words[3]);
-    number(words[4]);
-    number(words[5]);
-    number(words[6]);
-    number(words[7]);
+pub fn answer(rt: &impl Print, n: u64, words: &[u64; 8]) -> io::Result<()> {
+    number(rt, n)?;
+    number(rt, words[0])?;
+    number(rt, words[1])?;
+    number(rt, words[2])?;
+    number(rt, words[3])?;
+    number(rt, words[4])?;
+    number(rt, words[5])?;
+    number(rt, words[6])?;
+    number(rt, words[7])
 }
 
-pub fn slots(b: &[u64; 4]) {
-    io::write_all(1, b" |");
-    number(b[0]);
-    number(b[1]);
-    number(b[2]);
-    number(b[3]);
+pub fn slots(rt: &impl Print, b: &[u64; 4]) -> io::Result<()> {
+    rt.write_all(b" |")?;
+    number(rt, b[0])?;
+    number(rt, b[1])?;
+    number(rt, b[2])?;
+    number(rt, b[3])
 }
 
-pub fn kinds(b: &[u8; 4]) {
-    io::write_all(1, b" |");
-    byte(b[0]);
-    byte(b[1]);
-    byte(b[2]);
-    byte(b[3]);
+pub fn kinds(rt: &impl Print, b: &[u8; 4]) -> io::Result<()> {
+    rt.write_all(b" |")?;
+    byte(rt, b[0])?;
+    byte(rt, b[1])?;
+    byte(rt, b[2])?;
+    byte(rt, b[3])
 }
 
-fn byte(b: u8) {
-    number(b as u64);
+fn byte(rt: &impl Print, b: u8) -> io::Result<()> {
+    number(rt, b as u64)
 }
 
 // Two items and the last entry.
-pub fn stack(b: &[u64; 4096]) {
-    io::write_all(1, b" |");
-    number(b[0]);
-    number(b[1]);
-    number(b[4095]);
+pub fn stack(rt: &impl Print, b: &[u64; 4096]) -> io::Result<()> {
+    rt.write_all(b" |")?;
+    number(rt, b[0])?;
+    number(rt, b[1])?;
+    number(rt, b[4095])
 }

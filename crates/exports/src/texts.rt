@@ -1,7 +1,8 @@
 // The calls on text.
 use crate::show;
+use std::io;
 
-pub fn assemble() {
+pub fn assemble(rt: &impl Print) -> io::Result<()> {
     let mut out = [0u8; 67];
     let mut answer = [9u64; 8];
     let number = atc_vm::atc_assemble(
@@ -11,13 +12,13 @@ pub fn assemble() {
         &mut out,
         &mut answer,
     );
-    io::write_all(1, b"assemble");
-    show::answer(number, &answer);
-    io::write_all(1, b"\n");
-    io::write_all(1, &out);
+    rt.write_all(b"assemble")?;
+    show::answer(rt, number, &answer)?;
+    rt.write_all(b"\n")?;
+    rt.write_all(&out)
 }
 
-pub fn parse_ops() {
+pub fn parse_ops(rt: &impl Print) -> io::Result<()> {
     let mut kinds = [9u8; 4];
     let mut operands = [8u64; 4];
     let mut answer = [9u64; 8];
@@ -27,17 +28,17 @@ pub fn parse_ops() {
         &mut operands,
         &mut answer,
     );
-    io::write_all(1, b"parse_ops");
-    show::answer(number, &answer);
-    show::kinds(&kinds);
-    show::slots(&operands);
-    io::write_all(1, b"\n");
+    rt.write_all(b"parse_ops")?;
+    show::answer(rt, number, &answer)?;
+    show::kinds(rt, &kinds)?;
+    show::slots(rt, &operands)?;
+    rt.write_all(b"\n")
 }
 
-pub fn trimmed_line() {
+pub fn trimmed_line(rt: &impl Print) -> io::Result<()> {
     let mut answer = [9u64; 8];
     let number = atc_vm::atc_trimmed_line(b"Halt\n  Push 6 \nAdd\n", 2, &mut answer);
-    io::write_all(1, b"trimmed_line");
-    show::answer(number, &answer);
-    io::write_all(1, b"\n");
+    rt.write_all(b"trimmed_line")?;
+    show::answer(rt, number, &answer)?;
+    rt.write_all(b"\n")
 }

@@ -1,8 +1,13 @@
 // Arguments and files, read into a buffer as far as it holds them.
 #![tactic(auto)]
 
-ghost use Rattle.io.specs.Counts.{IsPrefixLen};
+ghost use Rattle.std.specs.Counts.{IsPrefixLen};
 ghost use Rattle.files.specs.Code.Held.{Held};
+
+use std::env::{Env, FillError};
+use std::io::Read;
+use std::rt::Files;
+use std::{fs, str};
 
 // How many bytes stand in the buffer, or that the file can't be opened or read.
 #[derive(Clone, Copy)]
@@ -12,35 +17,36 @@ pub enum Contents {
 }
 
 // How many bytes at the start of the buffer are the argument. One that is too long fills the buffer, and names no file.
-pub fn argument(i: usize, buf: &mut [u8]) -> usize
+pub fn argument(rt: &impl Env, i: usize, buf: &mut [u8]) -> usize
     ensures { IsPrefixLen result buf.new }
 {
-    let n = os::arg(i, buf);
-    if os::errno() == libc::ENAMETOOLONG {
-        return buf.len();
+    match rt.arg(i, buf) {
+        Ok(n) => n,
+        Err(FillError::TooLong) => buf.len(),
+        Err(FillError::NotPresent) => 0,
     }
-    n
 }
 
-pub fn read(path: &[u8], buf: &mut [u8]) -> Contents
+// A path that isn't UTF-8 names no file that can be opened.
+pub fn read(rt: &impl Files, path: &[u8], buf: &mut [u8]) -> Contents
     ensures { Held result buf.new }
 {
-    let fd = os::open_read(path);
-    if fd < 0 {
+    let Ok(name) = str::from_utf8(path) else {
         return Contents::Unreadable;
-    }
-    let contents = fill(fd, buf);
-    libc::close(fd);
-    contents
+    };
+    let Ok(mut file) = fs::open(rt, name) else {
+        return Contents::Unreadable;
+    };
+    fill(&mut file, buf)
 }
 
 // Reads until the buffer is full or the file ends.
-pub fn fill(fd: i32, buf: &mut [u8]) -> Contents
+pub fn fill(file: &mut impl Read, buf: &mut [u8]) -> Contents
     ensures { Held result buf.new }
 {
     let mut done: usize = 0;
     while done < buf.len() {
-        let some = read_some(fd, &mut buf[done..]);
+        let some = read_some(file, &mut buf[done..]);
         let Contents::Read(n) = some else {
             return Contents::Unreadable;
         };
@@ -53,12 +59,11 @@ pub fn fill(fd: i32, buf: &mut [u8]) -> Contents
 }
 
 // One read.
-fn read_some(fd: i32, buf: &mut [u8]) -> Contents
+fn read_some(file: &mut impl Read, buf: &mut [u8]) -> Contents
     ensures { Held result buf.new }
 {
-    let got = libc::read(fd, buf);
-    if got < 0 {
-        return Contents::Unreadable;
+    match file.read(buf) {
+        Ok(n) => Contents::Read(n),
+        Err(_) => Contents::Unreadable,
     }
-    Contents::Read(io::count(got, buf))
 }

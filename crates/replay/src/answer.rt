@@ -3,21 +3,23 @@ ghost use Rattle.std.specs.Prelude.{◌≤◌, length};
 
 use super::{hex, list};
 use numbered::Numbered;
+use std::io;
 
 // The number, and the values up to the last that isn't 0.
-pub fn print(told: Numbered) {
+pub fn print(rt: &impl Print, told: Numbered) -> io::Result<()> {
     let words = told.words;
-    io::print_decimal(1, told.number);
-    values(&words);
+    rt.print(told.number)?;
+    values(rt, &words)
 }
 
-fn values(words: &[u64]) {
+fn values(rt: &impl Print, words: &[u64]) -> io::Result<()> {
     let n = last(words);
     let mut i: usize = 0;
     while i < n {
-        spaced(words[i]);
+        spaced(rt, words[i])?;
         i += 1;
     }
+    Ok(())
 }
 
 // The place behind the last entry that isn't 0.
@@ -34,17 +36,16 @@ fn last(words: &[u64]) -> usize
     n
 }
 
-pub fn spaced(n: u64) {
-    io::write_all(1, b" ");
-    io::print_decimal(1, n);
+pub fn spaced(rt: &impl Print, n: u64) -> io::Result<()> {
+    print!(rt; " {n}")
 }
 
-pub fn list(s: &[u64]) {
-    io::write_all(1, b" | ");
-    list::print(s);
+pub fn list(rt: &impl Print, s: &[u64]) -> io::Result<()> {
+    rt.write_all(b" | ")?;
+    list::print(rt, s)
 }
 
-pub fn bytes(s: &[u8]) {
-    io::write_all(1, b" | ");
-    hex::print(s);
+pub fn bytes(rt: &impl Print, s: &[u8]) -> io::Result<()> {
+    rt.write_all(b" | ")?;
+    hex::print(rt, s)
 }

@@ -1,6 +1,8 @@
 // Bytes in hexadecimal, two digits each, in lower case.
 ghost use Rattle.std.specs.Prelude.{◌≡◌, true, ◌+◌, ◌≤◌, ◌<◌, length};
-ghost use Rattle.io.specs.Counts.{IsPrefixLen};
+ghost use Rattle.std.specs.Counts.{IsPrefixLen};
+
+use std::io;
 
 // The bytes that the digits in front write, as many as the buffer holds.
 pub fn decode(s: &[u8], out: &mut [u8]) -> usize
@@ -29,19 +31,21 @@ pub fn within(n: usize, s: &[u8]) -> usize
     n
 }
 
-pub fn print(s: &[u8]) {
+pub fn print(rt: &impl Print, s: &[u8]) -> io::Result<()> {
     if s.len() == 0 {
-        io::write_all(1, b"-");
+        rt.write_all(b"-")?;
     }
-    digits(s);
+    digits(rt, s)
 }
 
-fn digits(s: &[u8]) {
+fn digits(rt: &impl Print, s: &[u8]) -> io::Result<()> {
     let mut i: usize = 0;
     while i < s.len() {
-        io::print_hex(1, base::widen(s[i]), 2);
+        let b = s[i];
+        print!(rt; "{b:02x}")?;
         i += 1;
     }
+    Ok(())
 }
 
 fn is_pair(s: &[u8], i: usize) -> bool

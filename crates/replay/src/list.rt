@@ -1,9 +1,10 @@
 // Lists of numbers: a comma between them, `n*v` being n times v; `-` is the empty one.
 ghost use Rattle.std.specs.Prelude.{◌≤◌, ◌<◌, length};
-ghost use Rattle.io.specs.Counts.{IsPrefixLen};
+ghost use Rattle.std.specs.Counts.{IsPrefixLen};
 
 use super::field;
 use decimal::Number;
+use std::io;
 
 // The numbers of a list, as many as the buffer holds.
 pub fn numbers(text: &[u8], out: &mut [u64]) -> usize
@@ -110,23 +111,24 @@ pub fn within(n: usize, s: &[u64]) -> usize
     n
 }
 
-pub fn print(s: &[u64]) {
+pub fn print(rt: &impl Print, s: &[u64]) -> io::Result<()> {
     if s.len() == 0 {
-        io::write_all(1, b"-");
+        rt.write_all(b"-")?;
     }
-    entries(s);
+    entries(rt, s)
 }
 
-fn entries(s: &[u64]) {
+fn entries(rt: &impl Print, s: &[u64]) -> io::Result<()> {
     let mut at: usize = 0;
     while at < s.len() {
         let end = run_end(s, at);
-        repeated(s[at], end - at);
+        repeated(rt, s[at], end - at)?;
         if end < s.len() {
-            io::write_all(1, b",");
+            rt.write_all(b",")?;
         }
         at = end;
     }
+    Ok(())
 }
 
 // Where the entries end that are as the one at a place.
@@ -144,10 +146,10 @@ fn run_end(s: &[u64], at: usize) -> usize
     i
 }
 
-fn repeated(value: u64, times: usize) {
+fn repeated(rt: &impl Print, value: u64, times: usize) -> io::Result<()> {
     if 1 < times {
-        io::print_decimal(1, times as u64);
-        io::write_all(1, b"*");
+        rt.print(times as u64)?;
+        rt.write_all(b"*")?;
     }
-    io::print_decimal(1, value);
+    rt.print(value)
 }

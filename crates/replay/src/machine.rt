@@ -2,6 +2,7 @@
 use super::{answer, field, hex, list};
 use numbered::Numbered;
 use perform::State;
+use std::io;
 
 // What a call is given beside texts and buffers.
 #[derive(Clone, Copy)]
@@ -19,28 +20,34 @@ fn read_given(line: &[u8]) -> RunCase {
     }
 }
 
-pub fn replay(call: u8, line: &[u8]) {
+pub fn replay(rt: &impl Print, call: u8, line: &[u8]) -> io::Result<()> {
     let mut kinds = [0u8; 65540];
     let mut operands = [0u64; 65540];
     let n = list::bytes(field::at(line, 2), &mut kinds);
     let m = list::numbers(field::at(line, 3), &mut operands);
-    program(call, line, &kinds[..n], &operands[..m]);
+    program(rt, call, line, &kinds[..n], &operands[..m])
 }
 
-fn program(call: u8, line: &[u8], kinds: &[u8], operands: &[u64]) {
+fn program(
+    rt: &impl Print,
+    call: u8,
+    line: &[u8],
+    kinds: &[u8],
+    operands: &[u64],
+) -> io::Result<()> {
     if call == b'C' {
-        verify(line, kinds, operands);
+        verify(rt, line, kinds, operands)
     } else {
-        run(call, line, kinds, operands);
+        run(rt, call, line, kinds, operands)
     }
 }
 
-fn verify(line: &[u8], kinds: &[u8], operands: &[u64]) {
+fn verify(rt: &impl Print, line: &[u8], kinds: &[u8], operands: &[u64]) -> io::Result<()> {
     let given = read_given(line);
-    answer::print(checks::verify(kinds, operands, given.used).numbered());
+    answer::print(rt, checks::verify(kinds, operands, given.used).numbered())
 }
 
-fn run(call: u8, line: &[u8], kinds: &[u8], operands: &[u64]) {
+fn run(rt: &impl Print, call: u8, line: &[u8], kinds: &[u8], operands: &[u64]) -> io::Result<()> {
     let mut stack = [9u64; 4100];
     let mut work = [9u64; 65540];
     let mut storage = [0u64; 65540];
@@ -48,6 +55,7 @@ fn run(call: u8, line: &[u8], kinds: &[u8], operands: &[u64]) {
     let scratch = list::within(field::number(field::at(line, 8)) as usize, &work);
     let slots = list::numbers(field::at(line, 9), &mut storage);
     case(
+        rt,
         call,
         line,
         kinds,
@@ -55,10 +63,11 @@ fn run(call: u8, line: &[u8], kinds: &[u8], operands: &[u64]) {
         &mut stack[..items],
         &mut work[..scratch],
         &mut storage[..slots],
-    );
+    )
 }
 
 fn case(
+    rt: &impl Print,
     call: u8,
     line: &[u8],
     kinds: &[u8],
@@ -66,10 +75,10 @@ fn case(
     stack: &mut [u64],
     work: &mut [u64],
     storage: &mut [u64],
-) {
+) -> io::Result<()> {
     let told = called(call, line, kinds, operands, stack, work, storage);
-    answer::print(told);
-    left(line, told, stack, work, storage);
+    answer::print(rt, told)?;
+    left(rt, line, told, stack, work, storage)
 }
 
 fn called(
@@ -154,25 +163,31 @@ fn transition(
 }
 
 // What the original has after the call: the items and the used slots. Document 01 says it of all three buffers whole.
-fn left(line: &[u8], told: Numbered, stack: &[u64], work: &[u64], storage: &[u64]) {
+fn left(
+    rt: &impl Print,
+    line: &[u8],
+    told: Numbered,
+    stack: &[u64],
+    work: &[u64],
+    storage: &[u64],
+) -> io::Result<()> {
     if field::letter(line, 0) == b'd' {
-        answer::list(stack);
-        answer::list(storage);
-        answer::list(work);
-        return;
+        answer::list(rt, stack)?;
+        answer::list(rt, storage)?;
+        return answer::list(rt, work);
     }
     let given = read_given(line);
     let words = told.words;
     if told.number == 0 {
-        first(stack, words[2] as usize);
-        first(storage, words[3] as usize);
+        first(rt, stack, words[2] as usize)?;
+        first(rt, storage, words[3] as usize)
     } else {
-        first(stack, 0);
-        first(storage, given.used);
+        first(rt, stack, 0)?;
+        first(rt, storage, given.used)
     }
 }
 
-fn first(s: &[u64], n: usize) {
+fn first(rt: &impl Print, s: &[u64], n: usize) -> io::Result<()> {
     let count = list::within(n, s);
-    answer::list(&s[..count]);
+    answer::list(rt, &s[..count])
 }

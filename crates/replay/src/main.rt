@@ -23,51 +23,62 @@ mod parts;
 mod reader;
 mod text;
 
-ghost use Rattle.std.specs.Prelude.{◌≤◌, length};
-ghost use Rattle.io.specs.Counts.{IsPrefixLen};
+ghost use Rattle.std.specs.Prelude.{◌≤◌, length, IfOk};
+ghost use Rattle.std.specs.Io.{ReadsAtMost};
 
-fn main() {
+use std::io::{self, Read};
+
+fn main(rt: HostRuntime) -> io::Result<()> {
     let mut buffer = [0u8; 262144];
-    replay(&mut buffer);
+    replay(&rt, &mut rt.stdin(), &mut buffer)
 }
 
 // The buffer holds the start of a line that isn't whole yet; more is read behind it.
-fn replay(buffer: &mut [u8]) {
+fn replay(rt: &impl Print, input: &mut impl Read, buffer: &mut [u8]) -> io::Result<()> {
     let mut held: usize = 0;
     let mut rounds: usize = 0;
     while rounds < 65536 {
-        let n = more(buffer, held);
-        let done = cases(&buffer[..n]);
+        let n = more(input, buffer, held)?;
+        let done = cases(rt, &buffer[..n])?;
         if done == 0 {
-            return;
+            return Ok(());
         }
         held = keep(buffer, done, n);
         rounds += 1;
     }
+    Ok(())
 }
 
 // Reads behind what is held; how many bytes the buffer holds then.
-fn more(buffer: &mut [u8], held: usize) -> usize
+fn more(input: &mut impl Read, buffer: &mut [u8], held: usize) -> io::Result<usize>
     requires { held ≤ length buffer.old }
-    ensures { IsPrefixLen result buffer.new }
+    ensures { ReadsAtMost result buffer.new }
 {
-    held + io::read_full(0, &mut buffer[held..])
+    let mut done = held;
+    while done < buffer.len() {
+        let n = input.read(&mut buffer[done..])?;
+        if n == 0 {
+            return Ok(done);
+        }
+        done += n;
+    }
+    Ok(done)
 }
 
 // Replays the whole lines of a text; how many bytes they are.
-fn cases(text: &[u8]) -> usize
-    ensures { result ≤ length text.now }
+fn cases(rt: &impl Print, text: &[u8]) -> io::Result<usize>
+    ensures { IfOk result (λ n. n ≤ length text.now) }
 {
     let mut at: usize = 0;
     while at < text.len() {
         let end = field::stop(text, b'\n', at);
         if end == text.len() {
-            return at;
+            return Ok(at);
         }
-        case(&text[at..end]);
+        case(rt, &text[at..end])?;
         at = end + 1;
     }
-    at
+    Ok(at)
 }
 
 // Moves what stands from one place to another to the front; how many bytes it is.
@@ -84,16 +95,16 @@ fn keep(buffer: &mut [u8], from: usize, to: usize) -> usize
     count
 }
 
-fn case(line: &[u8]) {
+fn case(rt: &impl Print, line: &[u8]) -> io::Result<()> {
     let call = field::letter(line, 2);
     match call {
-        b'O' => reader::replay(line),
-        b'A' => assembly::replay(line),
-        b'C' => machine::replay(call, line),
-        b'R' => machine::replay(call, line),
-        b'S' => machine::replay(call, line),
-        b'T' => machine::replay(call, line),
-        _ => text::replay(call, line),
+        b'O' => reader::replay(rt, line)?,
+        b'A' => assembly::replay(rt, line)?,
+        b'C' => machine::replay(rt, call, line)?,
+        b'R' => machine::replay(rt, call, line)?,
+        b'S' => machine::replay(rt, call, line)?,
+        b'T' => machine::replay(rt, call, line)?,
+        _ => text::replay(rt, call, line)?,
     }
-    io::write_all(1, b"\n");
+    rt.write_all(b"\n")
 }

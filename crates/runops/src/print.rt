@@ -4,16 +4,23 @@ ghost use Rattle.pieces.specs.Code.Added.{Added};
 ghost use Rattle.runops.specs.Report.{spaced, Prints};
 
 use super::report::Report;
-use libc::STDOUT_FILENO;
 use pieces::{add_bytes, add_decimal};
+use std::process::ExitCode;
 
 // A write that fails is named on standard error.
-pub fn print(r: Report) {
+pub fn print(rt: &(impl Print + Eprint), r: Report) -> ExitCode {
     let mut out = [0u8; 171];
     let len = lines(r, &mut out);
-    if !io::write_all(STDOUT_FILENO, &out[..len]) {
-        os::fail(b"runops: standard output");
+    if let Err(e) = rt.write_all(&out[..len]) {
+        let _ = eprintln!(rt; "runops: standard output: {e}");
+        return ExitCode::FAILURE;
     }
+    ExitCode::SUCCESS
+}
+
+pub fn unreadable(rt: &impl Eprint) -> ExitCode {
+    let _ = rt.eprintln("runops: can't read standard input");
+    ExitCode::FAILURE
 }
 
 // They have at most 171 bytes.

@@ -62,7 +62,7 @@ pub struct Run<'a> {
 }
 
 mod c {
-    // As include/atc_vm.h declares them; tests/header.rs compares the two, and both with crates/atc_vm.
+    // As include/atc_vm.h declares them; tests/header.rs compares the two, and both with crates/atc_vm_c.
     extern "C" {
         pub fn atc_assemble(
             contract: *const u8,

@@ -1,4 +1,4 @@
-//! include/atc_vm.h declares what crates/atc_vm exports and src/sys.rs calls, and has this crate's limits. It compiles
+//! include/atc_vm.h declares what crates/atc_vm_c exports and src/sys.rs calls, and has this crate's limits. It compiles
 //! without a warning as C89 to C17 and as C++; so does tests/abi.c, as C99 and as C++, and finds all as due.
 
 mod repository;
@@ -143,7 +143,7 @@ fn in_sys() -> Vec<(String, Parameters)> {
 }
 
 fn in_the_rattle() -> Vec<(String, Parameters)> {
-    let source = text("crates/atc_vm/src/lib.rt");
+    let source = text("crates/atc_vm_c/src/lib.rt");
     functions(&source, "pub extern \"C\" fn atc_", ") -> u64", |p| {
         let (name, kind) = p.split_once(": ").unwrap();
         let slice = |kind| [one(name, kind), one(&format!("{name}_len"), "usize")].concat();

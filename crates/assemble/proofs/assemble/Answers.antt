@@ -7,10 +7,7 @@ use lib.ListN.{length-replicate}
 use Rattle.assemble.proofs.assemble.Goals as goal
 
 pub slice_bounds-assemble_into-end : goal.slice_bounds-assemble_into-end
-slice_bounds-assemble_into-end c = sym (length-replicate {A = ℕ} 1048576 0)
+slice_bounds-assemble_into-end g c = sym (length-replicate {A = ℕ} 1048576 0)
 
 pub assemble_into-requires : goal.assemble_into-requires
-assemble_into-requires c = subst (λ (n : ℕ). 128 ≤ n) (sym (length-replicate {A = ℕ} 1048576 0)) (lit≤ tt)
-
-pub returns : goal.returns
-returns c = tt
+assemble_into-requires g c = subst (λ (n : ℕ). 128 ≤ n) (sym (length-replicate {A = ℕ} 1048576 0)) (lit≤ tt)

@@ -5,4 +5,4 @@ use borrow.Author.Rules.{rules}
 use Rattle.examples.proofs.e1.Goals as goal
 
 pub slice_bounds-out-end : goal.slice_bounds-out-end
-slice_bounds-out-end c = omega (arith, sized c.tally.ensures.buffer)
+slice_bounds-out-end g c = omega (arith, sized c.tally.ensures.buffer)

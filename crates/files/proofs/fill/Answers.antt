@@ -11,7 +11,6 @@ use Rattle.files.specs.declared.Contents.{Contents}
 use Rattle.files.specs.declared.Contents.TheVariants.{Read}
 use Rattle.files.specs.Code.Held.{Held}
 use Rattle.files.proofs.Counted.{counted}
-use borrow.Author.Rules.{rules}
 use Rattle.files.proofs.fill.Goals as goal
 
 -- `part` is read behind the first `done` bytes
@@ -23,13 +22,13 @@ more buf part done n r h l k e =
     omega arith
 
 pub returns-then-n-eq0 : goal.returns-then-n-eq0
-returns-then-n-eq0 c = let l = c.loop-done in let g = c.buf-1.given in (omega arith, sym (length-take-le _ _ (omega arith)))
+returns-then-n-eq0 g c = let l = c.loop-done in let g = c.buf-1.given in (omega arith, sym (length-take-le _ _ (omega arith)))
 
 pub overflow_add-done : goal.overflow_add-done
-overflow_add-done c = let l = c.loop-done in let g = c.buf-1.given in let h = more l.buf _ l.done _ _ l.invariant.0 g.0 c.read_Some.ensures c.in-Read.is in omega arith
+overflow_add-done g c = let l = c.loop-done in let g = c.buf-1.given in let h = more l.buf _ l.done _ _ l.invariant.0 g.0 c.read_some-some.ensures c.in-Read.is in omega arith
 
 pub loop-done-preserved : goal.loop-done-preserved
-loop-done-preserved c = let l = c.loop-done in let g = c.buf-1.given in let h = more l.buf _ l.done _ _ l.invariant.0 g.0 c.read_Some.ensures c.in-Read.is in (omega arith, g.1 ∙ l.invariant.1)
+loop-done-preserved g c = let l = c.loop-done in let g = c.buf-1.given in let h = more l.buf _ l.done _ _ l.invariant.0 g.0 c.read_some-some.ensures c.in-Read.is in (omega arith, g.1 ∙ l.invariant.1)
 
 pub returns : goal.returns
-returns c = let h = c.loop-done.invariant.0 in (h, sym (length-take-le _ _ h))
+returns g c = let h = c.loop-done.invariant.0 in (h, sym (length-take-le _ _ h))

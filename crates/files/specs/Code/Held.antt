@@ -1,6 +1,6 @@
 -- What was read of a file stands within the buffer.
 use Rattle.std.specs.Prelude.{ℕ, List}
-use Rattle.io.specs.Counts.{IsPrefixLen}
+use Rattle.std.specs.Counts.{IsPrefixLen}
 use Rattle.files.specs.declared.Contents.{Contents}
 use Rattle.files.specs.declared.Contents.TheVariants.{Read, Unreadable}
 

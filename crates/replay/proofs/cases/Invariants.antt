@@ -4,7 +4,7 @@ use borrow.Author.Rules.{rules}
 use Rattle.replay.proofs.cases.Given as goal
 
 abbrev pub invariant-loop-at : goal.invariant-loop-at
-invariant-loop-at l = l.at ≤ length l.text
+invariant-loop-at g l = l.at ≤ length l.text
 
 abbrev pub decreases-loop-at : goal.decreases-loop-at
-decreases-loop-at l = length l.text - l.at
+decreases-loop-at g l = length l.text - l.at

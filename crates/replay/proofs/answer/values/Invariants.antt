@@ -4,7 +4,7 @@ use borrow.Author.Rules.{rules}
 use Rattle.replay.proofs.answer.values.Given as goal
 
 abbrev pub invariant-loop-i : goal.invariant-loop-i
-invariant-loop-i l = l.n ≤ length l.words
+invariant-loop-i g l = l.n ≤ length l.words
 
 abbrev pub decreases-loop-i : goal.decreases-loop-i
-decreases-loop-i l = l.n - l.i
+decreases-loop-i g l = l.n - l.i

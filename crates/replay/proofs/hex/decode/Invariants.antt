@@ -3,7 +3,6 @@ use mathlib.Core.Path.{◌≡◌}
 use borrow.Author.Tests.{not-false}
 use native.Mathlib.Omega.{arith}
 use lib.ListN.{length, length-set}
-use Rattle.io.proofs.Counting.{prefix_len_of_le}
 use borrow.Author.Rules.{rules}
 use Rattle.replay.proofs.hex.decode.Given as goal
 

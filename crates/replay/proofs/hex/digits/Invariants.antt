@@ -4,7 +4,7 @@ use borrow.Author.Rules.{rules}
 use Rattle.replay.proofs.hex.digits.Given as goal
 
 abbrev pub invariant-loop-i : goal.invariant-loop-i
-invariant-loop-i l = Unit {0}
+invariant-loop-i g l = Unit {0}
 
 abbrev pub decreases-loop-i : goal.decreases-loop-i
-decreases-loop-i l = length l.s - l.i
+decreases-loop-i g l = length l.s - l.i

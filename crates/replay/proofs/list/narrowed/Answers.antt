@@ -4,7 +4,7 @@ use Prim.Native.Nat.{◌-◌, ◌≤◌}
 use mathlib.Core.Path.{◌≡◌}
 use native.Mathlib.Omega.{arith}
 use lib.ListN.{length, length-set}
-use Rattle.io.proofs.Counting.{prefix_len_of_le}
+use Rattle.replay.proofs.Prefix.{prefix_len_of_le}
 use borrow.Author.Rules.{rules}
 use Rattle.replay.proofs.list.narrowed.Goals as goal
 

@@ -1,7 +1,7 @@
 -- `list::within` meets its contract.
 -- Assumes nothing.
 use native.Mathlib.Omega.{arith}
-use Rattle.io.proofs.Counting.{prefix_len_of_le}
+use Rattle.replay.proofs.Prefix.{prefix_len_of_le}
 use Rattle.replay.proofs.list.within.Goals as goal
 
 pub returns-then-s-n : goal.returns-then-s-n

@@ -1,28 +1,28 @@
 -- `replay::parts::parameters` is safe and ends: each name lies within the text, and the next one is sought behind it.
 -- Assumes nothing.
-use Prim.Native.Nat.{◌-◌}
 use mathlib.Core.Path.{sym, ◌∙◌}
 use native.Mathlib.Omega.{arith}
 use lib.ListN.{length, take, length-take}
-use Rattle.source.specs.Code.Cursor.{IsParameter}
 use Rattle.source.proofs.Cursor.{next_is}
 use borrow.Author.Rules.{rules}
 use Rattle.replay.proofs.parts.parameters.Goals as goal
-use Rattle.replay.proofs.parts.parameters.Goals.{In-Is-2}
-
-is_parameter : (c : In-Is-2) → IsParameter (take c.args.end c.args.text.now) c.loop-at.at c.in-Is.parameter
-is_parameter c =
-    let l = c in
-    next_is (take l.args.end l.args.text.now) l.loop-at.at c.in-Is.parameter (sym c.next_parameter-next.ensures ∙ c.in-Is.is)
 
 pub slice_bounds-bytes-count : goal.slice_bounds-bytes-count
-slice_bounds-bytes-count c = let p = is_parameter (goal.at.slice_bounds-bytes-count c).In-Is-2 in let q = p.filled in omega arith
+slice_bounds-bytes-count g c =
+    let p = next_is (take c.args.end c.args.text.now) c.loop-at.at c.in-Is.parameter (sym c.next_parameter-next.ensures ∙ c.in-Is.is) in
+    let q = p.filled in omega arith
 
 pub slice_bounds-bytes-start : goal.slice_bounds-bytes-start
-slice_bounds-bytes-start c = let p = is_parameter (goal.at.slice_bounds-bytes-start c).In-Is-2 in let q = p.filled in omega arith
+slice_bounds-bytes-start g c =
+    let p = next_is (take c.args.end c.args.text.now) c.loop-at.at c.in-Is.parameter (sym c.next_parameter-next.ensures ∙ c.in-Is.is) in
+    let q = p.filled in omega arith
 
 pub slice_bounds-bytes-end : goal.slice_bounds-bytes-end
-slice_bounds-bytes-end c = let p = is_parameter (goal.at.slice_bounds-bytes-end c).In-Is-2 in let q = p.before in let r = p.fits in omega (arith, length-take c.args.end c.args.text.now)
+slice_bounds-bytes-end g c =
+    let p = next_is (take c.args.end c.args.text.now) c.loop-at.at c.in-Is.parameter (sym c.next_parameter-next.ensures ∙ c.in-Is.is) in
+    let q = p.before in let r = p.fits in omega (arith, length-take c.args.end c.args.text.now)
 
 pub loop-at-smaller : goal.loop-at-smaller
-loop-at-smaller c = let p = is_parameter (goal.at.loop-at-smaller c).In-Is-2 in let q = p.on in let r = p.fits in omega (arith, length-take c.args.end c.args.text.now)
+loop-at-smaller g c =
+    let p = next_is (take c.args.end c.args.text.now) c.loop-at.at c.in-Is.parameter (sym c.next_parameter-next.ensures ∙ c.in-Is.is) in
+    let q = p.on in let r = p.fits in omega (arith, length-take c.args.end c.args.text.now)

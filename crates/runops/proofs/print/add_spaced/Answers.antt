@@ -1,7 +1,6 @@
 -- `runops::print::add_spaced` meets its contract: a space, then the number.
 -- Assumes nothing.
 use Rattle.pieces.proofs.Laws.{added_then}
-use borrow.Author.Rules.{rules}
 use Rattle.runops.proofs.print.add_spaced.Goals as goal
 
 pub returns : goal.returns

@@ -3,7 +3,6 @@
 use native.Mathlib.Omega.{arith}
 use Rattle.pieces.proofs.Laws.{added_then}
 use Rattle.runops.proofs.PrintedLines.{prints, printed_short}
-use borrow.Author.Rules.{rules}
 use Rattle.runops.proofs.print.lines.Goals as goal
 
 pub returns : goal.returns

@@ -5,7 +5,6 @@ use mathlib.Core.Path.{sym, ap}
 use lib.ListN.{length-replicate}
 use Rattle.numbered.specs.declared.Numbered.{Numbered}
 use Rattle.runops.proofs.Reported.{made, items_fit, refused_run, successful_run}
-use borrow.Author.Rules.{rules}
 use Rattle.runops.proofs.report.of_run.Goals as goal
 
 pub slice_bounds-run_with_gas-end : goal.slice_bounds-run_with_gas-end

@@ -6,7 +6,6 @@ use lib.ListN.{length-replicate}
 use lib.Seq.{length-take-le}
 use Rattle.numbered.specs.declared.Numbered.{Numbered}
 use Rattle.runops.proofs.Reading.{read, read_run, not_read_lem, large, small}
-use borrow.Author.Rules.{rules}
 use Rattle.runops.proofs.report.of_text.Goals as goal
 
 pub returns-then-text-gt65536 : goal.returns-then-text-gt65536

@@ -1,7 +1,6 @@
 -- `runops::report::top` meets its contract: the last of the items stands before the place behind it.
 -- Assumes nothing.
 use Rattle.runops.proofs.Reported.{top_item}
-use borrow.Author.Rules.{rules}
 use Rattle.runops.proofs.report.top.Goals as goal
 
 pub returns : goal.returns
