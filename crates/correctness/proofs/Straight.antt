@@ -56,10 +56,9 @@ straight c room prog (x ∷ l) rest (suc n) g fr (one pl pls) e h =
     let d : drop fr.pos prog ≡ op_at prog fr.pos ∷ drop (suc fr.pos) prog = drop-cons prog fr.pos halt k in
     let a : op_at prog fr.pos ≡ x = cc in
     let b : drop (suc fr.pos) prog ≡ l ++ rest = cc in
-    let j : suc n - suc (length l) ≡ n - length l = omega arith in
     let t = lt-ltb fr.pos (length prog) k in
     let price = price_of x (length fr.storage) in
-    rw (t, a, j)
+    rw (t, a)
     (one_step g fr (run_of (machine prog c room) n) (line c room (run_of (machine prog c room) (n - length l)) l)
     (λ g₁ fr₁ q h₁. straight c room prog l rest n g₁ fr₁ pls (ap (λ (i : ℕ). drop i prog) q ∙ b) (omega arith))
     price (effect_of c room x fr.stack fr.storage) (rw (t, a) at (priced prog c room fr)) (pl c room fr.stack fr.storage) (dec_lt g price))

@@ -43,7 +43,7 @@ emit-halt-requires c =
     let i = c.if-room-frame.false in
     let j = c.if-room-frame-2.false in
     let w = c.put_header-first.ensures in
-    (means g.accepts q, omega (arith, z, e, i, j, w.next, overwrites_length w (omega (arith, e, i))))
+    record { means_tree = means g.accepts q; end_in_bounds = omega (arith, z, e, i, j, w.next, overwrites_length w (omega (arith, e, i))) }
 
 pub put_bytes-written-requires : goal.put_bytes-written-requires
 put_bytes-written-requires c =
