@@ -2,7 +2,7 @@
 use Prim.Native.Nat.{ℕ, zero, suc, ◌+◌, ◌-◌, ◌≤◌, ◌<◌, min}
 use native.Mathlib.Omega.{arith}
 use native.Mathlib.Decide.{dec_lt}
-use mathlib.Core.Path.{◌≡◌, refl, sym, ap, ◌∙◌, fun_ext}
+use mathlib.Core.Path.{◌≡◌, refl, sym, ap, subst, ◌∙◌, fun_ext}
 use mathlib.Core.List.{List, [], ◌∷◌, ◌++◌, append-nil}
 use lib.ListN.{length, drop, length-drop}
 use lib.Seq.{drop-cons}
@@ -58,10 +58,12 @@ straight c room prog (x ∷ l) rest (suc n) g fr (one pl pls) e h =
     let b : drop (suc fr.pos) prog ≡ l ++ rest = cc in
     let t = lt-ltb fr.pos (length prog) k in
     let price = price_of x (length fr.storage) in
-    rw (t, a)
+    let j : suc n - suc (length l) ≡ n - length l = omega arith in
+    subst (λ (k : ℕ). run_of (machine prog c room) (suc n) g fr ≡ line c room (run_of (machine prog c room) k) (x ∷ l) g fr) (sym j)
+    (rw (t, a)
     (one_step g fr (run_of (machine prog c room) n) (line c room (run_of (machine prog c room) (n - length l)) l)
     (λ g₁ fr₁ q h₁. straight c room prog l rest n g₁ fr₁ pls (ap (λ (i : ℕ). drop i prog) q ∙ b) (omega arith))
-    price (effect_of c room x fr.stack fr.storage) (rw (t, a) at (priced prog c room fr)) (pl c room fr.stack fr.storage) (dec_lt g price))
+    price (effect_of c room x fr.stack fr.storage) (rw (t, a) at (priced prog c room fr)) (pl c room fr.stack fr.storage) (dec_lt g price)))
 
 -- a whole program of such operations
 pub whole_line : (l : List Operation) → Each Plain l → (c room g : ℕ) (m : List ℕ) → run_to_end l c room g m ≡ line c room (run_of (machine l c room) (g + 1 - length l)) l g (start m)
