@@ -25,7 +25,6 @@ use Rattle.scope.specs.declared.state.LastReturned.{LastReturned}
 use Rattle.scope.specs.declared.state.LastReturned.TheVariants.{Is, Nothing}
 use Rattle.scope.specs.declared.state.Returned.{Returned}
 use Rattle.scope.specs.declared.state.Status.{Status}
-use Rattle.scope.specs.declared.state.Status.TheVariants as Status
 use Rattle.scope.specs.declared.state.Status.TheVariants.{Going}
 use Rattle.scope.specs.declared.refusal.AssembleError.{AssembleError}
 use Rattle.scope.specs.declared.refusal.AssembleError.TheVariants.{BadStem, OutputTooLong}

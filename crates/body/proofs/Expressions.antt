@@ -11,7 +11,6 @@ use Rattle.base.proofs.Parts.{take-drop_slice}
 use Rattle.figures.specs.declared.Figures.{Figures}
 use Rattle.expression.specs.declared.ExprError.{ExprError}
 use Rattle.expression.specs.declared.ParseResult.{ParseResult}
-use Rattle.expression.specs.declared.ParseResult.TheVariants as Parsed
 use Rattle.grammar.specs.Tree.{Tree, k_of}
 use Rattle.grammar.specs.Parse.{Env, meaning}
 use Rattle.figures.specs.Code.Figures.{FiguresOf}

@@ -27,7 +27,6 @@ use Rattle.body.specs.declared.CheckedExpression.TheVariants.{Is}
 use Rattle.body.specs.declared.statement.StatementSpans.{StatementSpans}
 use Rattle.body.specs.declared.statement.StatementSpans.TheVariants.{Let, Return}
 use Rattle.scope.specs.declared.state.LastReturned.{LastReturned}
-use Rattle.scope.specs.declared.state.LastReturned.TheVariants as Last
 use Rattle.scope.specs.declared.state.TableState as Code
 use Rattle.scope.specs.Scope.{Scope, bound, each}
 use Rattle.base.specs.Outcome.{Outcome, is, refused, and_then}

@@ -22,7 +22,6 @@ use Rattle.decimal.specs.Decimal.{digit, value}
 use Rattle.lines.specs.Lines.{lines}
 use Rattle.source.specs.declared.function.Places.{Places}
 use Rattle.source.specs.declared.function.Function.{Function}
-use Rattle.source.specs.declared.function.Function.TheVariants as Function
 use Rattle.source.specs.declared.vector.KeyError.{KeyError}
 use Rattle.source.specs.declared.vector.KeyError.TheVariants.{NoKey, NoColon, NoDigit, TooLarge}
 use Rattle.source.specs.declared.vector.KeyValue.{KeyValue}

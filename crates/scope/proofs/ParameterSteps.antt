@@ -15,13 +15,11 @@ use Rattle.source.specs.Code.Cursor.{parameter_at}
 use Rattle.source.proofs.Cursor.{next_is, next_done}
 use Rattle.figures.specs.declared.Figures.{Figures}
 use Rattle.figures.specs.declared.TreeValue.{TreeValue}
-use Rattle.figures.specs.declared.TreeValue.TheVariants as Value
 use Rattle.grammar.specs.Tree.{num}
 use Rattle.grammar.specs.Parse.{Env}
 use Rattle.figures.specs.Code.Figures.{FiguresOf, option_of}
 use Rattle.scope.specs.declared.refusal.AssembleError.{AssembleError}
 use Rattle.scope.specs.declared.parameters.KeyNumber.{KeyNumber}
-use Rattle.scope.specs.declared.parameters.KeyNumber.TheVariants as Number
 use Rattle.scope.specs.declared.state.TableState as Code
 use Rattle.scope.specs.Part.{part}
 use Rattle.scope.specs.Scope.{Scope, bound}

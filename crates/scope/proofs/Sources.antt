@@ -21,7 +21,6 @@ use Rattle.bindings.specs.Code.Source.{Sources, sources, name_of, expression_of,
 use Rattle.scope.specs.declared.state.TableState.{TableState}
 use Rattle.scope.specs.declared.state.Returned.{Returned}
 use Rattle.scope.specs.declared.state.LastReturned.{LastReturned}
-use Rattle.scope.specs.declared.state.LastReturned.TheVariants as Last
 use Rattle.scope.specs.Part.{part}
 use Rattle.scope.specs.Code.Stored.{number_in, More}
 use Rattle.scope.specs.Code.Held.{ReturnIs, LastIs}

@@ -1,9 +1,7 @@
 -- `assembler::assemble` meets its contract: by the status, then the stem.
 use mathlib.Core.Path.{sym, ◌∙◌}
-use borrow.Author.Tests.{not-true, not-false}
 use Rattle.assembler.proofs.Stems.{stem_short}
 use Rattle.assembler.proofs.Outputs.{is_going, is_refused_lem, as_assembled, stem_refused}
-use borrow.Author.Rules.{rules}
 use Rattle.assembler.proofs.assemble.Goals as goal
 
 pub returns-then-not-stem_fits : goal.returns-then-not-stem_fits

@@ -6,7 +6,6 @@ use lib.ListN.{take}
 use lib.Seq.{length-take-le}
 use Rattle.expression.specs.Code.Answers.{EndsLast}
 use Rattle.body.proofs.Expressions.{check_refused, check_long, check_done}
-use borrow.Author.Rules.{rules}
 use Rattle.body.proofs.check.Goals as goal
 
 pub slice_bounds-parse-end : goal.slice_bounds-parse-end

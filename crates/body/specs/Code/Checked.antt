@@ -8,7 +8,6 @@ use Rattle.grammar.specs.Parse.{Env, meaning}
 use Rattle.figures.specs.Code.Figures.{FiguresOf}
 use Rattle.bindings.specs.Code.Table.{Columns, TableFor}
 use Rattle.body.specs.declared.CheckedExpression.{CheckedExpression}
-use Rattle.body.specs.declared.CheckedExpression.TheVariants as Checked
 use Rattle.scope.specs.Scope.{Scope}
 use Rattle.body.specs.Body.{tree_or}
 use Rattle.scope.specs.Numbers.{assemble_error_numbered}

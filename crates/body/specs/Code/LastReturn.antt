@@ -7,11 +7,9 @@ use Rattle.source.specs.declared.function.Places.{Places}
 use Rattle.source.specs.Parameters.{parameters}
 use Rattle.token.specs.Code.Places.{last_end}
 use Rattle.body.specs.declared.CheckedExpression.{CheckedExpression}
-use Rattle.body.specs.declared.CheckedExpression.TheVariants as Checked
 use Rattle.body.specs.declared.statement.StatementSpans.{StatementSpans}
 use Rattle.body.specs.declared.statement.StatementSpans.TheVariants.{Skipped, NoEquals, Let, Return}
 use Rattle.scope.specs.declared.state.LastReturned.{LastReturned}
-use Rattle.scope.specs.declared.state.LastReturned.TheVariants as Last
 use Rattle.scope.specs.declared.state.Status.TheVariants.{Going}
 use Rattle.scope.specs.declared.state.TableState.{TableState}
 use Rattle.scope.specs.Part.{part}

@@ -2,7 +2,6 @@
 -- Assumes nothing.
 use Prim.Native.Nat.{ℕ}
 use mathlib.Core.Path.{sym, ap, subst, ◌∙◌}
-use borrow.Author.Tests.{not-true, not-false}
 use Rattle.numbered.specs.declared.Numbered.{Numbered}
 use Rattle.base.specs.Outcome.{Outcome, and_then}
 use Rattle.source.specs.declared.function.Function.{Function}
@@ -10,7 +9,6 @@ use Rattle.grammar.specs.Tree.{Tree}
 use Rattle.contract.specs.Assembled.{function_read, places_of}
 use Rattle.contract.specs.Code.Concluded.{Concludes}
 use Rattle.contract.proofs.Conclusion.{concludes_off, no_contract, no_vector, both_readable, readable_short}
-use borrow.Author.Rules.{rules}
 use Rattle.contract.proofs.check_contract.Goals as goal
 
 pub returns-then-not-is_readable : goal.returns-then-not-is_readable

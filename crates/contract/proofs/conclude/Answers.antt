@@ -1,7 +1,6 @@
 -- `contract::conclude` meets its contract: by the last return and its value.
 -- Assumes nothing.
 use Rattle.contract.proofs.Conclusion.{end_refused, end_nothing, end_no_value, end_same, end_other}
-use borrow.Author.Rules.{rules}
 use Rattle.contract.proofs.conclude.Goals as goal
 
 pub returns-in-Refused : goal.returns-in-Refused

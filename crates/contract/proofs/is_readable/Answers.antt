@@ -2,7 +2,6 @@
 -- Assumes nothing.
 use mathlib.Core.Path.{◌∙◌}
 use Rattle.contract.proofs.Conclusion.{too_long, short_enough}
-use borrow.Author.Rules.{rules}
 use Rattle.contract.proofs.is_readable.Goals as goal
 
 pub returns-then-s-gt-MAX_TEXT_BYTES : goal.returns-then-s-gt-MAX_TEXT_BYTES

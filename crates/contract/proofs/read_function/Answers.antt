@@ -9,7 +9,6 @@ use Rattle.scope.specs.Code.Held.{keyed_as}
 use Rattle.contract.specs.Assembled.{body_read}
 use Rattle.contract.specs.Code.Concluded.{Concludes, concluded}
 use Rattle.contract.proofs.Conclusion.{concludes_off}
-use borrow.Author.Rules.{rules}
 use Rattle.contract.proofs.read_function.Goals as goal
 
 pub read_parameters_and_body-requires : goal.read_parameters_and_body-requires

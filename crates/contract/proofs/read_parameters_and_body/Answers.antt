@@ -2,7 +2,6 @@
 -- Assumes nothing.
 use mathlib.Core.Path.{sym, ◌∙◌}
 use Rattle.contract.proofs.Conclusion.{params_within, body_within, params_off, params_stand, params_good, body_leads, body_stands}
-use borrow.Author.Rules.{rules}
 use Rattle.contract.proofs.read_parameters_and_body.Goals as goal
 
 pub bind_parameters-bound-requires : goal.bind_parameters-bound-requires

@@ -1,7 +1,6 @@
 -- `contract::rejected` meets its contract: the state with nothing in it is refused.
 -- Assumes nothing.
 use mathlib.Core.Path.{refl}
-use borrow.Author.Rules.{rules}
 use Rattle.contract.proofs.rejected.Goals as goal
 
 pub returns : goal.returns

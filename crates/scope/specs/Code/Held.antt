@@ -12,12 +12,10 @@ use Rattle.bindings.specs.Code.Table.{columns, TableFor}
 use Rattle.bindings.specs.Code.Source.{sources, env_of, AllInText}
 use Rattle.scope.specs.declared.state.Returned.{Returned}
 use Rattle.scope.specs.declared.state.LastReturned.{LastReturned}
-use Rattle.scope.specs.declared.state.LastReturned.TheVariants as Last
 use Rattle.scope.specs.declared.state.Status.{Status}
 use Rattle.scope.specs.declared.state.Status.TheVariants.{Going, Refused}
 use Rattle.scope.specs.declared.state.TableState as Code
 use Rattle.scope.specs.declared.parameters.KeyNumber.{KeyNumber}
-use Rattle.scope.specs.declared.parameters.KeyNumber.TheVariants as Number
 use Rattle.scope.specs.Part.{part}
 use Rattle.scope.specs.Scope.{Scope}
 use Rattle.scope.specs.Numbers.{assemble_error_numbered}

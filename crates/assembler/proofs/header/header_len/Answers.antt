@@ -2,7 +2,6 @@
 use native.Mathlib.Omega.{arith}
 use Rattle.decimal.proofs.Laws.{length_word}
 use Rattle.assembler.proofs.Outputs.{header-length}
-use borrow.Author.Rules.{rules}
 use Rattle.assembler.proofs.header.header_len.Goals as goal
 
 pub overflow_add-result-2 : goal.overflow_add-result-2

@@ -2,7 +2,6 @@
 use native.Mathlib.Omega.{arith}
 use Rattle.writer.proofs.Pieces.{overwrites_length}
 use Rattle.assembler.proofs.Outputs.{header-length, header_put}
-use borrow.Author.Rules.{rules}
 use Rattle.assembler.proofs.header.put_header.Goals as goal
 
 pub put_bytes-line-requires : goal.put_bytes-line-requires

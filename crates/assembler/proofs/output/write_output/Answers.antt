@@ -3,7 +3,6 @@ use native.Mathlib.Omega.{arith}
 use Rattle.decimal.proofs.Laws.{length_word}
 use Rattle.writer.proofs.Pieces.{overwrites_length, overwrites_then}
 use Rattle.assembler.proofs.Outputs.{header-length, no_return, means, text_size, no_room, written_whole}
-use borrow.Author.Rules.{rules}
 use Rattle.assembler.proofs.output.write_output.Goals as goal
 
 pub returns-in_default : goal.returns-in_default

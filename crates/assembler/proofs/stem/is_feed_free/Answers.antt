@@ -1,10 +1,6 @@
 -- `assembler::stem::is_feed_free` meets its contract: byte by byte.
-use Prim.Native.Nat.{◌-◌}
-use mathlib.Core.Path.{◌≡◌, refl, sym, ◌∙◌}
-use lib.ListN.{length, drop}
-use Rattle.lines.specs.Lines.{feed_free}
+use mathlib.Core.Path.{refl, sym, ◌∙◌}
 use Rattle.assembler.proofs.Stems.{feed_here, feed_next_lem, feed_end}
-use borrow.Author.Rules.{rules}
 use Rattle.assembler.proofs.stem.is_feed_free.Goals as goal
 
 pub loop-i-init : goal.loop-i-init

@@ -1,9 +1,7 @@
 use Prim.Native.Nat.{◌-◌}
-use mathlib.Core.Path.{◌≡◌, refl, sym, ◌∙◌}
+use mathlib.Core.Path.{◌≡◌}
 use lib.ListN.{length, drop}
 use Rattle.lines.specs.Lines.{feed_free}
-use Rattle.assembler.proofs.Stems.{feed_here, feed_next_lem, feed_end}
-use borrow.Author.Rules.{rules}
 use Rattle.assembler.proofs.stem.is_feed_free.Given as goal
 
 abbrev pub invariant-loop-i : goal.invariant-loop-i

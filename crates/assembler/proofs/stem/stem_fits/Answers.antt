@@ -1,8 +1,6 @@
 -- `assembler::stem::stem_fits` meets its contract: test by test.
 use mathlib.Core.Path.{sym, ◌∙◌}
-use borrow.Author.Tests.{not-true, not-false}
 use Rattle.assembler.proofs.Stems.{stem_empty, stem_long, stem_bytes, stem_lines}
-use borrow.Author.Rules.{rules}
 use Rattle.assembler.proofs.stem.stem_fits.Goals as goal
 
 pub returns-then-stem-eq0 : goal.returns-then-stem-eq0

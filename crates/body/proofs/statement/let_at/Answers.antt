@@ -3,7 +3,6 @@
 use mathlib.Core.Path.{sym, ◌∙◌}
 use native.Mathlib.Omega.{arith}
 use Rattle.body.proofs.Places.{equals_inside, let-absent, let-found}
-use borrow.Author.Rules.{rules}
 use Rattle.body.proofs.statement.let_at.Goals as goal
 
 pub returns-in_default : goal.returns-in_default

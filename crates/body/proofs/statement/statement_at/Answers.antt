@@ -5,7 +5,6 @@ use native.Mathlib.Omega.{arith}
 use Rattle.source.specs.declared.parameters.Span.{Span}
 use Rattle.body.specs.Code.Places.{trimmed_at}
 use Rattle.body.proofs.Places.{trimmed_inside, short_skipped}
-use borrow.Author.Rules.{rules}
 use Rattle.body.proofs.statement.statement_at.Goals as goal
 
 pub returns-then-end-start-lt4 : goal.returns-then-end-start-lt4

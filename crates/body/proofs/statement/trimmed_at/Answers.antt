@@ -4,7 +4,6 @@ use mathlib.Core.Path.{sym, ◌∙◌}
 use native.Mathlib.Omega.{arith}
 use Rattle.base.specs.Ascii.{ascii}
 use Rattle.body.proofs.Places.{word_inside, at-let, at_return, at_neither}
-use borrow.Author.Rules.{rules}
 use Rattle.body.proofs.statement.trimmed_at.Goals as goal
 
 pub overflow_add-start : goal.overflow_add-start

@@ -4,7 +4,6 @@ use mathlib.Core.Path.{ap}
 use native.Mathlib.Omega.{arith}
 use Rattle.source.specs.declared.parameters.Span.{Span}
 use Rattle.body.proofs.Places.{trimmed_inside}
-use borrow.Author.Rules.{rules}
 use Rattle.body.proofs.statement.trimmed_part.Goals as goal
 
 pub overflow_add-result : goal.overflow_add-result

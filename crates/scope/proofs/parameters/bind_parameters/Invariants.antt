@@ -1,13 +1,10 @@
 use Prim.Native.Nat.{◌-◌}
-use mathlib.Core.Path.{refl, sym, ◌∙◌}
-use native.Mathlib.Omega.{arith}
 use Rattle.source.specs.Parameters.{parameters}
 use Rattle.scope.specs.Part.{part}
 use Rattle.scope.specs.Parameters.{parameter_bound}
-use Rattle.scope.proofs.Stored.{Full, full_more, row_more}
-use Rattle.scope.proofs.Loops.{Turn, turn_first, item_within, turn_done, turn_next, turn_off}
-use Rattle.scope.proofs.ParameterSteps.{names_from, all_names, names_done, names_end, name_item, parameter_refused, parameter_bound_lem}
-use borrow.Author.Rules.{rules}
+use Rattle.scope.proofs.Stored.{Full}
+use Rattle.scope.proofs.Loops.{Turn}
+use Rattle.scope.proofs.ParameterSteps.{names_from}
 use Rattle.scope.proofs.parameters.bind_parameters.Given as goal
 
 abbrev pub invariant-loop-at : goal.invariant-loop-at

@@ -4,7 +4,6 @@ use Prim.Native.Nat.{ℕ, ◌+◌}
 use mathlib.Core.Path.{refl, ap}
 use native.Mathlib.Omega.{arith}
 use Rattle.decimal.proofs.Laws.{length_word}
-use borrow.Author.Rules.{rules}
 use Rattle.scope.proofs.parameters.literal.Goals as goal
 
 pub overflow_add-result : goal.overflow_add-result

@@ -3,7 +3,6 @@
 use mathlib.Core.Path.{sym, ap, ◌∙◌}
 use Rattle.source.specs.declared.vector.KeyValue.{KeyValue}
 use Rattle.scope.specs.Parameters.{keyed}
-use borrow.Author.Rules.{rules}
 use Rattle.scope.proofs.parameters.number_for.Goals as goal
 
 pub returns-in-Is : goal.returns-in-Is

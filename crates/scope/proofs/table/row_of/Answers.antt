@@ -1,5 +1,4 @@
 -- `scope::table::row_of` meets its contract: places and figures fit.
-use borrow.Author.Rules.{rules}
 use Rattle.scope.proofs.table.row_of.Goals as goal
 
 pub returns : goal.returns
