@@ -28,7 +28,7 @@ number_is : (c : Else-len-s) → number_of c.args.s.now ≡ as_number c.digits_a
 number_is c =
     let r = (ap (λ (d : Digits). d.len) c.digits_at-run.ensures) in
     let p = c in
-    read_all p.args.s.now p.plus_len-at.result p.plus_len-at.ensures.1 (λ z. c.if-len-eq0.false (r ∙ z)) (omega arith)
+    read_all p.args.s.now p.plus_len-at.result p.plus_len-at.ensures.1 (λ z. omega arith) (omega arith)
     ∙ ap (λ (d : Digits). as_number d.value) (sym c.digits_at-run.ensures)
 
 pub returns-in-Is : goal.returns-in-Is
