@@ -150,7 +150,7 @@ impl AssembleError {
             23 => AssembleError::NoValue,
             24 => AssembleError::NotExpected,
             25 => AssembleError::BadStem,
-            // Proved: crates/assembler/proofs/Bounds.antt, `never-26`.
+            // Proved: crates/assembler/proofs/Bounds.antt, `never_26`.
             number => unreachable!("the assembler gives 1 to 25 where it has room, not {number}"),
         }
     }

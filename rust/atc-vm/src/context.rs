@@ -136,7 +136,7 @@ pub fn execution_gate(
     if number == 0 {
         return Ok(());
     }
-    // Proved: crates/relied, `gate-gives`.
+    // Proved: crates/relied, `gate_gives`.
     Err(ContextError::of(number)
         .unwrap_or_else(|| unreachable!("the gate gives 35 to 40, not {number}")))
 }

@@ -92,7 +92,7 @@ pub fn parse_ops(text: &str) -> Result<Vec<Op>, OpsError> {
 
 /// Reads ops text from bytes, which may turn out not to be UTF-8.
 pub fn parse_ops_bytes(text: &[u8]) -> Result<Vec<Op>, OpsError> {
-    // Room for an operation on every line, so that 32 is never given. Proved: crates/relied, `read-relied` (lent, within).
+    // Room for an operation on every line, so that 32 is never given. Proved: crates/relied, `read_relied` (lent, within).
     let room = 1 + line_feeds(text);
     let mut kinds = vec![0; room];
     let mut operands = vec![0; room];
@@ -124,7 +124,7 @@ pub fn parse_ops_bytes(text: &[u8]) -> Result<Vec<Op>, OpsError> {
             value: part(),
         },
         33 => OpsError::Empty,
-        // Proved: crates/relied, `read-relied` (lent).
+        // Proved: crates/relied, `read_relied` (lent).
         number => unreachable!("the reader gives 27 to 31 or 33 where it has room, not {number}"),
     })
 }

@@ -76,7 +76,7 @@ impl Op {
             13 => Op::Caller,
             14 => Op::JumpIfZero(operand as usize),
             15 => Op::Halt,
-            // Proved: crates/relied, `read-relied` (kinds).
+            // Proved: crates/relied, `read_relied` (kinds).
             _ => unreachable!("the reader gives kinds 0 to 15, not {kind}"),
         }
     }
@@ -179,7 +179,7 @@ impl VmError {
                 requested: answer.word(0),
                 limit: MAX_STORAGE_SLOTS,
             },
-            // Proved: crates/relied, `verify-relied` (known), `run-relied` (meteredHanded, transitionHanded).
+            // Proved: crates/relied, `verify_relied` (known), `run_relied` (metered_handed, transition_handed).
             number => unreachable!(
                 "a program of known kinds with enough memory lent is not refused with {number}"
             ),
@@ -399,7 +399,7 @@ impl Vm {
     // Lends what a run needs and no more, since all that is lent is cleared: 4,096 items, and one number of slots, which
     // holds those used and those that the program may store to. So 34 and 51 can't be given; nor can 44. That items and used
     // slots lie in what is lent, and that what former runs left there never shows, is proved in crates/relied
-    // (`success-within`, `same-run`).
+    // (`success_within`, `same_run`).
     fn perform(
         &mut self,
         call: impl FnOnce(sys::Run<'_>) -> sys::Answer,

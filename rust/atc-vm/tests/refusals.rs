@@ -91,8 +91,8 @@ struct Case {
     numbering: String,
 }
 
-// The clauses `..Numbered (Case value ..) = plain N`, or `= carrying N (value ∷ .. ∷ [])`, by their numbers; and the
-// numberings that `= located (..Numbered e) value` gives a value to.
+// The clauses `.._numbered (Case value ..) = plain N`, or `= carrying N (value ∷ .. ∷ [])`, by their numbers; and the
+// numberings that `= located (.._numbered e) value` gives a value to.
 #[derive(Default)]
 struct Clauses {
     cases: BTreeMap<u64, Vec<Case>>,
@@ -119,7 +119,7 @@ impl Clauses {
             ["located", inner, ..] => {
                 self.located.insert(inner.to_string());
             }
-            ["plain" | "carrying", number, ..] if numbering.ends_with("Numbered") => {
+            ["plain" | "carrying", number, ..] if numbering.ends_with("_numbered") => {
                 let case = Case {
                     name: case.to_string(),
                     carries: right.iter().filter(|&&word| word == "∷").count(),

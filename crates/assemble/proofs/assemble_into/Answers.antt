@@ -3,7 +3,6 @@
 use mathlib.Core.Path.{sym}
 use lib.Seq.{length-take-le}
 use Rattle.assemble.proofs.Streams.{counted}
-use borrow.Author.Rules.{rules}
 use Rattle.assemble.proofs.assemble_into.Goals as goal
 
 pub slice_bounds-text-end : goal.slice_bounds-text-end

@@ -1,7 +1,6 @@
 -- `atc_vm::atc_assemble` meets its contract: what the call gives is told.
 use Rattle.numbered.specs.declared.Numbered.{Numbered}
 use Rattle.atc_vm.proofs.Words.{told}
-use borrow.Author.Rules.{rules}
 use Rattle.atc_vm.proofs.atc_assemble.Goals as goal
 
 pub returns : goal.returns

@@ -1,7 +1,6 @@
 -- `atc_vm::atc_execution_gate` meets its contract: by its number.
 use mathlib.Core.Path.{ap, ◌∙◌}
 use Rattle.numbered.specs.declared.Numbered.{Numbered}
-use borrow.Author.Rules.{rules}
 use Rattle.atc_vm.proofs.atc_execution_gate.Goals as goal
 
 pub returns : goal.returns

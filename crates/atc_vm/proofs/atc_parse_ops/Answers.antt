@@ -1,7 +1,6 @@
 -- `atc_vm::atc_parse_ops` meets its contract: what the call gives is told.
 use Rattle.ops.specs.Numbers.{parsed_ops_numbered}
 use Rattle.atc_vm.proofs.Words.{told}
-use borrow.Author.Rules.{rules}
 use Rattle.atc_vm.proofs.atc_parse_ops.Goals as goal
 
 pub returns : goal.returns

@@ -1,7 +1,6 @@
 -- `atc_vm::atc_run_with_gas` meets its contract: what the call gives is told.
 use Rattle.perform.specs.Numbers.{run_answer_numbered}
 use Rattle.atc_vm.proofs.Words.{told}
-use borrow.Author.Rules.{rules}
 use Rattle.atc_vm.proofs.atc_run_with_gas.Goals as goal
 
 pub returns : goal.returns

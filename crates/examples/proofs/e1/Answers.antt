@@ -1,7 +1,6 @@
 -- `e1` is safe: the text lies within the buffer.
 use native.Mathlib.Omega.{arith}
 use Rattle.examples.proofs.Assembly.{sized}
-use borrow.Author.Rules.{rules}
 use Rattle.examples.proofs.e1.Goals as goal
 
 pub slice_bounds-out-end : goal.slice_bounds-out-end

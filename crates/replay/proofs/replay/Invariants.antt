@@ -1,7 +1,6 @@
 use Prim.Native.Nat.{◌-◌, ◌≤◌}
 use mathlib.Core.Path.{◌≡◌}
 use lib.ListN.{length}
-use borrow.Author.Rules.{rules}
 use Rattle.replay.proofs.replay.Given as goal
 
 abbrev pub invariant-loop-rounds : goal.invariant-loop-rounds

@@ -2,7 +2,6 @@
 -- Assumes nothing.
 use Rattle.pieces.proofs.Laws.{added_same, added_then}
 use Rattle.assemble.proofs.Messages.{carried_none, carried_key, carried_line, carried_nothing}
-use borrow.Author.Rules.{rules}
 use Rattle.assemble.proofs.message.add_carried.Goals as goal
 
 pub returns-then-number-lt8 : goal.returns-then-number-lt8

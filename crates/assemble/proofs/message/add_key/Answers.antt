@@ -2,7 +2,6 @@
 -- Assumes nothing.
 use Rattle.pieces.proofs.Laws.{added_same}
 use Rattle.assemble.proofs.Messages.{key_expected, key_number}
-use borrow.Author.Rules.{rules}
 use Rattle.assemble.proofs.message.add_key.Goals as goal
 
 pub returns-then-place-eq0 : goal.returns-then-place-eq0

@@ -3,7 +3,6 @@
 use mathlib.Core.Path.{◌∙◌}
 use Rattle.pieces.proofs.Laws.{added_same}
 use Rattle.assemble.proofs.Messages.{words_line}
-use borrow.Author.Rules.{rules}
 use Rattle.assemble.proofs.message.add_words.Goals as goal
 
 pub returns : goal.returns

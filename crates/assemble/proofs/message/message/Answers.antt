@@ -3,7 +3,6 @@
 use native.Mathlib.Omega.{arith}
 use Rattle.pieces.proofs.Laws.{added_then}
 use Rattle.assemble.proofs.Messages.{message_short}
-use borrow.Author.Rules.{rules}
 use Rattle.assemble.proofs.message.message.Goals as goal
 
 pub returns : goal.returns

@@ -4,7 +4,6 @@ use mathlib.Core.Path.{ap}
 use lib.ListN.{get_or}
 use Rattle.numbered.specs.declared.Numbered.{Numbered}
 use Rattle.assemble.proofs.Streams.{says_text, says_message}
-use borrow.Author.Rules.{rules}
 use Rattle.assemble.proofs.say.say.Goals as goal
 
 pub returns-in-Refused : goal.returns-in-Refused

@@ -1,7 +1,6 @@
 -- `precedence` is the first of E9: what the call ensures, and the group's figures.
 use mathlib.Core.Path.{◌∙◌}
 use Rattle.examples.proofs.Bench.{bench}
-use borrow.Author.Rules.{rules}
 use Rattle.examples.proofs.assemblies.precedence.Goals as goal
 
 pub returns : goal.returns

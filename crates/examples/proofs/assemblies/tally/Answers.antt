@@ -6,7 +6,6 @@ use Rattle.base.specs.Overwrite.{overwrite}
 use Rattle.examples.specs.Runs.{zeros}
 use Rattle.examples.proofs.Bench.{bench}
 use Rattle.examples.proofs.Assembly.{assembles}
-use borrow.Author.Rules.{rules}
 use Rattle.examples.proofs.assemblies.tally.Goals as goal
 
 pub returns : goal.returns

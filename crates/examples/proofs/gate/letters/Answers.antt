@@ -1,7 +1,6 @@
 -- `letters` is E10: what the call ensures, and the group's figures.
 use mathlib.Core.Path.{◌∙◌}
 use Rattle.examples.proofs.Bench.{bench}
-use borrow.Author.Rules.{rules}
 use Rattle.examples.proofs.gate.letters.Goals as goal
 
 pub returns : goal.returns

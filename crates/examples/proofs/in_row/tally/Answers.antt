@@ -1,6 +1,5 @@
 -- `tally` is E1 through `compile`: what the call ensures, and the group's figures.
 use Rattle.examples.proofs.InRow.{compiles}
-use borrow.Author.Rules.{rules}
 use Rattle.examples.proofs.in_row.tally.Goals as goal
 
 pub returns : goal.returns

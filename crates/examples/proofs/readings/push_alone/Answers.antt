@@ -2,7 +2,6 @@
 use mathlib.Core.Path.{ap, ◌∙◌}
 use Rattle.ops.specs.Numbers.{parsed_ops_numbered}
 use Rattle.examples.proofs.Bench.{bench}
-use borrow.Author.Rules.{rules}
 use Rattle.examples.proofs.readings.push_alone.Goals as goal
 
 pub returns : goal.returns

@@ -7,7 +7,6 @@ use Rattle.ops.specs.Ops.{kinds_of, operands_of}
 use Rattle.ops.specs.Numbers.{parsed_ops_numbered}
 use Rattle.examples.specs.Runs.{zeros, nines}
 use Rattle.examples.proofs.Bench.{bench}
-use borrow.Author.Rules.{rules}
 use Rattle.examples.proofs.readings.push_plus.Goals as goal
 
 pub returns : goal.returns

@@ -1,6 +1,5 @@
 -- `read` meets its contract: its buffers are 4,096 long.
 use Rattle.examples.proofs.Reading.{fills}
-use borrow.Author.Rules.{rules}
 use Rattle.examples.proofs.readings.read.Goals as goal
 
 pub returns : goal.returns

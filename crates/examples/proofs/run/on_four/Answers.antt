@@ -1,6 +1,5 @@
 -- `on_four` meets its contract: the four slots are those of the definition.
 use Rattle.examples.proofs.Reading.{stores}
-use borrow.Author.Rules.{rules}
 use Rattle.examples.proofs.run.on_four.Goals as goal
 
 pub returns : goal.returns

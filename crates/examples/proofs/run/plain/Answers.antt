@@ -1,6 +1,5 @@
 -- `plain` meets its contract: the lent stack is zeros, as are the other buffers.
 use Rattle.examples.proofs.Reading.{ends}
-use borrow.Author.Rules.{rules}
 use Rattle.examples.proofs.run.plain.Goals as goal
 
 pub returns : goal.returns

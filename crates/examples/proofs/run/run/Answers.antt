@@ -2,7 +2,6 @@
 use mathlib.Core.Path.{refl, sym}
 use lib.Seq.{length-take-le}
 use Rattle.examples.proofs.Reading.{front, runs}
-use borrow.Author.Rules.{rules}
 use Rattle.examples.proofs.run.run.Goals as goal
 
 pub slice_bounds-kinds-end : goal.slice_bounds-kinds-end

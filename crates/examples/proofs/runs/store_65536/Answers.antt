@@ -2,7 +2,6 @@
 use mathlib.Core.Path.{ap, ◌∙◌}
 use Rattle.perform.specs.Numbers.{run_answer_numbered}
 use Rattle.examples.proofs.Bench.{bench}
-use borrow.Author.Rules.{rules}
 use Rattle.examples.proofs.runs.store_65536.Goals as goal
 
 pub returns : goal.returns

@@ -1,6 +1,5 @@
 use Prim.Native.Nat.{◌≤◌}
 use lib.ListN.{length}
-use borrow.Author.Rules.{rules}
 use Rattle.replay.proofs.answer.last.Given as goal
 
 abbrev pub invariant-loop-n : goal.invariant-loop-n

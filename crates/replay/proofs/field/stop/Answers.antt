@@ -4,7 +4,6 @@ use mathlib.Core.Path.{sym, ◌∙◌}
 use native.Mathlib.Omega.{arith}
 use mathlib.Core.List.{[], ◌∷◌}
 use Rattle.search.proofs.Laws.{found}
-use borrow.Author.Rules.{rules}
 use Rattle.replay.proofs.field.stop.Goals as goal
 
 pub returns-in-At : goal.returns-in-At

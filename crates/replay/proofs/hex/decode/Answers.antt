@@ -1,12 +1,8 @@
 -- `replay::hex::decode` meets its contract: a byte is written for each pair of digits.
 -- Assumes nothing.
-use Prim.Native.Nat.{◌-◌, ◌≤◌}
-use mathlib.Core.Path.{◌≡◌}
-use borrow.Author.Tests.{not-false}
 use native.Mathlib.Omega.{arith}
-use lib.ListN.{length, length-set}
+use lib.ListN.{length-set}
 use Rattle.replay.proofs.Prefix.{prefix_len_of_le}
-use borrow.Author.Rules.{rules}
 use Rattle.replay.proofs.hex.decode.Goals as goal
 
 pub returns-then-not-is_pair : goal.returns-then-not-is_pair

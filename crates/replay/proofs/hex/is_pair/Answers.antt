@@ -1,7 +1,6 @@
 -- `replay::hex::is_pair` meets its contract: two bytes are left where it looks at them.
 -- Assumes nothing.
 use Rattle.base.proofs.Tests.{false_true}
-use borrow.Author.Rules.{rules}
 use Rattle.replay.proofs.hex.is_pair.Goals as goal
 
 pub returns-then-s-i : goal.returns-then-s-i

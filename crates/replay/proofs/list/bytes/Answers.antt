@@ -3,7 +3,6 @@
 use Prim.Native.Nat.{ℕ}
 use mathlib.Core.Path.{sym}
 use lib.ListN.{length-replicate}
-use borrow.Author.Rules.{rules}
 use Rattle.replay.proofs.list.bytes.Goals as goal
 
 pub slice_bounds-numbers-end : goal.slice_bounds-numbers-end

@@ -1,10 +1,7 @@
 -- `list::fill` meets its contract: the place stays within the buffer, and the times left fall.
 -- Assumes nothing.
-use Prim.Native.Nat.{◌≤◌}
-use mathlib.Core.Path.{◌≡◌}
 use native.Mathlib.Omega.{arith}
-use lib.ListN.{length, length-set}
-use borrow.Author.Rules.{rules}
+use lib.ListN.{length-set}
 use Rattle.replay.proofs.list.fill.Goals as goal
 
 pub loop-left-preserved : goal.loop-left-preserved

@@ -1,11 +1,8 @@
 -- `list::narrowed` meets its contract: a byte is written for each number.
 -- Assumes nothing.
-use Prim.Native.Nat.{◌-◌, ◌≤◌}
-use mathlib.Core.Path.{◌≡◌}
 use native.Mathlib.Omega.{arith}
-use lib.ListN.{length, length-set}
+use lib.ListN.{length-set}
 use Rattle.replay.proofs.Prefix.{prefix_len_of_le}
-use borrow.Author.Rules.{rules}
 use Rattle.replay.proofs.list.narrowed.Goals as goal
 
 pub returns-then-numbers-n : goal.returns-then-numbers-n

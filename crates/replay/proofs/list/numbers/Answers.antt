@@ -1,11 +1,7 @@
 -- `list::numbers` meets its contract: each number stands behind the one before, and the count stays within the buffer.
 -- Assumes nothing.
-use Prim.Native.Nat.{◌-◌, ◌≤◌}
-use mathlib.Core.Path.{◌≡◌}
 use native.Mathlib.Omega.{arith}
-use lib.ListN.{length}
 use Rattle.replay.proofs.Prefix.{prefix_len_of_le}
-use borrow.Author.Rules.{rules}
 use Rattle.replay.proofs.list.numbers.Goals as goal
 
 pub returns-then-end-text : goal.returns-then-end-text

@@ -1,11 +1,8 @@
 -- `list::widened` meets its contract: a number is written for each byte.
 -- Assumes nothing.
-use Prim.Native.Nat.{◌-◌, ◌≤◌}
-use mathlib.Core.Path.{◌≡◌}
 use native.Mathlib.Omega.{arith}
-use lib.ListN.{length, length-set}
+use lib.ListN.{length-set}
 use Rattle.replay.proofs.Prefix.{prefix_len_of_le}
-use borrow.Author.Rules.{rules}
 use Rattle.replay.proofs.list.widened.Goals as goal
 
 pub returns-then-bytes-n : goal.returns-then-bytes-n

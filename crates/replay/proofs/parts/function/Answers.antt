@@ -3,7 +3,6 @@
 use mathlib.Core.Path.{sym, ◌∙◌}
 use native.Mathlib.Omega.{arith}
 use Rattle.source.proofs.Places.{ordered}
-use borrow.Author.Rules.{rules}
 use Rattle.replay.proofs.parts.function.Goals as goal
 
 pub slice_bounds-bytes-count : goal.slice_bounds-bytes-count

@@ -2,9 +2,8 @@
 -- Assumes nothing.
 use mathlib.Core.Path.{sym, ◌∙◌}
 use native.Mathlib.Omega.{arith}
-use lib.ListN.{length, take, length-take}
+use lib.ListN.{take, length-take}
 use Rattle.source.proofs.Cursor.{next_is}
-use borrow.Author.Rules.{rules}
 use Rattle.replay.proofs.parts.parameters.Goals as goal
 
 pub slice_bounds-bytes-count : goal.slice_bounds-bytes-count

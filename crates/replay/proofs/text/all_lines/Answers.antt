@@ -3,7 +3,6 @@
 use native.Mathlib.Omega.{arith}
 use mathlib.Core.Path.{sym, ◌∙◌}
 use Rattle.lines.proofs.Cursor.{step_line}
-use borrow.Author.Rules.{rules}
 use Rattle.replay.proofs.text.all_lines.Goals as goal
 
 pub loop-at-smaller : goal.loop-at-smaller

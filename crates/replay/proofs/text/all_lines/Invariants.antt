@@ -1,9 +1,5 @@
 use Prim.Native.Nat.{◌-◌}
-use native.Mathlib.Omega.{arith}
 use lib.ListN.{length}
-use mathlib.Core.Path.{sym, ◌∙◌}
-use Rattle.lines.proofs.Cursor.{step_line}
-use borrow.Author.Rules.{rules}
 use Rattle.replay.proofs.text.all_lines.Given as goal
 
 abbrev pub invariant-loop-at : goal.invariant-loop-at
