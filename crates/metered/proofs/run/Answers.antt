@@ -6,7 +6,6 @@ use native.Mathlib.Nat.{le_trans}
 use lib.ListN.{length}
 use Rattle.machine.specs.Machine.{decode, done, machine, pay}
 use Rattle.machine.specs.Code.Registers.{frame_of, progress_of}
-use Rattle.base.proofs.Tests.{positive}
 use Rattle.metered.proofs.Loop.{act_over, goes_on_lem, ends_with, turn}
 use Rattle.metered.proofs.run.Goals as goal
 use Rattle.metered.proofs.run.Goals.{After-step-r}
@@ -26,22 +25,6 @@ loop-r-init c = (c.requires.running, refl, refl, omega arith, λ o k. k)
 pub step-r-requires : goal.step-r-requires
 step-r-requires c = record { running = c.loop-r.invariant.0; pos_bound = omega arith }
 
-pub returns-then-r-ne0 : goal.returns-then-r-ne0
-returns-then-r-ne0 c =
-    let d = c.step-r in
-    let a = c.args in
-    let l = c.loop-r in
-    let q = d.result in
-    let one : 1 ≤ q.code = positive q.code c.if-r-ne0.true in
-    record {
-      progress =
-          λ n h.
-          sym (l.invariant.4 (progress_of d.new.stack d.new.work q) (ends_with (machine (decode a.kinds.now a.operands.now) a.caller (length a.work.now)) l.r.gas q.code q.note q.gas (frame_of l.stack l.work l.r) _ (here (goal.at.returns-then-r-ne0 c).After-step-r) one) n h);
-      held = rw l.invariant.2 at d.ensures.held;
-      over = one;
-      gas = le_trans d.ensures.gas l.invariant.3;
-    }
-
 pub loop-r-smaller : goal.loop-r-smaller
 loop-r-smaller c = omega (arith, c.step-r.ensures.falls)
 
@@ -51,7 +34,7 @@ loop-r-preserved c =
     let a = c.args in
     let l = c.loop-r in
     let i = l.invariant in
-    let z : d.result.code ≡ 0 = c.if-r-ne0.false in
+    let z : d.result.code ≡ 0 = omega arith in
     let h = d.ensures.held in
     let f = d.ensures.falls in (
       record { held = rw d.auto.work h; code = z; room = omega (arith, d.auto.stack) },
@@ -75,3 +58,19 @@ returns c =
       over = omega arith;
       gas = omega arith;
     })
+
+pub returns-then-r-ne0 : goal.returns-then-r-ne0
+returns-then-r-ne0 c =
+    let d = c.step-r in
+    let a = c.args in
+    let l = c.loop-r in
+    let q = d.result in
+    let one : 1 ≤ q.code = omega arith in
+    record {
+      progress =
+          λ n h.
+          sym (l.invariant.4 (progress_of d.new.stack d.new.work q) (ends_with (machine (decode a.kinds.now a.operands.now) a.caller (length a.work.now)) l.r.gas q.code q.note q.gas (frame_of l.stack l.work l.r) _ (here (goal.at.returns-then-r-ne0 c).After-step-r) one) n h);
+      held = rw l.invariant.2 at d.ensures.held;
+      over = one;
+      gas = le_trans d.ensures.gas l.invariant.3;
+    }

@@ -1,19 +1,7 @@
 -- `finish` meets its contract: the run ended well, or with a refusal.
-use Prim.Native.Nat.{ℕ, ◌≤◌}
-use mathlib.Core.Path.{◌≡◌}
 use native.Mathlib.Omega.{arith}
 use Rattle.perform.proofs.Results.{succeeded, undone_by}
 use Rattle.perform.proofs.finish.Goals as goal
-
-above : (n : ℕ) → 1 ≤ n → (n ≡ 1 → ⊥) → 2 ≤ n
-above n h k = omega arith
-
-pub returns-then-r-ne1 : goal.returns-then-r-ne1
-returns-then-r-ne1 c =
-    let a = c.args in
-    let p = c.requires in
-    λ k o like.
-    undone_by (record { kinds = a.kinds.now; operands = a.operands.now; caller = k; limit = a.gas_limit; state = a.state; stack = a.stack.now; work = a.work.now; storage = a.storage.now }) a.r _ _ p.lent.same c.clear_from-then-r-ne1.ensures o like c.refusal_of.result (above a.r.code p.bounds.1 c.if-r-ne1.true) c.refusal_of.ensures c.clear_from.ensures
 
 pub overflow_sub-result : goal.overflow_sub-result
 overflow_sub-result c = c.requires.bounds.2
@@ -23,4 +11,11 @@ returns c =
     let a = c.args in
     let p = c.requires in
     λ k o like.
-    succeeded (record { kinds = a.kinds.now; operands = a.operands.now; caller = k; limit = a.gas_limit; state = a.state; stack = a.stack.now; work = a.work.now; storage = a.storage.now }) a.r _ _ p.lent.same c.clear_from-3.ensures o like _ _ c.if-r-ne1.false (omega (arith, p)) p.bounds.0.used c.clear_from-2.ensures c.copy_changed.ensures c.copy_part.ensures
+    succeeded (record { kinds = a.kinds.now; operands = a.operands.now; caller = k; limit = a.gas_limit; state = a.state; stack = a.stack.now; work = a.work.now; storage = a.storage.now }) a.r _ _ p.lent.same c.clear_from-3.ensures o like _ _ (omega (arith, p)) (omega (arith, p)) p.bounds.0.used c.clear_from-2.ensures c.copy_changed.ensures c.copy_part.ensures
+
+pub returns-then-r-ne1 : goal.returns-then-r-ne1
+returns-then-r-ne1 c =
+    let a = c.args in
+    let p = c.requires in
+    λ k o like.
+    undone_by (record { kinds = a.kinds.now; operands = a.operands.now; caller = k; limit = a.gas_limit; state = a.state; stack = a.stack.now; work = a.work.now; storage = a.storage.now }) a.r _ _ p.lent.same c.clear_from-then-r-ne1.ensures o like c.refusal_of.result (omega (arith, p)) c.refusal_of.ensures c.clear_from.ensures

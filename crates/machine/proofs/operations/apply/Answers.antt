@@ -1,5 +1,5 @@
 -- `operations::apply` meets its contract: each kind by itself.
-use Rattle.std.proofs.Common.{◌≡◌, ℕ, ◌+◌, ◌-◌, ◌%◌, ◌^◌, ◌<◌, ◌≤◌, ap, arith, le-ltb, lt-ltb, eq-eqb, ne_eqb}
+use Rattle.std.proofs.Common.{◌≡◌, ℕ, ◌+◌, ◌-◌, ◌%◌, ◌^◌, ◌<◌, ◌≤◌, ap, arith, eq-eqb, ne_eqb}
 use mathlib.Core.Option.{some}
 use Rattle.word.specs.Apply.{lt}
 use Rattle.machine.specs.Code.Registers.{binop_of_kind}
@@ -42,9 +42,3 @@ returns-then-a-b c = rw (c.in-9.is, eq-eqb _ _ c.if-a-b.true)
 
 pub returns-else-a-b : goal.returns-else-a-b
 returns-else-a-b c = rw (c.in-9.is, ne_eqb _ _ c.if-a-b.false)
-
-pub returns-then-a-b-2 : goal.returns-then-a-b-2
-returns-then-a-b-2 c = rw (lt_here (goal.at.returns-then-a-b-2 c).In_default, lt-ltb _ _ c.if-a-b-2.true)
-
-pub returns-else-a-b-2 : goal.returns-else-a-b-2
-returns-else-a-b-2 c = rw (lt_here (goal.at.returns-else-a-b-2 c).In_default, le-ltb _ _ c.if-a-b-2.false)

@@ -6,7 +6,7 @@ use Rattle.machine.proofs.operations.push.Goals as goal
 
 pub returns-then-n-ge-MAX_STACK_ITEMS : goal.returns-then-n-ge-MAX_STACK_ITEMS
 returns-then-n-ge-MAX_STACK_ITEMS c =
-    λ w h. fails_by 48 0 c.stop.ensures (omega arith) (omega arith) (omega arith) h (simp (length_stack, le-ltb _ _ c.if-n-ge-MAX_STACK_ITEMS.true))
+    λ w h. fails_by 48 0 c.stop.ensures (omega arith) (omega arith) (omega arith) h (simp (length_stack, le-ltb c.args.r.items 4096 (omega arith)))
 
 pub returns : goal.returns
 returns c =
@@ -14,4 +14,4 @@ returns c =
     let n : a.r.items < length a.stack.now = omega arith in
     λ w h.
     moves_by (a.r.items + 1) a.r.used c.go_on.ensures (omega arith) (omega arith) h
-    (simp (length_stack, lt-ltb _ _ c.if-n-ge-MAX_STACK_ITEMS.false, stack_push))
+    (simp (length_stack, lt-ltb a.r.items 4096 (omega arith), stack_push))

@@ -14,17 +14,11 @@ returns-then-n-lt1 c =
     fails_by 47 0 c.stop.ensures (omega arith) (omega arith) (omega arith) (omega arith)
     (no_item (λ (s : List ℕ). store_of (length m) a.slot s (take a.r.used m)) a.stack.now a.r.items c.if-n-lt1.true)
 
-pub returns-then-slot : goal.returns-then-slot
-returns-then-slot c =
-    let a = c.args in
-    fails_by 50 c.requested.result c.stop-then-slot.ensures (omega arith) (omega arith) (omega arith) (omega arith)
-    (rw (stack_pop a.stack.now a.r.items c.if-n-lt1.false, le-ltb a.slot 65536 c.if-slot.true, c.requested.ensures))
-
 pub returns-then-at-work : goal.returns-then-at-work
 returns-then-at-work c =
     let a = c.args in
     fails_by 51 0 c.stop-then-at-work.ensures (omega arith) (omega arith) (omega arith) (omega arith)
-    (rw (stack_pop a.stack.now a.r.items c.if-n-lt1.false, lt-ltb a.slot 65536 c.if-slot.false, le-ltb _ _ c.if-at-work.true))
+    (rw (stack_pop a.stack.now a.r.items c.if-n-lt1.false, lt-ltb a.slot 65536 (omega arith), le-ltb _ _ c.if-at-work.true))
 
 pub returns-then-at-used : goal.returns-then-at-used
 returns-then-at-used c =
@@ -32,7 +26,7 @@ returns-then-at-used c =
     let m = a.work.now in
     let v = get_or a.stack.now (a.r.items - 1) 0 in
     moves_by (a.r.items - 1) a.r.used c.go_on.ensures (omega arith) (omega arith) (omega arith)
-    (rw (stack_pop a.stack.now a.r.items c.if-n-lt1.false, lt-ltb a.slot 65536 c.if-slot.false, lt-ltb a.slot (length m) c.if-at-work.false, store_in a.r.used a.slot v m c.if-at-used.true (omega arith)))
+    (rw (stack_pop a.stack.now a.r.items c.if-n-lt1.false, lt-ltb a.slot 65536 (omega arith), lt-ltb a.slot (length m) c.if-at-work.false, store_in a.r.used a.slot v m c.if-at-used.true (omega arith)))
 
 pub returns : goal.returns
 returns c =
@@ -41,4 +35,10 @@ returns c =
     let z = c.zero_out in
     let v = get_or a.stack.now (a.r.items - 1) 0 in
     moves_by (a.r.items - 1) (a.slot + 1) c.go_on-2.ensures (omega arith) (omega arith) (omega arith)
-    (rw (stack_pop a.stack.now a.r.items c.if-n-lt1.false, lt-ltb a.slot 65536 c.if-slot.false, lt-ltb a.slot (length m) c.if-at-work.false, store_past a.r.used a.slot v m z.new.s c.if-at-used.false c.if-at-work.false z.ensures))
+    (rw (stack_pop a.stack.now a.r.items c.if-n-lt1.false, lt-ltb a.slot 65536 (omega arith), lt-ltb a.slot (length m) c.if-at-work.false, store_past a.r.used a.slot v m z.new.s c.if-at-used.false c.if-at-work.false z.ensures))
+
+pub returns-then-slot : goal.returns-then-slot
+returns-then-slot c =
+    let a = c.args in
+    fails_by 50 c.requested.result c.stop-then-slot.ensures (omega arith) (omega arith) (omega arith) (omega arith)
+    (rw (stack_pop a.stack.now a.r.items c.if-n-lt1.false, le-ltb a.slot 65536 (omega arith), c.requested.ensures))

@@ -27,20 +27,6 @@ overflow_sub-place c =
     let last = c.trim_end-t in
     start-within raw first.result.now last.result.now first.ensures.text last.ensures.text
 
-pub overflow_add-place-in-Before : goal.overflow_add-place-in-Before
-overflow_add-place-in-Before c =
-    let a = c.args in
-    let raw = take (a.end - a.start) (drop a.start a.text.now) in
-    let first = c.trim_start-from_first in
-    let last = c.trim_end-t in
-    let n = rest_within last.result.now _ _ (sym c.classify-p.ensures ∙ c.in-Before.is) in
-    let h = start-within raw first.result.now last.result.now first.ensures.text last.ensures.text in
-    let k = end_within raw first.result.now last.result.now first.ensures.text last.ensures.text in
-    let w = length_part a.text.now a.start a.end c.requires.0 c.requires.1 in
-    let e = c.requires.1 in
-    let z = c.well_formed.0.0 in
-    record { fits = omega arith }
-
 pub read_operand-requires : goal.read_operand-requires
 read_operand-requires c =
     let a = c.args in
@@ -82,3 +68,17 @@ returns-in-Unknown c =
     let last = c.trim_end-t in
     sym (part_read raw first.result.now last.result.now first.ensures.text last.ensures.text (rule_of a.rule) a.line a.start c.classify-p.result (sym c.is_skipped.ensures ∙ c.if-is_skipped.false) c.classify-p.ensures
     ∙ ap (head_read (rule_of a.rule) a.line _ last.result.now) c.in-Unknown.is)
+
+pub overflow_add-place-in-Before : goal.overflow_add-place-in-Before
+overflow_add-place-in-Before c =
+    let a = c.args in
+    let raw = take (a.end - a.start) (drop a.start a.text.now) in
+    let first = c.trim_start-from_first in
+    let last = c.trim_end-t in
+    let n = rest_within last.result.now _ _ (sym c.classify-p.ensures ∙ c.in-Before.is) in
+    let h = start-within raw first.result.now last.result.now first.ensures.text last.ensures.text in
+    let k = end_within raw first.result.now last.result.now first.ensures.text last.ensures.text in
+    let w = length_part a.text.now a.start a.end c.requires.0 c.requires.1 in
+    let e = c.requires.1 in
+    let z = c.well_formed.0.0 in
+    record { fits = omega arith }
