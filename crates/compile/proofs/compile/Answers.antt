@@ -4,7 +4,6 @@ use lib.Seq.{length-take-le}
 use Rattle.compile.proofs.Assembled.{within}
 use Rattle.compile.proofs.Composition.{is_written, not-assembled, not_read_lem, has_run}
 use Rattle.compile.proofs.Delivery.{delivers}
-use borrow.Author.Rules.{rules}
 use Rattle.compile.proofs.compile.Goals as goal
 
 pub slice_bounds-parse_ops-end : goal.slice_bounds-parse_ops-end
