@@ -18,7 +18,7 @@ mod assembly;
 mod field;
 mod hex;
 mod list;
-mod machine;
+mod machine_calls;
 mod parts;
 mod reader;
 mod text;
@@ -100,10 +100,10 @@ fn case(rt: &impl Print, line: &[u8]) -> io::Result<()> {
     match call {
         b'O' => reader::replay(rt, line)?,
         b'A' => assembly::replay(rt, line)?,
-        b'C' => machine::replay(rt, call, line)?,
-        b'R' => machine::replay(rt, call, line)?,
-        b'S' => machine::replay(rt, call, line)?,
-        b'T' => machine::replay(rt, call, line)?,
+        b'C' => machine_calls::replay(rt, call, line)?,
+        b'R' => machine_calls::replay(rt, call, line)?,
+        b'S' => machine_calls::replay(rt, call, line)?,
+        b'T' => machine_calls::replay(rt, call, line)?,
         _ => text::replay(rt, call, line)?,
     }
     rt.write_all(b"\n")
