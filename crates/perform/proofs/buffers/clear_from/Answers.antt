@@ -5,6 +5,9 @@ use native.Mathlib.Omega.{arith}
 use lib.ListN.{length, drop_of_length-le}
 use Rattle.perform.proofs.buffers.clear_from.Goals as goal
 
+pub zero_out-requires : goal.zero_out-requires
+zero_out-requires c = (omega arith, omega arith)
+
 pub returns : goal.returns
 returns c =
     let a = c.args in
