@@ -72,15 +72,15 @@ pub fn compile(
 ) -> Compiled
     ensures { Delivers
         (record {
-          contract = contract.entry.now;
+          contract = contract.now;
           vector = vector.now;
           stem = stem.now;
-          out = out.entry.now;
+          out = out.old;
           context = gate_of chain_id.now network_id.now genesis_id.now
               protocol_version.now vm_version.now computed_genesis_id.now
               expected_protocol.now expected_vm.now;
           run = record {
-            kinds = kinds.entry.now;
+            kinds = kinds.old;
             operands = operands.old;
             caller = caller;
             limit = gas_limit;
@@ -92,8 +92,8 @@ pub fn compile(
         })
         result
         (record {
-          out = out.exit.now;
-          kinds = kinds.exit.now;
+          out = out.new;
+          kinds = kinds.new;
           operands = operands.new;
           stack = stack.new;
           work = work.new;
