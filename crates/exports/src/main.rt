@@ -1,5 +1,5 @@
-// Calls each export by position, with arguments that tell its parameters apart, and prints what it gives, a line for each call: the
-// number and the eight words of the answer, and then entries of the buffers. The assembled text follows its line.
+// Calls each function of atc_vm by position, with arguments that tell its parameters apart, and prints what it gives, a line for
+// each call: the number and the eight words of the answer, and then entries of the buffers. The assembled text follows its line.
 #![tactic(auto)]
 
 mod programs;
