@@ -1,2 +1,4 @@
 pub mod Messages
+pub mod Lengths
+pub mod WordsLine
 pub mod Streams

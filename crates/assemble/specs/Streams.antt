@@ -1,10 +1,9 @@
 -- What the program writes of an assembly: its text to standard output, or the message of its refusal to standard error.
-use Rattle.std.specs.Prelude.{ℕ, ◌≤◌, ◌≡◌, List, [], eqb, length, take}
+use Rattle.std.specs.Prelude.{ℕ, ◌≤◌, ◌≡◌, List, [], eqb, length, take, Result, Ok, Err, IfOk}
 use Rattle.base.specs.Need.{need}
 use Rattle.contract.specs.Output.{Assembly}
-use Rattle.assemble.specs.declared.say.Said.{Said}
-use Rattle.assemble.specs.declared.say.Said.TheVariants.{Text, Message}
-use Rattle.assemble.specs.Message.{refusal_message}
+use Rattle.assemble.specs.declared.message.Refusal.{Refusal}
+use Rattle.assemble.specs.Message.{message_of, refusal_message}
 
 pub record Streams : Type 0 where
   pub output : List ℕ
@@ -14,15 +13,11 @@ abbrev pub answered : Assembly → Streams
 answered a =
     need (eqb a.answer.number 0) (record { output = []; error = refusal_message a.answer }) (record { output = a.text; error = [] })
 
--- what the first bytes of a buffer are for
-abbrev pub said : Said → List ℕ → Streams
-said (Text n) out = record { output = take n out; error = [] }
-said (Message n) out = record { output = []; error = take n out }
+-- the first bytes of a buffer, or what a refusal is displayed as
+abbrev pub said : Result ℕ Refusal → List ℕ → Streams
+said (Ok n) out = record { output = take n out; error = [] }
+said (Err refusal) out = record { output = []; error = message_of refusal.number refusal.value }
 
-abbrev pub count_of : Said → ℕ
-count_of (Text n) = n
-count_of (Message n) = n
-
-pub record Says (a : Assembly) (r : Said) (out : List ℕ) : Type 0 where
+pub record Says (a : Assembly) (r : Result ℕ Refusal) (out : List ℕ) : Type 0 where
   pub streams : said r out ≡ answered a
-  pub within : count_of r ≤ length out
+  pub within : IfOk r (λ n. n ≤ length out)

@@ -2,19 +2,16 @@
 // output; a refusal, and a file that can't be read, are named on standard error. The exit status is 1 where a read or a write fails.
 #![tactic(auto)]
 
-ghost use Rattle.std.specs.Prelude.{◌≤◌, length};
-
 mod message;
 mod report;
 mod say;
 
-use files::Contents;
-use say::Said;
 use std::env::{Env, FillError};
 use std::io::Write;
 use std::process::ExitCode;
 use std::rt::Files;
 
+// The paths stand in fixed buffers: `env::args` refuses an argument that isn't UTF-8, which is named on standard error here.
 fn main(rt: HostRuntime) -> ExitCode {
     if !two_given(&rt) {
         return report::usage(&mut rt.stderr());
@@ -39,13 +36,12 @@ fn two_given(rt: &impl Env) -> bool {
 
 fn is_given(rt: &impl Env, i: usize) -> bool {
     match rt.arg(i, &mut []) {
-        Ok(_) => true,
-        Err(FillError::TooLong) => true,
+        Ok(_) | Err(FillError::TooLong) => true,
         Err(FillError::NotPresent) => false,
     }
 }
 
-// Each file is read up to one byte more than a contract or a vector may have.
+// Each file is read up to one byte more than a contract or a vector may have, so the buffers are fixed.
 fn read(
     rt: &impl Files,
     stdout: &mut impl Write,
@@ -55,12 +51,10 @@ fn read(
 ) -> ExitCode {
     let mut contract = [0u8; 65537];
     let mut vector = [0u8; 65537];
-    let contract_read = files::read(rt, contract_path, &mut contract);
-    let Contents::Read(n) = contract_read else {
+    let Ok(n) = files::read(rt, contract_path, &mut contract) else {
         return report::unreadable(stderr, contract_path);
     };
-    let vector_read = files::read(rt, vector_path, &mut vector);
-    let Contents::Read(m) = vector_read else {
+    let Ok(m) = files::read(rt, vector_path, &mut vector) else {
         return report::unreadable(stderr, vector_path);
     };
     assemble(
@@ -91,12 +85,9 @@ fn assemble_into(
     vector: &[u8],
     stem: &[u8],
     out: &mut [u8],
-) -> ExitCode
-    requires { 128 ≤ length out.old }
-{
-    let said = say::say(contract, vector, stem, out);
-    match said {
-        Said::Text(n) => report::text(stdout, stderr, &out[..n]),
-        Said::Message(n) => report::refused(stderr, &out[..n]),
+) -> ExitCode {
+    match say::say(contract, vector, stem, out) {
+        Ok(n) => report::text(stdout, stderr, &out[..n]),
+        Err(refusal) => report::refused(stderr, refusal),
     }
 }

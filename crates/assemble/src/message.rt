@@ -1,78 +1,94 @@
 // What the program says of a refusal.
-ghost use Rattle.std.specs.Prelude.{◌≤◌, length};
-ghost use Rattle.assemble.specs.Message.{words_of, key_text, carried_text, message_of};
-ghost use Rattle.pieces.specs.Code.Added.{Added};
+ghost use Rattle.std.specs.Prelude.{◌≡◌, Some};
+ghost use Rattle.base.specs.Range.{within};
+ghost use Rattle.assemble.specs.Message.{words_of, message_of, refusal_of};
 
-use pieces::{add_bytes, add_decimal};
+use numbered::Answer;
+use scope::refusal::AssembleError;
+use std::fmt;
 
-// The number of a refusal and the value that it carries, as a line at the start of the buffer.
-pub fn message(number: u64, value: u64, out: &mut [u8]) -> usize
-    ensures { (length (message_of number value) ≤ 128) × Added out.old 0 (message_of number value) out.new result }
-{
-    let name = add_bytes(out, 0, b"assemble: ");
-    let digits = add_decimal(out, name, number);
-    let colon = add_bytes(out, digits, b": ");
-    let words = add_words(out, colon, number);
-    let carried = add_carried(out, words, number, value);
-    add_bytes(out, carried, b"\n")
+// Document 01's number, and the place of a key or the number of a line that it carries, or 0.
+#[derive(Clone, Copy, Debug, PartialEq, Eq)]
+pub struct Refusal {
+    pub number: u64,
+    pub value: u64,
 }
 
-// Document 01's words for a number: the line of that number.
-fn add_words(out: &mut [u8], len: usize, number: u64) -> usize
-    ensures { Added out.old len (words_of number) out.new result }
-{
-    let lines = b"the contract exceeds 65,536 bytes or isn't UTF-8
-the vector exceeds 65,536 bytes or isn't UTF-8
-\"fn \" is absent
-no ( follows \"fn \"
-no ) follows the (
-no { follows the )
-no } follows the {
-the key in double quotes is absent from the vector
-no : follows the key
-no ASCII digit comes next after White_Space
-the digit run exceeds 2^64 - 1
-a let line has no =
-a character of the expression is in no token
-the expression ends where a factor or ) is due
-another token is where ) is due
-a literal met as a factor exceeds 2^64 - 1
-the token met as a factor is no (, literal or bound name
-a 65th parenthesis is open
-tokens are left over
-k of this expression exceeds 32,768
-a 257th binding is made
-no \"return \" line stands in the body
-the return value is none
-the return value differs from expected
-the stem is empty, over 255 bytes, not UTF-8 or holds a line feed
-the output is longer than the lent buffer
-";
-    add_bytes(out, len, ops::trimmed_line(lines, number as usize))
+impl From<AssembleError> for Refusal {
+    ghost from_gives = { λ why refusal. refusal ≡ refusal_of why };
+
+    fn from(why: AssembleError) -> Refusal {
+        let refusal = why.numbered();
+        Refusal {
+            number: refusal.number,
+            value: refusal.words[0],
+        }
+    }
 }
 
-fn add_carried(out: &mut [u8], len: usize, number: u64, value: u64) -> usize
-    ensures { Added out.old len (carried_text number value) out.new result }
-{
-    if number < 8 {
-        return add_bytes(out, len, b"");
+// A line. The place of `expected` is 0.
+impl fmt::Display for Refusal {
+    ghost output = { λ refusal. Some (message_of refusal.number refusal.value) };
+
+    fn fmt<W: fmt::Write>(&self, f: &mut fmt::Formatter<W>) -> fmt::Result {
+        let Refusal { number, value } = *self;
+        let words = words(number);
+        if carries_key(number) {
+            if value == 0 {
+                return writeln!(f, "assemble: {number}: {words}, key expected");
+            }
+            return writeln!(f, "assemble: {number}: {words}, key {value}");
+        }
+        if carries_line(number) {
+            return writeln!(f, "assemble: {number}: {words}, line {value}");
+        }
+        writeln!(f, "assemble: {number}: {words}")
     }
-    if number < 12 {
-        let key = add_bytes(out, len, b", key ");
-        return add_key(out, key, value);
-    }
-    if number < 21 {
-        let line = add_bytes(out, len, b", line ");
-        return add_decimal(out, line, value);
-    }
-    add_bytes(out, len, b"")
 }
 
-fn add_key(out: &mut [u8], len: usize, place: u64) -> usize
-    ensures { Added out.old len (key_text place) out.new result }
+fn carries_key(number: u64) -> bool
+    ensures { result ≡ within 8 11 number }
 {
-    if place == 0 {
-        return add_bytes(out, len, b"expected");
+    matches!(number, 8..=11)
+}
+
+fn carries_line(number: u64) -> bool
+    ensures { result ≡ within 12 20 number }
+{
+    matches!(number, 12..=20)
+}
+
+// Document 01's words for a number.
+fn words(number: u64) -> &'static str
+    ensures { result.now ≡ words_of number }
+{
+    match number {
+        1 => "the contract exceeds 65,536 bytes or isn't UTF-8",
+        2 => "the vector exceeds 65,536 bytes or isn't UTF-8",
+        3 => "\"fn \" is absent",
+        4 => "no ( follows \"fn \"",
+        5 => "no ) follows the (",
+        6 => "no { follows the )",
+        7 => "no } follows the {",
+        8 => "the key in double quotes is absent from the vector",
+        9 => "no : follows the key",
+        10 => "no ASCII digit comes next after White_Space",
+        11 => "the digit run exceeds 2^64 - 1",
+        12 => "a let line has no =",
+        13 => "a character of the expression is in no token",
+        14 => "the expression ends where a factor or ) is due",
+        15 => "another token is where ) is due",
+        16 => "a literal met as a factor exceeds 2^64 - 1",
+        17 => "the token met as a factor is no (, literal or bound name",
+        18 => "a 65th parenthesis is open",
+        19 => "tokens are left over",
+        20 => "k of this expression exceeds 32,768",
+        21 => "a 257th binding is made",
+        22 => "no \"return \" line stands in the body",
+        23 => "the return value is none",
+        24 => "the return value differs from expected",
+        25 => "the stem is empty, over 255 bytes, not UTF-8 or holds a line feed",
+        26 => "the output is longer than the lent buffer",
+        0 | 27.. => "",
     }
-    add_decimal(out, len, place)
 }

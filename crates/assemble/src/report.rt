@@ -1,4 +1,5 @@
 // What the program writes, and its exit status. A write to standard output that fails is named on standard error.
+use crate::message::Refusal;
 use std::io::Write;
 use std::process::ExitCode;
 
@@ -10,16 +11,17 @@ pub fn text(stdout: &mut impl Write, stderr: &mut impl Write, out: &[u8]) -> Exi
     ExitCode::SUCCESS
 }
 
-pub fn refused(stderr: &mut impl Write, message: &[u8]) -> ExitCode {
-    let _ = stderr.write_all(message);
+pub fn refused(stderr: &mut impl Write, refusal: Refusal) -> ExitCode {
+    let _ = write!(stderr, "{refusal}");
     ExitCode::SUCCESS
 }
 
 pub fn usage(stderr: &mut impl Write) -> ExitCode {
-    let _ = stderr.write_all(b"usage: assemble CONTRACT VECTOR\n");
+    let _ = writeln!(stderr, "usage: assemble CONTRACT VECTOR");
     ExitCode::SUCCESS
 }
 
+// The path need not be UTF-8, so it goes byte by byte and not by `{}`.
 pub fn unreadable(stderr: &mut impl Write, path: &[u8]) -> ExitCode {
     let _ = stderr.write_all(b"assemble: can't read ");
     let _ = stderr.write_all(path);

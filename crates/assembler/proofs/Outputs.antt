@@ -1,9 +1,10 @@
 -- The output's pieces, and what is answered of an accepted contract.
+use Rattle.std.specs.Prelude.{Result, Ok, Err}
+use Rattle.assembler.specs.declared.Assembly.{Assembly}
 use Prim.Native.Nat.{ℕ, ◌+◌, ◌<◌, ◌≤◌}
 use mathlib.Core.Path.{◌≡◌, refl, sym, ap, subst, ◌∙◌}
 use mathlib.Core.List.{List, [], ◌∷◌, ◌++◌, append_assoc}
 use mathlib.Core.Bool.{true, false}
-use mathlib.Core.Option.{some}
 use native.Mathlib.Omega.{arith}
 use borrow.Author.Tests.{le-leb, lt-leb}
 use lib.ListN.{length, take, drop, length-append}
@@ -21,22 +22,15 @@ use Rattle.writer.specs.Code.Overwrites.{Overwrites}
 use Rattle.writer.proofs.Pieces.{overwrites_then}
 use Rattle.emission.specs.Code.Emitted.{tree_between, MeansTree}
 use Rattle.contract.specs.declared.CheckedContract as Code
-use Rattle.scope.specs.declared.state.LastReturned.{LastReturned}
-use Rattle.scope.specs.declared.state.LastReturned.TheVariants.{Is, Nothing}
-use Rattle.scope.specs.declared.state.Returned.{Returned}
-use Rattle.scope.specs.declared.state.Status.{Status}
-use Rattle.scope.specs.declared.state.Status.TheVariants.{Going}
 use Rattle.scope.specs.declared.refusal.AssembleError.{AssembleError}
 use Rattle.scope.specs.declared.refusal.AssembleError.TheVariants.{BadStem, OutputTooLong}
 use Rattle.scope.specs.Part.{part}
 use Rattle.contract.specs.Assembled.{assembled_tree}
 use Rattle.numbered.specs.declared.Numbered.{Numbered}
-use Rattle.base.specs.Outcome.{Outcome, is}
-use Rattle.scope.specs.Code.Held.{LastIs, ReturnIs}
+use Rattle.base.specs.Outcome.{Outcome, is, refused}
+use Rattle.scope.specs.Numbers.{assemble_error_numbered}
 use Rattle.contract.specs.Code.Concluded.{Accepts, ConcludesBy, Concludes}
 use Rattle.contract.specs.Output.{stem_fits, header, output, with_stem, assembled}
-use Rattle.assembler.specs.declared.AssemblyAnswer.{AssemblyAnswer}
-use Rattle.assembler.specs.declared.AssemblyAnswer.TheVariants.{Success, Refused}
 use Rattle.assembler.specs.Answers.{Assembles}
 
 pub header-length : (stem : List ℕ) (e : ℕ) → length (header stem e) ≡ 26 + length stem + length (decimal e)
@@ -69,73 +63,64 @@ output_text stem e t =
 pub output-length : (stem : List ℕ) (e : ℕ) (t : Tree) → length (output stem e t) ≡ length (header stem e) + len_of t + 5
 output-length stem e t = omega (arith, ap length (output_text stem e t), length-append (header stem e ++ text_of t) halt_line, length-append (header stem e) (text_of t), text_length t)
 
--- what is concluded of the contract, by the status
-pub is_going : {s vector : List ℕ} {o : Outcome Numbered (ℕ × Tree)} {a : Code.CheckedContract} → Concludes s vector o a → a.state.status ≡ Going → Accepts s vector o a
-is_going {s} {vector} {o} {a} c e = subst (λ (x : Status). ConcludesBy x s vector o a) e c.by
+-- what is concluded of the contract, by the answer
+module _ {s vector : List ℕ} {o : Outcome Numbered (ℕ × Tree)} {x : Result Code.CheckedContract AssembleError} (c : Concludes s vector o x) where
+  pub is_accepted : {a : Code.CheckedContract} → x ≡ Ok a → Accepts s vector o a
+  is_accepted e = subst (ConcludesBy s vector o) e c.by
 
-pub is_refused_lem : {s vector : List ℕ} {o : Outcome Numbered (ℕ × Tree)} {a : Code.CheckedContract} {why : AssembleError} → Concludes s vector o a → a.state.status ≡ Status.Refused why → (stem out : List ℕ) → Assembles (with_stem o stem (length out)) out out (Refused why)
-is_refused_lem {s} {vector} {o} {a} c e stem out =
-    let q = (subst (λ (x : Status). ConcludesBy x s vector o a) e c.by).0 in
-    rw q (record { answer = refl; buffer = refl })
+  pub is_refused : {why : AssembleError} → x ≡ Err why → (stem out : List ℕ) → Assembles (with_stem o stem (length out)) out out (Err why)
+  is_refused {why} e stem out =
+      let q : o ≡ refused (assemble_error_numbered why) = subst (ConcludesBy s vector o) e c.by in
+      rw q (record { answer = refl; buffer = refl })
 
-pub as_assembled : (contract vector stem : List ℕ) {out after : List ℕ} {r : AssemblyAnswer} → Assembles (with_stem (assembled_tree contract vector) stem (length out)) out after r → Assembles (assembled contract vector stem (length out)) out after r
+pub as_assembled : (contract vector stem : List ℕ) {out after : List ℕ} {r : Result Assembly AssembleError} → Assembles (with_stem (assembled_tree contract vector) stem (length out)) out after r → Assembles (assembled contract vector stem (length out)) out after r
 unfolding assembled
 as_assembled contract vector stem x = x
 
 -- the stem does not fit
-pub stem_refused : {s vector : List ℕ} {o : Outcome Numbered (ℕ × Tree)} {a : Code.CheckedContract} (stem out : List ℕ) → Accepts s vector o a → stem_fits stem ≡ false → Assembles (with_stem o stem (length out)) out out (Refused BadStem)
+pub stem_refused : {s vector : List ℕ} {o : Outcome Numbered (ℕ × Tree)} {a : Code.CheckedContract} (stem out : List ℕ) → Accepts s vector o a → stem_fits stem ≡ false → Assembles (with_stem o stem (length out)) out out (Err BadStem)
 stem_refused stem out acc f = rw acc.accepts (simp f (record { answer = refl; buffer = refl }))
 
-module _ {s vector : List ℕ} {o : Outcome Numbered (ℕ × Tree)} {a : Code.CheckedContract} (acc : Accepts s vector o a) {last : LastReturned} (q : a.state.last ≡ last) where
-  returned_as : LastIs s a.state.table a.state.values last (some acc.t)
-  returned_as = subst (λ (x : LastReturned). LastIs s a.state.table a.state.values x (some acc.t)) q acc.returned
+module _ {s vector : List ℕ} {o : Outcome Numbered (ℕ × Tree)} {a : Code.CheckedContract} (acc : Accepts s vector o a) where
+  between : part s a.returned.start a.returned.end ≡ drop a.returned.start (take a.returned.end s)
+  between = take-drop_slice s a.returned.start a.returned.end acc.returned.ordered acc.returned.inside
 
-pub no_return : {s vector : List ℕ} {o : Outcome Numbered (ℕ × Tree)} {a : Code.CheckedContract} → Accepts s vector o a → a.state.last ≡ Nothing → ⊥
-no_return acc q = returned_as acc q
+  is_tree : meaning (env_of s (sources a.table a.values) a.returned.count) (drop a.returned.start (take a.returned.end s)) ≡ is acc.t
+  is_tree = ap (meaning (env_of s (sources a.table a.values) a.returned.count)) (sym between) ∙ acc.returned.means
 
-module _ {s vector : List ℕ} {o : Outcome Numbered (ℕ × Tree)} {a : Code.CheckedContract} (acc : Accepts s vector o a) {l : Returned} (q : a.state.last ≡ Is l) where
-  returned : ReturnIs s a.state.table a.state.values l acc.t
-  returned = returned_as acc q
-
-  between : part s l.start l.end ≡ drop l.start (take l.end s)
-  between = take-drop_slice s l.start l.end returned.ordered returned.inside
-
-  is_tree : meaning (env_of s (sources a.state.table a.state.values) l.count) (drop l.start (take l.end s)) ≡ is acc.t
-  is_tree = ap (meaning (env_of s (sources a.state.table a.state.values) l.count)) (sym between) ∙ returned.means
-
-  same_tree : tree_between s (sources a.state.table a.state.values) l.count l.start l.end ≡ acc.t
+  same_tree : tree_between s (sources a.table a.values) a.returned.count a.returned.start a.returned.end ≡ acc.t
   same_tree = ap tree_or0 is_tree
 
-  pub means : MeansTree s (sources a.state.table a.state.values) l.count l.start l.end
+  pub means : MeansTree s (sources a.table a.values) a.returned.count a.returned.start a.returned.end
   means = record {
-    few = omega (arith, returned.few, acc.reached.represents.holds.room);
-    stand = λ i h. acc.reached.represents.stand i (omega (arith, returned.few));
-    inside = returned.inside;
+    few = omega (arith, acc.returned.few, acc.reached.represents.holds.room);
+    stand = λ i h. acc.reached.represents.stand i (omega (arith, acc.returned.few));
+    inside = acc.returned.inside;
     is = is_tree ∙ ap is (sym same_tree);
   }
 
-  pub text_size : length (text_of (tree_between s (sources a.state.table a.state.values) l.count l.start l.end)) ≡ l.read.len
-  text_size = ap (λ (t : Tree). length (text_of t)) same_tree ∙ text_length acc.t ∙ sym returned.figures.len
+  pub text_size : length (text_of (tree_between s (sources a.table a.values) a.returned.count a.returned.start a.returned.end)) ≡ a.returned.read.len
+  text_size = ap (λ (t : Tree). length (text_of t)) same_tree ∙ text_length acc.t ∙ sym acc.returned.figures.len
 
   module _ (stem out : List ℕ) (f : stem_fits stem ≡ true) where
-    size : length (output stem a.expected acc.t) ≡ length (header stem a.expected) + l.read.len + 5
-    size = omega (arith, output-length stem a.expected acc.t, returned.figures.len)
+    size : length (output stem a.expected acc.t) ≡ length (header stem a.expected) + a.returned.read.len + 5
+    size = omega (arith, output-length stem a.expected acc.t, acc.returned.figures.len)
 
-    pub no_room : length out < length (header stem a.expected) + l.read.len + 5 → Assembles (with_stem o stem (length out)) out out (Refused OutputTooLong)
+    pub no_room : length out < length (header stem a.expected) + a.returned.read.len + 5 → Assembles (with_stem o stem (length out)) out out (Err OutputTooLong)
     no_room h =
         let b = lt-leb (length (output stem a.expected acc.t)) (length out) (omega (arith, size)) in
         rw acc.accepts (simp (f, b) (record { answer = refl; buffer = refl }))
 
-    pub written_whole : length (header stem a.expected) + l.read.len + 5 ≤ length out
+    pub written_whole : length (header stem a.expected) + a.returned.read.len + 5 ≤ length out
         → {mid after : List ℕ} {n w : ℕ}
-        → Overwrites out 0 (header stem a.expected ++ text_of (tree_between s (sources a.state.table a.state.values) l.count l.start l.end)) mid n
+        → Overwrites out 0 (header stem a.expected ++ text_of (tree_between s (sources a.table a.values) a.returned.count a.returned.start a.returned.end)) mid n
         → Overwrites mid n halt_line after w
-        → Assembles (with_stem o stem (length out)) out after (Success w l.read.k l.read.p a.expected)
+        → Assembles (with_stem o stem (length out)) out after (Ok (record { written = w; k = a.returned.read.k; p = a.returned.read.p; value = a.expected }))
     written_whole h {mid} {after} {n} {w} p r =
         let b = le-leb (length (output stem a.expected acc.t)) (length out) (omega (arith, size)) in
-        let y = length-append (header stem a.expected) (text_of (tree_between s (sources a.state.table a.state.values) l.count l.start l.end)) in
+        let y = length-append (header stem a.expected) (text_of (tree_between s (sources a.table a.values) a.returned.count a.returned.start a.returned.end)) in
         let x = overwrites_then p (omega (arith, y, text_size)) r in
-        let e : (header stem a.expected ++ text_of (tree_between s (sources a.state.table a.state.values) l.count l.start l.end)) ++ halt_line ≡ output stem a.expected acc.t = ap (λ (t : Tree). (header stem a.expected ++ text_of t) ++ halt_line) same_tree ∙ sym (output_text stem a.expected acc.t) in
+        let e : (header stem a.expected ++ text_of (tree_between s (sources a.table a.values) a.returned.count a.returned.start a.returned.end)) ++ halt_line ≡ output stem a.expected acc.t = ap (λ (t : Tree). (header stem a.expected ++ text_of t) ++ halt_line) same_tree ∙ sym (output_text stem a.expected acc.t) in
         let z : Overwrites out 0 (output stem a.expected acc.t) after w = rw e at x in
         let m : w ≡ length (output stem a.expected acc.t) = omega (arith, z.next) in
-        rw acc.accepts (simp (f, b) (record { answer = cc (m, returned.figures.k, returned.figures.p); buffer = z.is }))
+        rw acc.accepts (simp (f, b) (record { answer = cc (m, acc.returned.figures.k, acc.returned.figures.p); buffer = z.is }))

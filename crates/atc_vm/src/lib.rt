@@ -1,4 +1,5 @@
 // The calls that C makes, by atc_vm_c: each call of document 01, with its number as the result and what the answer carries in eight words.
+// Their parameters are those of include/atc_vm.h, one by one, so no struct holds those that travel together.
 #![tactic(auto)]
 
 ghost use Rattle.std.specs.Prelude.{◌≡◌, length};
@@ -10,16 +11,16 @@ ghost use Rattle.vm.specs.Transition.{metered_of, transition_of};
 ghost use Rattle.atc_vm.specs.Words.{Tells};
 ghost use Rattle.atc_vm.specs.Calls.{Assembled, Read, Ran, place_numbered};
 
-use lines::Step;
-use numbered::{Numbered, carrying_two, plain};
-use perform::State;
+use context::{ChainContext, Gate};
+use kinds::Program;
+use numbered::{Answer, Numbered, carrying, plain};
+use perform::{Run, State};
 use source::parameters::trimmed_span;
 
 fn tell(answer: &mut [u64; 8], n: Numbered) -> u64
     ensures { Tells n answer.new result }
 {
-    let words = n.words;
-    *answer = words;
+    answer.copy_from_slice(&n.words);
     n.number
 }
 
@@ -54,18 +55,13 @@ pub fn atc_parse_ops(
 pub fn atc_trimmed_line(text: &[u8], line: u64, answer: &mut [u64; 8]) -> u64
     ensures { Tells (place_numbered text.now line) answer.new result }
 {
-    let step = ops::nth_line(text, line as usize);
-    match step {
-        Step::Done => tell(answer, plain(0)),
-        Step::Next(l) => {
-            let start = l.start;
-            let end = l.end;
-            let span = trimmed_span(&text[start..end]);
-            let place = start + span.start;
-            let len = span.end - span.start;
-            tell(answer, carrying_two(0, place as u64, len as u64))
-        }
-    }
+    let Some(l) = ops::nth_line(text, line as usize) else {
+        return tell(answer, plain(0));
+    };
+    let span = trimmed_span(&text[l.start..l.end]);
+    let place = l.start + span.start;
+    let len = span.end - span.start;
+    tell(answer, carrying(0, [place as u64, len as u64]))
 }
 
 pub fn atc_execution_gate(
@@ -82,24 +78,25 @@ pub fn atc_execution_gate(
         protocol_version.now vm_version.now computed_genesis_id.now
         expected_protocol.now expected_vm.now)).number }
 {
-    let gate = context::execution_gate(
-        chain_id,
-        network_id,
-        genesis_id,
-        protocol_version,
-        vm_version,
+    let gate = Gate {
+        context: ChainContext {
+            chain_id,
+            network_id,
+            genesis_id,
+            protocol_version,
+            vm_version,
+        },
         computed_genesis_id,
         expected_protocol,
         expected_vm,
-    );
-    let told = gate.numbered();
-    told.number
+    };
+    context::execution_gate(gate).numbered().number
 }
 
 pub fn atc_verify(kinds: &[u8], operands: &[u64], used: u64, answer: &mut [u64; 8]) -> u64
     ensures { Tells (check_numbered (verify_of kinds.now operands.now used)) answer.new result }
 {
-    let check = checks::verify(kinds, operands, used as usize);
+    let check = checks::verify(Program { kinds, operands }, used as usize);
     tell(answer, check.numbered())
 }
 
@@ -127,12 +124,15 @@ pub fn atc_run_with_gas(
         }))
         stack.new work.new storage.new answer.new result }
 {
-    let state = State {
-        used: used as usize,
+    let run = Run {
+        program: Program { kinds, operands },
+        caller,
+        gas_limit,
+        state: State {
+            used: used as usize,
+        },
     };
-    let ran = vm::run_with_gas(
-        kinds, operands, caller, gas_limit, stack, work, storage, state,
-    );
+    let ran = vm::run_with_gas(run, stack, work, storage);
     tell(answer, ran.numbered())
 }
 
@@ -172,27 +172,27 @@ pub fn atc_execute_state_transition_with_gas(
         }))
         stack.new work.new storage.new answer.new result }
 {
-    let state = State {
-        used: used as usize,
-    };
-    let ran = vm::execute_state_transition_with_gas(
-        chain_id,
-        network_id,
-        genesis_id,
-        protocol_version,
-        vm_version,
+    let gate = Gate {
+        context: ChainContext {
+            chain_id,
+            network_id,
+            genesis_id,
+            protocol_version,
+            vm_version,
+        },
         computed_genesis_id,
         expected_protocol,
         expected_vm,
-        kinds,
-        operands,
+    };
+    let run = Run {
+        program: Program { kinds, operands },
         caller,
         gas_limit,
-        stack,
-        work,
-        storage,
-        state,
-    );
+        state: State {
+            used: used as usize,
+        },
+    };
+    let ran = vm::execute_state_transition_with_gas(gate, run, stack, work, storage);
     tell(answer, ran.numbered())
 }
 

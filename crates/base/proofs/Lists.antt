@@ -2,9 +2,10 @@
 use Prim.Native.Nat.{ℕ, zero, suc, ◌+◌, ◌<◌, ◌≤◌}
 use mathlib.Core.Path.{◌≡◌, refl, sym, ap, ◌∙◌}
 use mathlib.Core.List.{List, [], ◌∷◌, ◌++◌, append-nil}
-use mathlib.Core.Bool.{Bool, true, false, ◌&&◌, and_assoc}
+use mathlib.Core.Bool.{Bool, true, false, ◌&&◌, and_assoc, and-true}
 use native.Mathlib.Omega.{arith}
 use lib.ListN.{length, get_or, take, drop, take-append-drop, drop_of_length-le, get_or-eq_default}
+use Rattle.std.specs.List.{fold, prefix_len}
 use Rattle.base.specs.Lists.{all, take_while}
 use Rattle.base.proofs.Tests.{false_true, by_bool, by_leb, and_left, and_right, and_both}
 use Rattle.base.proofs.Parts.{drop_cons_at}
@@ -86,9 +87,6 @@ module _ (test : ℕ → Bool) (s : List ℕ) (i : ℕ) where
   pub all_more : i < length s → all test (drop i s) ≡ (test (get_or s i 0) && all test (drop (i + 1) s))
   all_more h = ap (all test) (drop_cons_at s i (i + 1) h refl)
 
-  pub all_end : length s ≤ i → all test (drop i s) ≡ true
-  all_end h = ap (all test) (drop_of_length-le s h)
-
   pub take_while_more : i < length s → test (get_or s i 0) ≡ true → take_while test (drop i s) ≡ get_or s i 0 ∷ take_while test (drop (i + 1) s)
   take_while_more h e = rw (drop_cons_at s i (i + 1) h refl) (simp e)
 
@@ -109,5 +107,12 @@ module _ (test : ℕ → Bool) (past : test 0 ≡ false) (s : List ℕ) (i : ℕ
   pub end_more : test (get_or s i 0) ≡ true → end_from test s i ≡ end_from test s (i + 1)
   end_more e = omega (arith, ap length (take_while_more test s i (passes_inside e) e))
 
-pub end_none : (test : ℕ → Bool) (s : List ℕ) (i : ℕ) → test (get_or s i 0) ≡ false → end_from test s i ≡ i
-end_none test s i e = omega (arith, ap length (take_while_none test s i e))
+-- a fold by a test that is joined with those before it, in code with no branch
+pub fold_all : (test : ℕ → Bool) (b : Bool) (s : List ℕ) → fold (λ p a. p && test a) b s ≡ (b && all test s)
+fold_all test b [] = sym (and-true b)
+fold_all test b (a ∷ s) = fold_all test (b && test a) s ∙ and_assoc b (test a) (all test s)
+
+-- how many stand before the first that fails
+pub prefix_len_is : (test : ℕ → Bool) (s : List ℕ) → prefix_len test s ≡ length (take_while test s)
+prefix_len_is test [] = refl
+prefix_len_is test (a ∷ s) = let h = prefix_len_is test s in by_bool (test a) (λ e. simp e (omega arith)) (λ e. simp e refl)

@@ -1,47 +1,18 @@
-// Tests of a byte, joined with no branch between them; choices by a test; wider numbers.
+// A range of bytes, and a choice by a test.
 #![tactic(auto)]
 
-ghost use Rattle.std.specs.Prelude.{min, ◌<◌, ◌≡◌, cond, ◌&&◌, ◌||◌};
+ghost use Rattle.std.specs.Prelude.{◌≡◌, cond};
 ghost use Rattle.base.specs.Range.{within};
 
-pub fn both(a: bool, b: bool) -> bool
-    ensures { result ≡ (a && b) }
-{
-    a & b
-}
-
-pub fn either(a: bool, b: bool) -> bool
-    ensures { result ≡ (a || b) }
-{
-    a | b
-}
-
+// The two tests are joined with no branch, so that loops over bytes compile to vector code.
 pub fn in_range(lo: u8, hi: u8, a: u8) -> bool
     ensures { result ≡ within lo hi a }
 {
-    both(lo <= a, a <= hi)
+    (lo <= a) & (a <= hi)
 }
 
-pub fn widen(a: u8) -> u64
-    ensures { result ≡ a }
-{
-    a as u64
-}
-
-pub fn pick(test: bool, yes: u8, no: u8) -> u8
+pub fn pick<T: Copy>(test: bool, yes: T, no: T) -> T
     ensures { result ≡ cond test yes no }
 {
     if test { yes } else { no }
-}
-
-pub fn wide(a: u16) -> usize
-    ensures { (result ≡ a) × (result < 65536) }
-{
-    a as usize
-}
-
-pub fn min(a: usize, b: usize) -> usize
-    ensures { result ≡ min a b }
-{
-    if a <= b { a } else { b }
 }

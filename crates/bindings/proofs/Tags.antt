@@ -7,11 +7,10 @@ use native.Mathlib.Numerals.{add-one}
 use native.Mathlib.Omega.{arith}
 use borrow.Author.Tests.{eqb-true, eq-eqb, lt-ltb, le-ltb, ltb-false, not-true}
 use lib.Dec.{eqb, ltb}
-use lib.ListN.{length, get_or, take, drop, length-drop}
-use lib.Seq.{length-take-le, get_or-take, get_or-drop}
+use lib.ListN.{length, get_or}
 use Rattle.base.specs.Equal.{equal}
 use Rattle.base.proofs.Tests.{false_true, and_left, and_right, by_bool, by_cond, or_left, or_right}
-use Rattle.bindings.specs.Code.Table.{Passes, mix, tag_of, has_name, found, has_tag, is_free}
+use Rattle.bindings.specs.Code.Table.{Passes, tag_of, has_name, found, has_tag, is_free}
 
 same_is : (v w : List ℕ) → equal v w ≡ true → v ≡ w
 same_is [] [] e = refl
@@ -29,24 +28,10 @@ tag_same t w name e =
     (λ h. simp (eq-eqb t (tag_of w) (e ∙ ap tag_of (sym (same_is w name h)))))
     (λ h. by_bool (eqb t (tag_of w)) (λ g. simp g) (λ g. simp (g, h)))
 
--- the tag of a part of a text
-module _ (s : List ℕ) (start len : ℕ) where
-  part_byte : (i : ℕ) → i < len → get_or (take len (drop start s)) i 0 ≡ get_or s (start + i) 0
-  part_byte i h = get_or-take len (drop start s) i 0 h ∙ get_or-drop start s i 0
-
-  pub tag_empty : len ≡ 0 → 0 ≡ tag_of (take len (drop start s))
-  unfolding tag_of
-  tag_empty e = rw e
-
-  pub tag_part : (b l : ℕ) → start + len ≤ length s → 0 < len → b ≡ start + (len - 2) → l ≡ start + (len - 1) → mix (get_or s start 0) (get_or s b 0) (get_or s l 0) ≡ tag_of (take len (drop start s))
-  unfolding tag_of
-  tag_part b l g h p q =
-      let n : length (take len (drop start s)) ≡ len = length-take-le len (drop start s) (let r = length-drop start s in omega arith) in
-      let z : start + 0 ≡ start = omega arith in
-      let x : get_or (take len (drop start s)) 0 0 ≡ get_or s start 0 = part_byte 0 h ∙ ap (λ (i : ℕ). get_or s i 0) z in
-      let y = part_byte (len - 2) (omega arith) in
-      let w = part_byte (len - 1) (omega arith) in
-      rw (n, x, y, w, p, q)
+pub tag_empty : (w : List ℕ) → length w ≡ 0 → 0 ≡ tag_of w
+unfolding tag_of
+tag_empty [] e = refl
+tag_empty (a ∷ w) e = absurd (omega arith)
 
 -- a block of bindings
 module _ (tags : List ℕ) (from tag : ℕ) where

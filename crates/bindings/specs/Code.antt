@@ -1,2 +1,4 @@
 pub mod Table
 pub mod Source
+pub mod Rows
+pub mod Known

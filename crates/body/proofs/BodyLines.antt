@@ -1,13 +1,13 @@
 -- Laws of the body's lines: the one at a place, and those that follow it.
-use Prim.Native.Nat.{ℕ, ◌-◌, ◌≤◌}
+use Rattle.std.specs.Prelude.{Some, None}
+use Prim.Native.Nat.{ℕ, ◌-◌}
 use mathlib.Core.Path.{◌≡◌, ap, ◌∙◌}
 use mathlib.Core.List.{List, [], ◌∷◌}
 use native.Mathlib.Omega.{arith}
-use lib.ListN.{take, drop, drop_of_length-le}
+use lib.ListN.{take, drop}
 use lib.Seq.{length-take-le}
 use Rattle.base.proofs.Parts.{take-drop_slice}
 use Rattle.lines.specs.declared.Line.{Line}
-use Rattle.lines.specs.declared.Step.TheVariants.{Next, Done}
 use Rattle.lines.specs.Lines.{lines}
 use Rattle.lines.specs.Cursor.{line_at}
 use Rattle.lines.proofs.Cursor.{step_line, step_done}
@@ -24,13 +24,10 @@ module _ (s : List ℕ) (start end : ℕ) (w : Within s start end) where
   pub all_lines : lines (part s start end) ≡ lines_from s end start
   all_lines = ap lines (take-drop_slice s start end w.ordered w.inside)
 
-  pub lines_done : (at : ℕ) → line_at (take end s) at ≡ Done → lines_from s end at ≡ []
+  pub lines_done : (at : ℕ) → line_at (take end s) at ≡ None → lines_from s end at ≡ []
   lines_done at e = step_done (take end s) at e
 
-  pub lines_end : (at : ℕ) → end ≤ at → lines_from s end at ≡ []
-  lines_end at h = ap lines (drop_of_length-le (take end s) {i = at} (let n = length-take-le end s w.inside in omega arith))
-
-  pub line_item : (at : ℕ) (l : Line) → line_at (take end s) at ≡ Next l → Item s (lines_from s end) end at at l.end l.next
+  pub line_item : (at : ℕ) (l : Line) → line_at (take end s) at ≡ Some l → Item s (lines_from s end) end at at l.end l.next
   line_item at l e =
       let i = step_line (take end s) at l e in
       let n = length-take-le end s w.inside in

@@ -1,8 +1,9 @@
 -- Laws of a body's line: what its statement makes of a state.
+use Rattle.std.specs.Prelude.{Some, Result, Ok, Err}
+use Rattle.std.specs.Option.{unwrap_or}
 use Prim.Native.Nat.{ℕ, ◌-◌, ◌≤◌}
 use mathlib.Core.Path.{◌≡◌, refl, sym, ap, subst, ◌∙◌}
 use mathlib.Core.List.{List}
-use mathlib.Core.Option.{some}
 use native.Mathlib.Omega.{arith}
 use borrow.Author.Tests.{le-leb}
 use lib.ListN.{take, drop}
@@ -14,8 +15,6 @@ use Rattle.grammar.specs.Parse.{Env, meaning}
 use Rattle.bindings.specs.Code.Table.{columns}
 use Rattle.expression.proofs.Meaning.{meaning_empty}
 use Rattle.trim.specs.Trim.{trimmed}
-use Rattle.body.specs.declared.CheckedExpression.{CheckedExpression}
-use Rattle.body.specs.declared.CheckedExpression.TheVariants.{Is, Refused}
 use Rattle.scope.specs.declared.refusal.AssembleError.{AssembleError}
 use Rattle.scope.specs.declared.refusal.AssembleError.TheVariants.{NoEquals}
 use Rattle.scope.specs.declared.state.TableState as Code
@@ -29,9 +28,9 @@ use Rattle.base.specs.Outcome.{Outcome, is, refused}
 use Rattle.body.specs.Statement.{binds, returns}
 use Rattle.body.specs.Body.{tree_or, statement_read, line_read}
 use Rattle.body.specs.Code.Places.{Inside, AllInside, StatementStands, statement_at, texts}
-use Rattle.scope.specs.Code.Stored.{refused_as, returning, number_in, SpanFits, FiguresFit, Bound}
+use Rattle.scope.specs.Code.Stored.{returning, SpanFits, FiguresFit, Binds}
 use Rattle.body.specs.Code.Checked.{ChecksAll, LetWithin}
-use Rattle.scope.specs.Code.Held.{Represents, NotRefused, Simulates, SimulatesStep, Within}
+use Rattle.scope.specs.Code.Held.{Represents, Represented, Simulates, SimulatesStep, Within}
 use Rattle.body.proofs.Places.{stands}
 use Rattle.scope.proofs.Tables.{part_take}
 use Rattle.scope.proofs.Sources.{Gives}
@@ -58,20 +57,21 @@ module _ (s : List ℕ) (a : Code.TableState) (expr : Span) (w : Within s expr.s
   part_in : part behind expr.start expr.end ≡ text
   part_in = part_take s expr.end expr.end (omega arith) w.inside expr.start (expr.end - expr.start) (omega (arith, w.ordered, length-take-le expr.end s w.inside))
 
-  expression_refused : {why : AssembleError} → ChecksAll behind (columns a.table a.values) line text (Refused why)
-      → (f : Scope → Tree → Outcome Numbered Scope) → SimulatesStep before a (λ st. tree_or (meaning st.env text) line (f st)) behind (refused_as a why)
+  expression_refused : {why : AssembleError} → ChecksAll behind (columns a.table a.values) line text (Err why)
+      → (f : Scope → Tree → Outcome Numbered Scope) → {left : Code.TableState} → SimulatesStep before a (λ st. tree_or (meaning st.env text) line (f st)) behind left (Err why)
   expression_refused k f = record { leads = λ st q. leads_off refl (k.is st.env (later q).holds (f st)) }
 
-  module _ {v : Figures} (k : ChecksAll behind (columns a.table a.values) line text (Is v)) where
-    small : NotRefused before a → FiguresFit v
+  module _ {v : Figures} (k : ChecksAll behind (columns a.table a.values) line text (Ok v)) where
+    small : Represented before a → FiguresFit v
     small g = let x = k.is g.st.env (later g.represents).holds in figures_small x.1.1.0 x.1.1.1
 
-    return_read : SimulatesStep before a (λ st. statement_read line st (returns text)) behind (returning a expr v)
+    return_read : SimulatesStep before a (λ st. statement_read line st (returns text)) behind (returning a expr v) (Ok tt)
     return_read = record {
       leads = λ st q.
           let x = k.is st.env (later q).holds in
-          leads_on
+          leads_on refl
           (record {
+            full = (later q).full;
             holds = (later q).holds;
             stand = (later q).stand;
             sources = (later q).sources;
@@ -82,13 +82,12 @@ module _ (s : List ℕ) (a : Code.TableState) (expr : Span) (w : Within s expr.s
               inside = omega (arith, length-take-le expr.end s w.inside);
               means = rw (part_in, ← (later q).sources) x.1.0;
             };
-            going = q.going;
           })
           (tree_found line _ x.1.0 x.1.1.0);
     }
 
     -- an expression that is empty means no tree
-    gives : {env : Env} {t : Tree} → meaning env text ≡ is t → Gives behind env expr (number_in v.value) t
+    gives : {env : Env} {t : Tree} → meaning env text ≡ is t → Gives behind env expr (unwrap_or v.value 0) t
     gives {env} {t} e = record {
       ordered = w.ordered;
       inside = omega (arith, length-take-le expr.end s w.inside);
@@ -99,15 +98,15 @@ module _ (s : List ℕ) (a : Code.TableState) (expr : Span) (w : Within s expr.s
       means = λ l. rw part_in e;
     }
 
-    let-read : (name : Span) (r : Code.TableState) → name.start ≤ name.end → name.end ≤ expr.start → Bound a name expr v (part s name.start name.end) r
-        → SimulatesStep before a (λ st. statement_read line st (binds (part s name.start name.end) text)) behind r
-    let-read name r o h b = record {
+    let-read : (name : Span) {r : Code.TableState} {y : Result (Unit {0}) AssembleError} → name.start ≤ name.end → name.end ≤ expr.start → Binds a name expr v (part s name.start name.end) r y
+        → SimulatesStep before a (λ st. statement_read line st (binds (part s name.start name.end) text)) behind r y
+    let-read name {r} {y = answer} o h b = record {
       leads = λ st q.
           let x = k.is st.env (later q).holds in
           let n = length-take-le expr.end s w.inside in
           let e : part behind name.start name.end ≡ part s name.start name.end = part_take s expr.end expr.end (omega arith) w.inside name.start (name.end - name.start) (let y = w.ordered in omega arith) in
           let z = tree_found line (bound st (part s name.start name.end)) x.1.0 x.1.1.0 in
-          subst (λ (u : Outcome Numbered Scope). Simulates behind r u is) (ap (λ (u : List ℕ). bound st u x.0) e ∙ sym z) (bound_leads behind a r name expr v b o (let y = w.ordered in omega arith) (sym e) (later q) x.1.1.1 (gives x.1.0));
+          subst (λ (u : Outcome Numbered Scope). Simulates behind r answer u is) (ap (λ (u : List ℕ). bound st u x.0) e ∙ sym z) (bound_leads behind a r name expr v b o (let y = w.ordered in omega arith) (sym e) (later q) x.1.1.1 (gives x.1.0));
     }
 
 -- the line from start to end of the contract
@@ -141,35 +140,35 @@ module _ (s : List ℕ) (start end : ℕ) (w : Within s start end) where
     says r e st = ap (statement_read line st) (sym (here r e).says)
 
     -- what a part of the line makes of a state is what the line does
-    wider : {f : Scope → Outcome Numbered Scope} {r : Code.TableState} (p : Span) → Inside start end p → SimulatesStep (take p.start s) a f (take p.end s) r → ((st : Scope) → read st ≡ f st) → SimulatesStep (take start s) a read (take end s) r
-    wider {f} {r} p i g e = record {
+    wider : {f : Scope → Outcome Numbered Scope} {r : Code.TableState} {x : Result (Unit {0}) AssembleError} (p : Span) → Inside start end p → SimulatesStep (take p.start s) a f (take p.end s) r x → ((st : Scope) → read st ≡ f st) → SimulatesStep (take start s) a read (take end s) r x
+    wider {f} {r} {x = answer} p i g e = record {
       leads = λ st q.
           let x = g.leads st (represents_later s start p.start i.low (let y = w.inside in omega (arith, i.ordered, i.high)) q) in
-          leads_later s p.end end i.high w.inside (subst (λ (u : Outcome Numbered Scope). Simulates (take p.end s) r u is) (sym (e st)) x);
+          leads_later s p.end end i.high w.inside (subst (λ (u : Outcome Numbered Scope). Simulates (take p.end s) r answer u is) (sym (e st)) x);
     }
 
-    good_within : (p : Span) → Inside start end p → NotRefused (take start s) a → NotRefused (take p.start s) a
+    good_within : (p : Span) → Inside start end p → Represented (take start s) a → Represented (take p.start s) a
     good_within p i g = record { st = g.st; represents = represents_later s start p.start i.low (let y = w.inside in omega (arith, i.ordered, i.high)) g.represents }
 
-    abbrev ExprChecked : Span → CheckedExpression → Type 0
+    abbrev ExprChecked : Span → Result Figures AssembleError → Type 0
     ExprChecked expr = ChecksAll (take expr.end s) (columns a.table a.values) line (part s expr.start expr.end)
 
-    pub skipped-follows : Stmt.Skipped ≡ statement_at s start end → SimulatesStep (take start s) a read (take end s) a
-    skipped-follows e = record { leads = λ st q. leads_on (represents_later s start end w.ordered w.inside q) (says _ e st) }
+    pub skipped-follows : Stmt.Skipped ≡ statement_at s start end → SimulatesStep (take start s) a read (take end s) a (Ok tt)
+    skipped-follows e = record { leads = λ st q. leads_on refl (represents_later s start end w.ordered w.inside q) (says _ e st) }
 
-    pub no_equals_follows : Stmt.NoEquals ≡ statement_at s start end → SimulatesStep (take start s) a read (take end s) (refused_as a (NoEquals line))
+    pub no_equals_follows : Stmt.NoEquals ≡ statement_at s start end → {left : Code.TableState} → SimulatesStep (take start s) a read (take end s) left (Err (NoEquals line))
     no_equals_follows e = record { leads = λ st q. leads_off refl (says _ e st) }
 
     module _ {name expr : Span} (e : Stmt.Let name expr ≡ statement_at s start end) where
-      line-let : {r : Code.TableState} → SimulatesStep (take expr.start s) a (λ st. statement_read line st (binds (part s name.start name.end) (part s expr.start expr.end))) (take expr.end s) r → SimulatesStep (take start s) a read (take end s) r
+      line-let : {r : Code.TableState} {x : Result (Unit {0}) AssembleError} → SimulatesStep (take expr.start s) a (λ st. statement_read line st (binds (part s name.start name.end) (part s expr.start expr.end))) (take expr.end s) r x → SimulatesStep (take start s) a read (take end s) r x
       line-let g = wider expr (let-inside e).1.0 g (says _ e)
 
-      pub let-refused : {why : AssembleError} → ExprChecked expr (Refused why) → SimulatesStep (take start s) a read (take end s) (refused_as a why)
+      pub let-refused : {why : AssembleError} → ExprChecked expr (Err why) → {left : Code.TableState} → SimulatesStep (take start s) a read (take end s) left (Err why)
       let-refused k = line-let (expression_refused s a expr (let-within e).within line k (λ st. bound st (part s name.start name.end)))
 
-      module _ {v : Figures} (k : ExprChecked expr (Is v)) where
+      module _ {v : Figures} (k : ExprChecked expr (Ok v)) where
         -- the binding's places and figures fit the table
-        pub let-fits : NotRefused (take start s) a → SpanFits name × (SpanFits expr × FiguresFit v)
+        pub let-fits : Represented (take start s) a → SpanFits name × (SpanFits expr × FiguresFit v)
         let-fits g =
             let l = let-within e in (
               record { ordered = l.ordered; fits = omega (arith, l.between, l.within.ordered, l.within.fits) },
@@ -179,15 +178,15 @@ module _ (s : List ℕ) (start end : ℕ) (w : Within s start end) where
               ),
             )
 
-        pub let-follows : {r : Code.TableState} → Bound a name expr v (part s name.start name.end) r → SimulatesStep (take start s) a read (take end s) r
-        let-follows {r} b = let l = let-within e in line-let (let-read s a expr l.within line k name r l.ordered l.between b)
+        pub let-follows : {r : Code.TableState} {x : Result (Unit {0}) AssembleError} → Binds a name expr v (part s name.start name.end) r x → SimulatesStep (take start s) a read (take end s) r x
+        let-follows b = let l = let-within e in line-let (let-read s a expr l.within line k name l.ordered l.between b)
 
     module _ {expr : Span} (e : Stmt.Return expr ≡ statement_at s start end) where
-      line_return : {r : Code.TableState} → SimulatesStep (take expr.start s) a (λ st. statement_read line st (returns (part s expr.start expr.end))) (take expr.end s) r → SimulatesStep (take start s) a read (take end s) r
+      line_return : {r : Code.TableState} {x : Result (Unit {0}) AssembleError} → SimulatesStep (take expr.start s) a (λ st. statement_read line st (returns (part s expr.start expr.end))) (take expr.end s) r x → SimulatesStep (take start s) a read (take end s) r x
       line_return g = wider expr (return_inside e) g (says _ e)
 
-      pub return_refused : {why : AssembleError} → ExprChecked expr (Refused why) → SimulatesStep (take start s) a read (take end s) (refused_as a why)
-      return_refused k = line_return (expression_refused s a expr (return_within e) line k (λ st t. is (record { env = st.env; last = some t })))
+      pub return_refused : {why : AssembleError} → ExprChecked expr (Err why) → {left : Code.TableState} → SimulatesStep (take start s) a read (take end s) left (Err why)
+      return_refused k = line_return (expression_refused s a expr (return_within e) line k (λ st t. is (record { env = st.env; last = Some t })))
 
-      pub return_follows : {v : Figures} → ExprChecked expr (Is v) → SimulatesStep (take start s) a read (take end s) (returning a expr v)
+      pub return_follows : {v : Figures} → ExprChecked expr (Ok v) → SimulatesStep (take start s) a read (take end s) (returning a expr v) (Ok tt)
       return_follows k = line_return (return_read s a expr (return_within e) line k)

@@ -1,4 +1,5 @@
 -- Laws of a statement's places: they lie within the line, and hold the texts that the line says.
+use Rattle.std.specs.Prelude.{Some, None}
 use Prim.Native.Nat.{ℕ, ◌+◌, ◌-◌, ◌<◌, ◌≤◌}
 use mathlib.Core.Path.{◌≡◌, refl, sym, ap, ◌∙◌}
 use mathlib.Core.List.{List}
@@ -8,7 +9,6 @@ use lib.ListN.{length, take, drop}
 use Rattle.base.specs.Ascii.{ascii}
 use Rattle.base.proofs.Parts.{take-length-drop, take-drop-take, length_part}
 use Rattle.base.proofs.Tests.{by_bool}
-use Rattle.search.specs.declared.Found.TheVariants.{At, Nothing}
 use Rattle.search.specs.First.{prefix_of, first_at}
 use Rattle.search.proofs.Prefix.{fits}
 use Rattle.source.proofs.Found.{by_found, in_text}
@@ -61,13 +61,13 @@ module _ (s : List ℕ) where
   all_inside_more (Return expr) h k i = inside_more h k i
 
   module _ (start end : ℕ) (h : start ≤ end) (k : end ≤ length s) where
-    pub let-absent : first_at (ascii "=") (part s start end) 0 ≡ Nothing → let_at s start end ≡ NoEquals
+    pub let-absent : first_at (ascii "=") (part s start end) 0 ≡ None → let_at s start end ≡ NoEquals
     let-absent e = rw e
 
-    pub let-found : (i : ℕ) → first_at (ascii "=") (part s start end) 0 ≡ At i → let_at s start end ≡ Let (trimmed_in s start (start + i)) (trimmed_in s (start + i + 1) end)
+    pub let-found : (i : ℕ) → first_at (ascii "=") (part s start end) 0 ≡ Some i → let_at s start end ≡ Let (trimmed_in s start (start + i)) (trimmed_in s (start + i + 1) end)
     let-found i e = rw e
 
-    pub equals_inside : (i : ℕ) → first_at (ascii "=") (part s start end) 0 ≡ At i → start + i + 1 ≤ end
+    pub equals_inside : (i : ℕ) → first_at (ascii "=") (part s start end) 0 ≡ Some i → start + i + 1 ≤ end
     equals_inside i e = omega (arith, in_text (ascii "=") (part s start end) 0 i e, part_length s start end h k)
 
     let-stands : AllInside start end (let_at s start end) × (texts s (let_at s start end) ≡ let_of (part s start end))

@@ -1,6 +1,6 @@
 -- The body, line by line.
 use Rattle.std.specs.Prelude.{ℕ, List, [], ◌∷◌, leb}
-use Rattle.std.proofs.Math.Option.{some}
+use Rattle.std.specs.Prelude.{Some}
 use Rattle.base.specs.Need.{need}
 use Rattle.trim.specs.Trim.{trimmed}
 use Rattle.grammar.specs.Tree.{Tree, k_of}
@@ -21,7 +21,7 @@ abbrev pub statement_read : ℕ → Scope → Statement → Outcome Numbered Sco
 statement_read line st skipped = is st
 statement_read line st no_equals = refused (carrying 12 (line ∷ []))
 statement_read line st (binds name s) = tree_or (meaning st.env s) line (bound st name)
-statement_read line st (returns s) = tree_or (meaning st.env s) line (λ t. is (record { env = st.env; last = some t }))
+statement_read line st (returns s) = tree_or (meaning st.env s) line (λ t. is (record { env = st.env; last = Some t }))
 
 abbrev pub line_read : ℕ → Scope → List ℕ → Outcome Numbered Scope
 line_read line st s = statement_read line st (statement (trimmed s))

@@ -1,11 +1,12 @@
 // What a line of the body says, by its offsets in the contract.
-ghost use Rattle.std.specs.Prelude.{◌≡◌, ◌≤◌, length};
-ghost use Rattle.body.specs.Code.Places.{trimmed_in, let_at, trimmed_at, statement_at};
+ghost use Rattle.std.specs.Prelude.{◌≡◌, length};
+ghost use Rattle.body.specs.Code.Places.{Inside, trimmed_in, let_at, trimmed_at, statement_at};
 
-use search::{Found, find_byte, starts_with};
+use search::{find_byte, starts_with};
 use source::parameters::{Span, trimmed_span};
 
-// A let has a name and an expression, a return an expression.
+// A let has a name and an expression, a return an expression. Four cases, one arm of `read_line` each: a Result of an Option of the two
+// would nest three matches, and is no plainer.
 #[derive(Clone, Copy)]
 pub enum StatementSpans {
     Skipped,
@@ -14,57 +15,63 @@ pub enum StatementSpans {
     Return(Span),
 }
 
-// The line from start to end of the contract. `read_body` calls it with the offsets of a line that the cursor gave.
-pub fn statement_at(contract: &[u8], start: usize, end: usize) -> StatementSpans
-    requires { (start ≤ end) × (end ≤ length contract.now) }
-    ensures { result ≡ statement_at contract.now start end }
+// `read_line` calls it with the offsets of a line that the cursor gave.
+pub fn statement_at(contract: &[u8], line: Span) -> StatementSpans
+    requires { Inside 0 (length contract.now) line }
+    ensures { result ≡ statement_at contract.now line.start line.end }
 {
     // neither word has fewer than 4 bytes
-    if end - start < 4 {
+    if line.end - line.start < 4 {
         return StatementSpans::Skipped;
     }
-    let line = trimmed_part(contract, start, end);
-    trimmed_at(contract, line.start, line.end)
+    trimmed_at(contract, trimmed_part(contract, line))
 }
 
 // A line that is trimmed.
-fn trimmed_at(contract: &[u8], start: usize, end: usize) -> StatementSpans
-    requires { (start ≤ end) × (end ≤ length contract.now) }
-    ensures { result ≡ trimmed_at contract.now start end }
+fn trimmed_at(contract: &[u8], line: Span) -> StatementSpans
+    requires { Inside 0 (length contract.now) line }
+    ensures { result ≡ trimmed_at contract.now line.start line.end }
 {
-    let text = &contract[start..end];
+    let text = &contract[line.start..line.end];
     if starts_with(text, b"let ", 0) {
-        return let_at(contract, start + 4, end);
+        let start = line.start + 4;
+        return let_at(contract, Span { start, ..line });
     }
     if starts_with(text, b"return ", 0) {
-        return StatementSpans::Return(trimmed_part(contract, start + 7, end));
+        let start = line.start + 7;
+        return StatementSpans::Return(trimmed_part(contract, Span { start, ..line }));
     }
     StatementSpans::Skipped
 }
 
 // What follows `let `, cut at its first =.
-fn let_at(contract: &[u8], start: usize, end: usize) -> StatementSpans
-    requires { (start ≤ end) × (end ≤ length contract.now) }
-    ensures { result ≡ let_at contract.now start end }
+fn let_at(contract: &[u8], text: Span) -> StatementSpans
+    requires { Inside 0 (length contract.now) text }
+    ensures { result ≡ let_at contract.now text.start text.end }
 {
-    let found = find_byte(&contract[start..end], b'=', 0);
-    let Found::At(i) = found else {
+    let Some(i) = find_byte(&contract[text.start..text.end], b'=', 0) else {
         return StatementSpans::NoEquals;
     };
-    let equals = start + i;
-    let name = trimmed_part(contract, start, equals);
-    let expr = trimmed_part(contract, equals + 1, end);
-    StatementSpans::Let(name, expr)
+    let equals = text.start + i;
+    let name = Span {
+        end: equals,
+        ..text
+    };
+    let expr = Span {
+        start: equals + 1,
+        ..text
+    };
+    StatementSpans::Let(trimmed_part(contract, name), trimmed_part(contract, expr))
 }
 
 // Where the trimmed text of a part of the contract stands.
-fn trimmed_part(contract: &[u8], start: usize, end: usize) -> Span
-    requires { (start ≤ end) × (end ≤ length contract.now) }
-    ensures { result ≡ trimmed_in contract.now start end }
+fn trimmed_part(contract: &[u8], part: Span) -> Span
+    requires { Inside 0 (length contract.now) part }
+    ensures { result ≡ trimmed_in contract.now part.start part.end }
 {
-    let span = trimmed_span(&contract[start..end]);
+    let span = trimmed_span(&contract[part.start..part.end]);
     Span {
-        start: start + span.start,
-        end: start + span.end,
+        start: part.start + span.start,
+        end: part.start + span.end,
     }
 }

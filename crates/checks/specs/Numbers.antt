@@ -1,12 +1,10 @@
 -- Document 01's number of each refusal of a call, with the values that it carries.
-use Rattle.std.specs.Prelude.{[], ◌∷◌}
+use Rattle.std.specs.Prelude.{Result, [], ◌∷◌}
 use Rattle.numbered.specs.declared.Numbered.{Numbered}
-use Rattle.numbered.specs.Numbered.{plain, carrying}
+use Rattle.numbered.specs.Numbered.{plain, carrying, unit_numbered, result_numbered}
 use Rattle.context.specs.Gate.{context_error_numbered}
 use Rattle.checks.specs.declared.VmError.{VmError}
 use Rattle.checks.specs.declared.VmError.TheVariants.{BufferLengths, Context, EmptyProgram, ProgramTooLarge, StorageTooLarge, UnknownKind, JumpOutOfRange, OutOfGas, StackUnderflow, StackLimitExceeded, DivisionByZero, StorageLimitExceeded, OutsideStorage}
-use Rattle.checks.specs.declared.Check.{Check}
-use Rattle.checks.specs.declared.Check.TheVariants.{Passed, Refused}
 
 abbrev pub vm_error_numbered : VmError → Numbered
 vm_error_numbered BufferLengths = plain 34
@@ -23,6 +21,5 @@ vm_error_numbered DivisionByZero = plain 49
 vm_error_numbered (StorageLimitExceeded slots) = carrying 50 (slots ∷ [])
 vm_error_numbered OutsideStorage = plain 51
 
-abbrev pub check_numbered : Check → Numbered
-check_numbered Passed = plain 0
-check_numbered (Refused f) = vm_error_numbered f
+abbrev pub check_numbered : Result (Unit {0}) VmError → Numbered
+check_numbered = result_numbered unit_numbered vm_error_numbered

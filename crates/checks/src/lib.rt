@@ -1,17 +1,18 @@
 // What is tested before a run: the lent buffers' lengths, and the verifier; and the refusals of a call, those of its run included.
 #![tactic(auto)]
 
-ghost use Rattle.std.specs.Prelude.{◌≡◌};
+ghost use Rattle.std.specs.Prelude.{◌≡◌, length};
 ghost use Rattle.numbered.specs.Numbered.{Answered};
+ghost use Rattle.checks.specs.declared.VmError.TheVariants.{Context};
 ghost use Rattle.checks.specs.Numbers.{vm_error_numbered, check_numbered};
 ghost use Rattle.checks.specs.Verify.{buffers_fit, verify_of};
 
 mod operations;
 
-use kinds::{MAX_PROGRAM_OPS, MAX_STACK_ITEMS, MAX_STORAGE_SLOTS};
-use numbered::{Numbered, carrying_one, carrying_two, plain};
+use kinds::{MAX_PROGRAM_OPS, MAX_STACK_ITEMS, MAX_STORAGE_SLOTS, Program};
+use numbered::{Answer, Numbered, carrying, plain};
 
-#[derive(Clone, Copy)]
+#[derive(Clone, Copy, Debug, PartialEq, Eq)]
 pub enum VmError {
     BufferLengths,
     Context(context::ContextError),
@@ -28,41 +29,32 @@ pub enum VmError {
     OutsideStorage,
 }
 
-impl VmError {
-    pub fn numbered(self) -> Numbered
-        ensures { result ≡ vm_error_numbered self }
-    {
+impl From<context::ContextError> for VmError {
+    ghost from_gives = { λ e f. f ≡ Context e };
+
+    fn from(e: context::ContextError) -> VmError {
+        VmError::Context(e)
+    }
+}
+
+impl Answer for VmError {
+    ghost numbered_as = { vm_error_numbered };
+
+    fn numbered(self) -> Numbered {
         match self {
             VmError::BufferLengths => plain(34),
             VmError::Context(e) => e.numbered(),
             VmError::EmptyProgram => plain(41),
-            VmError::ProgramTooLarge(size) => carrying_one(42, size as u64),
-            VmError::StorageTooLarge(used) => carrying_one(43, used as u64),
+            VmError::ProgramTooLarge(size) => carrying(42, [size as u64]),
+            VmError::StorageTooLarge(used) => carrying(43, [used as u64]),
             VmError::UnknownKind => plain(44),
             VmError::JumpOutOfRange => plain(45),
-            VmError::OutOfGas { price, left } => carrying_two(46, price, left),
+            VmError::OutOfGas { price, left } => carrying(46, [price, left]),
             VmError::StackUnderflow => plain(47),
             VmError::StackLimitExceeded => plain(48),
             VmError::DivisionByZero => plain(49),
-            VmError::StorageLimitExceeded(slots) => carrying_one(50, slots),
+            VmError::StorageLimitExceeded(slots) => carrying(50, [slots]),
             VmError::OutsideStorage => plain(51),
-        }
-    }
-}
-
-#[derive(Clone, Copy)]
-pub enum Check {
-    Passed,
-    Refused(VmError),
-}
-
-impl Check {
-    pub fn numbered(self) -> Numbered
-        ensures { result ≡ check_numbered self }
-    {
-        match self {
-            Check::Passed => plain(0),
-            Check::Refused(f) => f.numbered(),
         }
     }
 }
@@ -79,28 +71,26 @@ pub fn buffers_fit(
 ) -> bool
     ensures { result ≡ buffers_fit kinds operands stack work storage used }
 {
-    let program = base::both(kinds == operands, stack >= MAX_STACK_ITEMS);
-    let slots = base::both(work == storage, used <= storage);
-    base::both(program, slots)
+    (kinds == operands && stack >= MAX_STACK_ITEMS) && (work == storage && used <= storage)
 }
 
 // Tests a program before it is run, and the used length of the storage that it would run on. It refuses with 34 of document 01 where kinds
 // and operands differ in length, then with the first of 41 to 45 that applies; 44 and 45 go by the position of the operation.
-pub fn verify(kinds: &[u8], operands: &[u64], used: usize) -> Check
-    ensures { Answered check_numbered (verify_of kinds.now operands.now used) result }
+pub fn verify(program: Program, used: usize) -> Result<(), VmError>
+    ensures { Answered check_numbered (verify_of program.entry.kinds.now program.entry.operands.now used) result }
 {
-    let size = kinds.len();
-    if size != operands.len() {
-        return Check::Refused(VmError::BufferLengths);
+    let size = program.kinds.len();
+    if !program.is_paired() {
+        return Err(VmError::BufferLengths);
     }
     if size == 0 {
-        return Check::Refused(VmError::EmptyProgram);
+        return Err(VmError::EmptyProgram);
     }
     if size > MAX_PROGRAM_OPS {
-        return Check::Refused(VmError::ProgramTooLarge(size));
+        return Err(VmError::ProgramTooLarge(size));
     }
     if used > MAX_STORAGE_SLOTS {
-        return Check::Refused(VmError::StorageTooLarge(used));
+        return Err(VmError::StorageTooLarge(used));
     }
-    operations::verify_operations(kinds, operands)
+    operations::verify_operations(program)
 }

@@ -1,4 +1,5 @@
 -- The number of an encoding is that of the code points. It holds for any numbers, scalar values or not.
+use Rattle.std.specs.Prelude.{Some, None}
 use Prim.Native.Nat.{ℕ, ◌^◌}
 use mathlib.Core.Path.{◌≡◌, refl, sym, ap, ◌∙◌}
 use mathlib.Core.List.{List, [], ◌∷◌, ◌++◌}
@@ -11,7 +12,6 @@ use Rattle.base.specs.Lists.{all}
 use Rattle.base.proofs.Tests.{by_bool, by_leb, by_eqb, above, between, and_left, and_right}
 use Rattle.utf8.specs.Encode.{encode, encodes}
 use Rattle.decimal.specs.Decimal.{digit, value, without_plus, from_digits, number_of}
-use Rattle.decimal.specs.declared.Number.TheVariants.{Is, Invalid}
 use Rattle.code_points.proofs.Chars.{char}
 use Rattle.code_points.proofs.Lines.{ascii, lead_high}
 
@@ -34,10 +34,10 @@ own (c ∷ cs) e =
     let b = between 48 57 c (and_left (digit c) (all digit cs) e) in
     ap (λ (l : List ℕ). l ++ encodes cs) (ascii c (omega arith)) ∙ ap (λ (l : List ℕ). c ∷ l) (own cs (and_right (digit c) (all digit cs) e))
 
-not-digits : (s : List ℕ) → all digit s ≡ false → from_digits s ≡ Invalid
-not-digits s e = ap (λ (b : Bool). cond (ltb 0 (length s) && b && ltb (value s) (2 ^ 64)) (Is (value s)) Invalid) e ∙ go (ltb 0 (length s))
+not-digits : (s : List ℕ) → all digit s ≡ false → from_digits s ≡ None
+not-digits s e = ap (λ (b : Bool). cond (ltb 0 (length s) && b && ltb (value s) (2 ^ 64)) (Some (value s)) None) e ∙ go (ltb 0 (length s))
   where
-    go : (b : Bool) → cond (b && false && ltb (value s) (2 ^ 64)) (Is (value s)) Invalid ≡ Invalid
+    go : (b : Bool) → cond (b && false && ltb (value s) (2 ^ 64)) (Some (value s)) None ≡ None
     go true = refl
     go false = refl
 

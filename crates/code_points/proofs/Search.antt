@@ -1,4 +1,5 @@
 -- The first occurrence in the encoding is that in the code points. It holds for any numbers, scalar values or not.
+use Rattle.std.specs.Prelude.{Some}
 use Prim.Native.Nat.{ℕ, suc, ◌+◌, ◌≤◌}
 use mathlib.Core.Path.{◌≡◌, refl, sym, ap, ◌∙◌}
 use mathlib.Core.List.{List, [], ◌∷◌, ◌++◌, append_assoc}
@@ -7,7 +8,6 @@ use native.Mathlib.Omega.{arith}
 use lib.ListN.{length, take, drop, length-append, take-append-drop}
 use lib.Seq.{append_snoc, take-append_seam, drop-append_seam, length-take-le}
 use Rattle.base.proofs.Tests.{by_bool, by_eqb, false_true, and_left, and_right}
-use Rattle.search.specs.declared.Found.TheVariants.{At}
 use Rattle.search.specs.First.{prefix_of, first_from, first_at}
 use Rattle.search.proofs.Prefix.{same, other, common, split}
 use Rattle.search.proofs.Laws.{from_hit, from_miss, from_end, within}
@@ -55,7 +55,7 @@ module _ (ds : List ℕ) where
   found_here : (xs ys : List ℕ) → prefix_of ds xs ≡ true → first_from (length (encodes ys)) (encodes ds) (encodes xs) ≡ byte_place (ys ++ xs) (first_from (length ys) ds xs)
   found_here xs ys e =
       from_hit (encodes ds) (length (encodes ys)) (encodes xs) (prefix_code ds xs ∙ e)
-      ∙ ap (λ (l : List ℕ). At (length (encodes l))) (sym (take-append_seam ys xs))
+      ∙ ap (λ (l : List ℕ). Some (length (encodes l))) (sym (take-append_seam ys xs))
       ∙ ap (byte_place (ys ++ xs)) (sym (from_hit ds (length ys) xs e))
 
   -- in what is left, xs, when ys is passed
@@ -92,5 +92,5 @@ pub first_at_start : (ds cs : List ℕ) → first_at (encodes ds) (encodes cs) 0
 first_at_start ds cs = first_at_lem ds cs 0 (omega arith)
 
 -- "a" in "é€a"
-pub example : first_at (encodes (0x61 ∷ [])) (encodes (0xE9 ∷ 0x20AC ∷ 0x61 ∷ [])) 0 ≡ At 5
+pub example : first_at (encodes (0x61 ∷ [])) (encodes (0xE9 ∷ 0x20AC ∷ 0x61 ∷ [])) 0 ≡ Some 5
 example = refl

@@ -1,4 +1,5 @@
 -- Document 01's bench example through the three calls, by computing the definition.
+use Rattle.std.specs.Prelude.{Ok, Err}
 use Prim.Native.Nat.{ℕ}
 use native.Mathlib.Omega.{arith}
 use mathlib.Core.Path.{◌≡◌, refl}
@@ -12,7 +13,6 @@ use Rattle.context.specs.Gate.{gate_of}
 use Rattle.machine.specs.Machine.{decode, run_of, run_to_end}
 use Rattle.checks.specs.declared.VmError.TheVariants.{OutOfGas}
 use Rattle.checks.specs.Verify.{operations_check}
-use Rattle.perform.specs.declared.RunAnswer.TheVariants.{Success, Refused}
 use Rattle.grammar.specs.Parse.{parse_f, meaning}
 use Rattle.scope.specs.Scope.{each}
 use Rattle.contract.specs.Assembled.{assembled_tree}
@@ -61,14 +61,14 @@ unfolding assembled output decimal assembled_tree each meaning parse_f scan cont
 accepted g = record { accepts = refl; kinds_room = refl; operands_room = refl; passes = refl; lent = refl; used = omega arith }
 
 succeeds : compile_of (tally 7 70 6) ≡ record {
-  answer = ran (carrying 0 (67 ∷ 3 ∷ 2 ∷ 24 ∷ [])) 6 (Success 7 6 1 (record { used = 0 }));
+  answer = ran (carrying 0 (67 ∷ 3 ∷ 2 ∷ 24 ∷ [])) 6 (Ok (record { gas_spent = 7; operations = 6; items = 1; state = record { used = 0 } }));
   left = record { out = text ++ 9 ∷ 9 ∷ 9 ∷ []; kinds = 0 ∷ 0 ∷ 1 ∷ 0 ∷ 3 ∷ 15 ∷ []; operands = 5 ∷ 7 ∷ 0 ∷ 2 ∷ 0 ∷ 0 ∷ []; stack = 24 ∷ replicate 4095 0; work = 0 ∷ []; storage = 8 ∷ [] };
 }
 unfolding compile_of assembled output decimal assembled_tree each meaning parse_f scan decode run_of run_to_end operations_check contract vector
 succeeds = refl
 
 out_of_gas_lem : compile_of (tally 6 67 6) ≡ record {
-  answer = ran (carrying 0 (67 ∷ 3 ∷ 2 ∷ 24 ∷ [])) 6 (Refused (OutOfGas 2 1));
+  answer = ran (carrying 0 (67 ∷ 3 ∷ 2 ∷ 24 ∷ [])) 6 (Err (OutOfGas 2 1));
   left = record { out = text; kinds = 0 ∷ 0 ∷ 1 ∷ 0 ∷ 3 ∷ 15 ∷ []; operands = 5 ∷ 7 ∷ 0 ∷ 2 ∷ 0 ∷ 0 ∷ []; stack = replicate 4096 0; work = 0 ∷ []; storage = 8 ∷ [] };
 }
 unfolding compile_of assembled output decimal assembled_tree each meaning parse_f scan decode run_of run_to_end operations_check contract vector
@@ -84,6 +84,6 @@ unfolding compile_of assembled output decimal assembled_tree each meaning parse_
 short_program = (refl, refl)
 
 -- room for one operation more: the transition takes all of both buffers, and the `Eq` that stands behind `Halt` is not met
-longer : (compile_of (tally 7 67 7)).answer ≡ ran (carrying 0 (67 ∷ 3 ∷ 2 ∷ 24 ∷ [])) 6 (Success 7 6 1 (record { used = 0 }))
+longer : (compile_of (tally 7 67 7)).answer ≡ ran (carrying 0 (67 ∷ 3 ∷ 2 ∷ 24 ∷ [])) 6 (Ok (record { gas_spent = 7; operations = 6; items = 1; state = record { used = 0 } }))
 unfolding compile_of assembled output decimal assembled_tree each meaning parse_f scan decode run_of run_to_end operations_check contract vector
 longer = refl

@@ -1,5 +1,5 @@
 -- The three calls in a row: assembly, reading of exactly what it wrote, and the transition on the program buffers as reading left them.
-use Rattle.std.specs.Prelude.{◌≡◌, List, eqb, length}
+use Rattle.std.specs.Prelude.{◌≡◌, List, eqb, length, Result}
 use Rattle.base.specs.Overwrite.{overwrite}
 use Rattle.base.specs.Need.{need}
 use Rattle.numbered.specs.declared.Numbered.{Numbered}
@@ -9,6 +9,7 @@ use Rattle.base.specs.Outcome.{is, refused}
 use Rattle.perform.specs.Run as Run
 use Rattle.correctness.specs.Call.{Compilation, Left, assembly_of, reading_of, transition_on}
 use Rattle.compile.specs.declared.Compiled.{Compiled}
+use Rattle.compile.specs.declared.CompileError.{CompileError}
 use Rattle.compile.specs.Answer.{CompileAnswer, not_assembled, not_read, ran, compile_answer_of}
 use Rattle.compile.specs.Numbers.{compile_numbered, compiled_numbered}
 
@@ -74,7 +75,7 @@ unfoldable pub compile_of : Compilation → CompileResult
 compile_of x = after_assembly x (assembly_of x).answer
 
 -- a call's answer r and the buffers b at its exit are those of a result
-pub record Composes (c : CompileResult) (r : Compiled) (b : Left) : Type 0 where
+pub record Composes (c : CompileResult) (r : Result Compiled CompileError) (b : Left) : Type 0 where
   pub answer : compile_answer_of r ≡ c.answer
   pub number : compiled_numbered r ≡ compile_numbered c.answer
   pub out : b.out ≡ c.left.out

@@ -2,48 +2,68 @@
 #![tactic(auto)]
 
 ghost use Rattle.std.specs.Prelude.{◌≡◌};
-ghost use Rattle.context.specs.Gate.{gate_of};
-ghost use Rattle.compile.specs.Numbers.{compiled_numbered};
+ghost use Rattle.context.specs.Gate.{gate_at};
+ghost use Rattle.compile.specs.declared.CompileError.TheVariants.{NotAssembled, NotRead};
+ghost use Rattle.compile.specs.Numbers.{compile_error_numbered, ran_numbered};
 ghost use Rattle.compile.specs.Delivery.{Delivers};
 
-use numbered::Numbered;
+use assembler::Assembly;
+use checks::VmError;
+use context::Gate;
+use kinds::Program;
+use numbered::{Answer, Numbered};
 use operation::OpsError;
-use ops::ParsedOps;
-use perform::{RunAnswer, State};
+use perform::{Run, State, Success};
 use scope::refusal::AssembleError;
 
-// A refusal of assembly or reading ends the call. Otherwise: what assembly and reading gave, and the transition's answer.
+// A refusal of assembly or reading ends the call.
 #[derive(Clone, Copy)]
-pub enum Compiled {
+pub enum CompileError {
     NotAssembled(AssembleError),
     NotRead(OpsError),
-    Ran {
-        written: usize,
-        k: u64,
-        p: u64,
-        value: u64,
-        operations: usize,
-        answer: RunAnswer,
-    },
+}
+
+impl From<AssembleError> for CompileError {
+    ghost from_gives = { λ e x. x ≡ NotAssembled e };
+
+    fn from(e: AssembleError) -> CompileError {
+        CompileError::NotAssembled(e)
+    }
+}
+
+impl From<OpsError> for CompileError {
+    ghost from_gives = { λ e x. x ≡ NotRead e };
+
+    fn from(e: OpsError) -> CompileError {
+        CompileError::NotRead(e)
+    }
+}
+
+impl Answer for CompileError {
+    ghost numbered_as = { compile_error_numbered };
+
+    fn numbered(self) -> Numbered {
+        match self {
+            CompileError::NotAssembled(e) => e.numbered(),
+            CompileError::NotRead(e) => e.numbered(),
+        }
+    }
+}
+
+// What assembly and reading gave, and the transition's answer.
+#[derive(Clone, Copy)]
+pub struct Compiled {
+    pub assembly: Assembly,
+    pub operations: usize,
+    pub answer: Result<Success, VmError>,
 }
 
 // The number is that of the call that ends it.
-impl Compiled {
-    pub fn numbered(self) -> Numbered
-        ensures { result ≡ compiled_numbered self }
-    {
-        match self {
-            Compiled::NotAssembled(why) => why.numbered(),
-            Compiled::NotRead(e) => e.numbered(),
-            Compiled::Ran {
-                written,
-                k,
-                p,
-                value,
-                operations,
-                answer,
-            } => answer.numbered(),
-        }
+impl Answer for Compiled {
+    ghost numbered_as = { ran_numbered };
+
+    fn numbered(self) -> Numbered {
+        self.answer.numbered()
     }
 }
 
@@ -55,30 +75,21 @@ pub fn compile(
     out: &mut [u8],
     kinds: &mut [u8],
     operands: &mut [u64],
-    chain_id: &[u8],
-    network_id: &[u8],
-    genesis_id: &[u8],
-    protocol_version: &[u8],
-    vm_version: &[u8],
-    computed_genesis_id: &[u8],
-    expected_protocol: &[u8],
-    expected_vm: &[u8],
+    gate: Gate,
     caller: u64,
     gas_limit: u64,
     stack: &mut [u64],
     work: &mut [u64],
     storage: &mut [u64],
     state: State,
-) -> Compiled
+) -> Result<Compiled, CompileError>
     ensures { Delivers
         (record {
           contract = contract.now;
           vector = vector.now;
           stem = stem.now;
           out = out.old;
-          context = gate_of chain_id.now network_id.now genesis_id.now
-              protocol_version.now vm_version.now computed_genesis_id.now
-              expected_protocol.now expected_vm.now;
+          context = gate_at gate.entry;
           run = record {
             kinds = kinds.old;
             operands = operands.old;
@@ -100,47 +111,18 @@ pub fn compile(
           storage = storage.new;
         }) }
 {
-    let assembled = assembler::assemble(contract, vector, stem, out);
-    match assembled {
-        assembler::AssemblyAnswer::Refused(why) => Compiled::NotAssembled(why),
-        assembler::AssemblyAnswer::Success {
-            written,
-            k,
-            p,
-            value,
-        } => {
-            let parsed = ops::parse_ops(&out[..written], kinds, operands);
-            match parsed {
-                ParsedOps::Refused(e) => Compiled::NotRead(e),
-                ParsedOps::Read(operations) => {
-                    let answer = vm::execute_state_transition_with_gas(
-                        chain_id,
-                        network_id,
-                        genesis_id,
-                        protocol_version,
-                        vm_version,
-                        computed_genesis_id,
-                        expected_protocol,
-                        expected_vm,
-                        kinds,
-                        operands,
-                        caller,
-                        gas_limit,
-                        stack,
-                        work,
-                        storage,
-                        state,
-                    );
-                    Compiled::Ran {
-                        written,
-                        k,
-                        p,
-                        value,
-                        operations,
-                        answer,
-                    }
-                }
-            }
-        }
-    }
+    let assembly = assembler::assemble(contract, vector, stem, out)?;
+    let operations = ops::parse_ops(&out[..assembly.written], kinds, operands)?;
+    let run = Run {
+        program: Program { kinds, operands },
+        caller,
+        gas_limit,
+        state,
+    };
+    let answer = vm::execute_state_transition_with_gas(gate, run, stack, work, storage);
+    Ok(Compiled {
+        assembly,
+        operations,
+        answer,
+    })
 }

@@ -1,16 +1,16 @@
 -- The chain gate: refusals 35 to 40 of document 01, in its order.
-use Rattle.std.specs.Prelude.{ℕ, List, Bool, ◌&&◌, ◌||◌, eqb, length}
+use Rattle.std.specs.Prelude.{ℕ, List, Bool, ◌&&◌, ◌||◌, eqb, length, Result, Ok, Err}
 use Rattle.numbered.specs.declared.Numbered.{Numbered}
-use Rattle.numbered.specs.Numbered.{plain}
+use Rattle.numbered.specs.Numbered.{plain, unit_numbered, result_numbered}
 use Rattle.base.specs.Ascii.{ascii}
 use Rattle.base.specs.Equal.{equal}
 use Rattle.base.specs.Lists.{all}
 use Rattle.base.specs.Need.{need}
 use Rattle.base.specs.Range.{within}
 use Rattle.context.specs.declared.ContextError.{ContextError}
-use Rattle.context.specs.declared.ContextError.TheVariants.{InvalidChainId, InvalidNetworkId, InvalidGenesisId, ProtocolMismatch, VmMismatch, GenesisMismatch}
+use Rattle.context.specs.declared.ChainContext.{ChainContext}
 use Rattle.context.specs.declared.Gate.{Gate}
-use Rattle.context.specs.declared.Gate.TheVariants.{Passed, Refused}
+use Rattle.context.specs.declared.ContextError.TheVariants.{InvalidChainId, InvalidNetworkId, InvalidGenesisId, ProtocolMismatch, VmMismatch, GenesisMismatch}
 
 abbrev pub is_network : List ℕ → Bool
 is_network s = (equal s (ascii "devnet") || equal s (ascii "testnet")) || equal s (ascii "mainnet")
@@ -22,15 +22,35 @@ is_hex_digit a = within 48 57 a || (within 65 70 a || within 97 102 a)
 abbrev pub is_genesis_id : List ℕ → Bool
 is_genesis_id s = eqb (length s) 64 && all is_hex_digit s
 
-abbrev pub gate_of : (chain network genesis protocol vm computed expected_protocol expected_vm : List ℕ) → Gate
+-- what a context is beside the versions that are expected
+abbrev pub valid_of : ChainContext → (expected_protocol expected_vm : List ℕ) → Result (Unit {0}) ContextError
+valid_of c expected_protocol expected_vm =
+    need (equal c.chain_id.now (ascii "atc")) (Err InvalidChainId)
+    (need (is_network c.network_id.now) (Err InvalidNetworkId)
+    (need (is_genesis_id c.genesis_id.now) (Err InvalidGenesisId)
+    (need (equal c.protocol_version.now expected_protocol) (Err ProtocolMismatch)
+    (need (equal c.vm_version.now expected_vm) (Err VmMismatch)
+    (Ok tt)))))
+
+-- what its genesis id is beside the computed one
+abbrev pub genesis_of : (genesis computed : List ℕ) → Result (Unit {0}) ContextError
+genesis_of genesis computed = need (equal genesis computed) (Err GenesisMismatch) (Ok tt)
+
+abbrev pub gate_of : (chain network genesis protocol vm computed expected_protocol expected_vm : List ℕ) → Result (Unit {0}) ContextError
 gate_of chain network genesis protocol vm computed expected_protocol expected_vm =
-    need (equal chain (ascii "atc")) (Refused InvalidChainId)
-    (need (is_network network) (Refused InvalidNetworkId)
-    (need (is_genesis_id genesis) (Refused InvalidGenesisId)
-    (need (equal protocol expected_protocol) (Refused ProtocolMismatch)
-    (need (equal vm expected_vm) (Refused VmMismatch)
-    (need (equal genesis computed) (Refused GenesisMismatch)
-    Passed)))))
+    need (equal chain (ascii "atc")) (Err InvalidChainId)
+    (need (is_network network) (Err InvalidNetworkId)
+    (need (is_genesis_id genesis) (Err InvalidGenesisId)
+    (need (equal protocol expected_protocol) (Err ProtocolMismatch)
+    (need (equal vm expected_vm) (Err VmMismatch)
+    (need (equal genesis computed) (Err GenesisMismatch)
+    (Ok tt))))))
+
+-- the same of a gate's texts
+abbrev pub gate_at : Gate → Result (Unit {0}) ContextError
+gate_at g =
+    let c = g.context in
+    gate_of c.chain_id.now c.network_id.now c.genesis_id.now c.protocol_version.now c.vm_version.now g.computed_genesis_id.now g.expected_protocol.now g.expected_vm.now
 
 -- document 01's number of each case
 abbrev pub context_error_numbered : ContextError → Numbered
@@ -41,6 +61,5 @@ context_error_numbered ProtocolMismatch = plain 38
 context_error_numbered VmMismatch = plain 39
 context_error_numbered GenesisMismatch = plain 40
 
-abbrev pub gate_numbered : Gate → Numbered
-gate_numbered Passed = plain 0
-gate_numbered (Refused e) = context_error_numbered e
+abbrev pub gate_numbered : Result (Unit {0}) ContextError → Numbered
+gate_numbered = result_numbered unit_numbered context_error_numbered

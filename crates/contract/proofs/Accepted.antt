@@ -1,10 +1,10 @@
 -- What is known of a contract and its vector. Where they are accepted: the tree's numbers are below 2^64, its k is at most 32,768, and its value is
 -- the vector's `expected`. Where they are refused: the number is one of 1 to 24.
+use Rattle.std.specs.Prelude.{Option, Some, None, Result, Ok, Err}
 use Prim.Native.Nat.{ℕ, ◌+◌, ◌^◌, ◌<◌, ◌≤◌}
 use mathlib.Core.Path.{◌≡◌, refl, ap, subst, ◌∙◌}
 use mathlib.Core.List.{List, [], ◌∷◌}
 use mathlib.Core.Bool.{Bool, true, false}
-use mathlib.Core.Option.{Option, some, none}
 use native.Mathlib.Omega.{arith}
 use borrow.Author.Tests.{ltb-true, leb-true, eqb-true}
 use lib.Dec.{eqb, leb, ltb}
@@ -14,19 +14,13 @@ use Rattle.base.specs.Need.{need}
 use Rattle.base.specs.Lists.{take_while}
 use Rattle.base.proofs.Tests.{by_bool}
 use Rattle.base.proofs.Outcome.{Either, then_either}
-use Rattle.search.specs.declared.Found.{Found}
-use Rattle.search.specs.declared.Found.TheVariants.{At, Nothing}
 use Rattle.search.specs.First.{first_at}
 use Rattle.trim.specs.Trim.{trimmed, start_trimmed}
 use Rattle.decimal.specs.Decimal.{digit, value}
 use Rattle.lines.specs.Lines.{lines}
 use Rattle.source.specs.declared.function.Places.{Places}
-use Rattle.source.specs.declared.function.Function.{Function}
 use Rattle.source.specs.declared.vector.KeyError.{KeyError}
 use Rattle.source.specs.declared.vector.KeyError.TheVariants.{NoKey, NoColon, NoDigit, TooLarge}
-use Rattle.source.specs.declared.vector.KeyValue.{KeyValue}
-use Rattle.source.specs.declared.vector.KeyValue.TheVariants as Key
-use Rattle.source.specs.declared.vector.KeyValue.TheVariants.{Is}
 use Rattle.source.specs.Found.{found_or}
 use Rattle.source.specs.declared.function.FunctionError.{FunctionError}
 use Rattle.source.specs.declared.function.FunctionError.TheVariants.{NoFunction, NoParameters, UnclosedParameters, NoBody, UnclosedBody}
@@ -50,22 +44,22 @@ use Rattle.contract.proofs.Words.{Words, WordsIn, meaning-words}
 use Rattle.contract.proofs.Refusals.{WrongIn, meaning_wrong}
 
 -- a vector's number is below 2^64
-abbrev WordIs : KeyValue → Type 0
-WordIs (Is n) = n < 2 ^ 64
-WordIs (Key.Refused e) = Unit {0}
+abbrev WordIs : Result ℕ KeyError → Type 0
+WordIs (Ok n) = n < 2 ^ 64
+WordIs (Err e) = Unit {0}
 
 digits_word : (ds : List ℕ) → WordIs (of_digits ds)
 digits_word [] = tt
 digits_word (d ∷ ds) = by_bool (ltb (value (d ∷ ds)) (2 ^ 64)) (λ e. rw e (ltb-true (value (d ∷ ds)) (2 ^ 64) e)) (λ e. rw e tt)
 
-found_word : (x : Found) (y : KeyValue) (f : ℕ → KeyValue) → WordIs y → ((i : ℕ) → WordIs (f i)) → WordIs (found_or x y f)
-found_word (At i) y f a b = b i
-found_word Nothing y f a b = a
+found_word : (x : Option ℕ) (y : Result ℕ KeyError) (f : ℕ → Result ℕ KeyError) → WordIs y → ((i : ℕ) → WordIs (f i)) → WordIs (found_or x y f)
+found_word (Some i) y f a b = b i
+found_word None y f a b = a
 
 vector_word : (s key : List ℕ) → WordIs (vector_number s key)
 vector_word s key =
-    found_word (first_at (quoted key) s 0) (Key.Refused NoKey) _ tt (λ at.
-    found_word (first_at (ascii ":") s (at + length (quoted key))) (Key.Refused NoColon) _ tt (λ colon.
+    found_word (first_at (quoted key) s 0) (Err NoKey) _ tt (λ at.
+    found_word (first_at (ascii ":") s (at + length (quoted key))) (Err NoColon) _ tt (λ colon.
     digits_word (take_while digit (start_trimmed (drop (colon + 1) s)))))
 
 -- the trees of a state
@@ -73,8 +67,8 @@ abbrev pub Fits : Tree → Type 0
 Fits t = Words t × (k_of t ≤ 32768)
 
 abbrev LastFits : Option Tree → Type 0
-LastFits none = Unit {0}
-LastFits (some t) = Fits t
+LastFits None = Unit {0}
+LastFits (Some t) = Fits t
 
 record Sized (st : Scope) : Type 0 where
   pub env : WordsIn st.env
@@ -106,9 +100,9 @@ key_ranged NoDigit = (omega arith, omega arith)
 key_ranged TooLarge = (omega arith, omega arith)
 
 -- the parameters
-bound_to_sized : (st : Scope) (name : List ℕ) (place : ℕ) (x : KeyValue) → WordIs x → Sized st → Leaves (and_then (keyed x place) (λ n. bound st name (num n)))
-bound_to_sized st name place (Is n) w h = bound_sized st name (num n) h w
-bound_to_sized st name place (Key.Refused e) w h = key_ranged e
+bound_to_sized : (st : Scope) (name : List ℕ) (place : ℕ) (x : Result ℕ KeyError) → WordIs x → Sized st → Leaves (and_then (keyed x place) (λ n. bound st name (num n)))
+bound_to_sized st name place (Ok n) w h = bound_sized st name (num n) h w
+bound_to_sized st name place (Err e) w h = key_ranged e
 
 parameters_sized : (vector : List ℕ) (names : List (List ℕ)) → Leaves (each (parameter_bound vector) 1 started names)
 parameters_sized vector names =
@@ -127,14 +121,14 @@ performed_sized line st (returns s) h = tree_sized (meaning st.env s) line _ (me
 
 body_sized : (contract vector : List ℕ) (p : Places) → Leaves (body_read contract vector p)
 body_sized contract vector p =
-    then_either Ranged Sized (each (parameter_bound vector) 1 started (parameters (part contract p.params_start p.params_end))) _ (parameters_sized vector (parameters (part contract p.params_start p.params_end))) (λ st h.
-    each_sized line_read (λ n st s. performed_sized n st (statement (trimmed s))) 1 st (lines (part contract p.body_start p.body_end)) h)
+    then_either Ranged Sized (each (parameter_bound vector) 1 started (parameters (part contract p.params.start p.params.end))) _ (parameters_sized vector (parameters (part contract p.params.start p.params.end))) (λ st h.
+    each_sized line_read (λ n st s. performed_sized n st (statement (trimmed s))) 1 st (lines (part contract p.body.start p.body.end)) h)
 
 -- what is accepted
 pub record Accepted (vector : List ℕ) (v : ℕ) (t : Tree) : Type 0 where
   pub fits : Fits t
-  pub value : value_of t ≡ some v
-  pub expected : vector_number vector (ascii "expected") ≡ Is v
+  pub value : value_of t ≡ Some v
+  pub expected : vector_number vector (ascii "expected") ≡ Ok v
 
 pub expected_word : {vector : List ℕ} {v : ℕ} {t : Tree} → Accepted vector v t → v < 2 ^ 64
 expected_word {vector} a = subst WordIs a.expected (vector_word vector (ascii "expected"))
@@ -143,23 +137,23 @@ abbrev Sound : List ℕ → Outcome Numbered (ℕ × Tree) → Type 0
 Sound vector o = Either Ranged (λ r. Accepted vector r.0 r.1) o
 
 module _ (vector : List ℕ) where
-  compared_sound : (n : ℕ) (t : Tree) (x : Option ℕ) → Fits t → value_of t ≡ x → vector_number vector (ascii "expected") ≡ Is n → Sound vector (compared n t x)
-  compared_sound n t none f e q = (omega arith, omega arith)
-  compared_sound n t (some i) f e q =
+  compared_sound : (n : ℕ) (t : Tree) (x : Option ℕ) → Fits t → value_of t ≡ x → vector_number vector (ascii "expected") ≡ Ok n → Sound vector (compared n t x)
+  compared_sound n t None f e q = (omega arith, omega arith)
+  compared_sound n t (Some i) f e q =
       by_bool (eqb i n)
-      (λ b. rw b (record { fits = f; value = e ∙ ap some (eqb-true i n b); expected = q }))
+      (λ b. rw b (record { fits = f; value = e ∙ ap Some (eqb-true i n b); expected = q }))
       (λ b. rw b (omega arith, omega arith))
 
-  returned_sound : (n : ℕ) (x : Option Tree) → LastFits x → vector_number vector (ascii "expected") ≡ Is n → Sound vector (returned n x)
-  returned_sound n none h q = (omega arith, omega arith)
-  returned_sound n (some t) h q = compared_sound n t (value_of t) h refl q
+  returned_sound : (n : ℕ) (x : Option Tree) → LastFits x → vector_number vector (ascii "expected") ≡ Ok n → Sound vector (returned n x)
+  returned_sound n None h q = (omega arith, omega arith)
+  returned_sound n (Some t) h q = compared_sound n t (value_of t) h refl q
 
-  concluded_sound : (n : ℕ) (o : Outcome Numbered Scope) → Leaves o → vector_number vector (ascii "expected") ≡ Is n → Sound vector (concluded n o)
+  concluded_sound : (n : ℕ) (o : Outcome Numbered Scope) → Leaves o → vector_number vector (ascii "expected") ≡ Ok n → Sound vector (concluded n o)
   concluded_sound n o h q = then_either Ranged (λ r. Accepted vector r.0 r.1) o _ h (λ st s. returned_sound n st.last s.last q)
 
-  expected_sound : (contract : List ℕ) (p : Places) (x : KeyValue) → vector_number vector (ascii "expected") ≡ x → Sound vector (and_then (keyed x 0) (λ expected. concluded expected (body_read contract vector p)))
-  expected_sound contract p (Is n) q = concluded_sound n (body_read contract vector p) (body_sized contract vector p) q
-  expected_sound contract p (Key.Refused e) q = key_ranged e
+  expected_sound : (contract : List ℕ) (p : Places) (x : Result ℕ KeyError) → vector_number vector (ascii "expected") ≡ x → Sound vector (and_then (keyed x 0) (λ expected. concluded expected (body_read contract vector p)))
+  expected_sound contract p (Ok n) q = concluded_sound n (body_read contract vector p) (body_sized contract vector p) q
+  expected_sound contract p (Err e) q = key_ranged e
 
   error_ranged : (e : FunctionError) → Ranged (function_error_numbered e)
   error_ranged NoFunction = (omega arith, omega arith)
@@ -168,9 +162,9 @@ module _ (vector : List ℕ) where
   error_ranged NoBody = (omega arith, omega arith)
   error_ranged UnclosedBody = (omega arith, omega arith)
 
-  function_sound : (contract : List ℕ) (f : Function) → Sound vector (and_then (places_of f) (function_read contract vector))
-  function_sound contract (Function.Found p) = expected_sound contract p (vector_number vector (ascii "expected")) refl
-  function_sound contract (Function.Refused e) = error_ranged e
+  function_sound : (contract : List ℕ) (f : Result Places FunctionError) → Sound vector (and_then (places_of f) (function_read contract vector))
+  function_sound contract (Ok p) = expected_sound contract p (vector_number vector (ascii "expected")) refl
+  function_sound contract (Err e) = error_ranged e
 
   tree_sound : (contract : List ℕ) → Sound vector (assembled_tree contract vector)
   unfolding assembled_tree

@@ -1,8 +1,8 @@
 -- Worked contracts.
+use Rattle.std.specs.Prelude.{Some}
 use Prim.Native.Nat.{ℕ}
 use mathlib.Core.Path.{◌≡◌, refl}
 use mathlib.Core.List.{List, [], ◌∷◌}
-use mathlib.Core.Option.{some}
 use lib.ListN.{replicate}
 use Rattle.word.specs.Apply.{add, mul}
 use Rattle.token.specs.Token.{scan}
@@ -33,7 +33,7 @@ tally-assembled : assembled_tree tally tally_vector ≡ is (24, tally_tree)
 unfolding assembled_tree each meaning parse_f scan tally tally_vector tally_tree
 tally-assembled = refl
 
-tally_figures : (k_of tally_tree ≡ 3) × ((p_of tally_tree ≡ 2) × (value_of tally_tree ≡ some 24))
+tally_figures : (k_of tally_tree ≡ 3) × ((p_of tally_tree ≡ 2) × (value_of tally_tree ≡ Some 24))
 unfolding tally_tree
 tally_figures = (refl, (refl, refl))
 
@@ -144,6 +144,6 @@ unfolding assembled output decimal assembled_tree each meaning parse_f scan tall
 no_stem = refl
 
 -- `1` stands twice: the last return is the second, with one binding before its line
-second_one : last_return (ascii "fn f(){let b = 1\nreturn 1 }") (record { params_start = 5; params_end = 5; body_start = 7; body_end = 26 }) ≡ some (record { start = 24; end = 25; count = 1; next = 25 })
+second_one : last_return (ascii "fn f(){let b = 1\nreturn 1 }") (record { params = record { start = 5; end = 5 }; body = record { start = 7; end = 26 } }) ≡ Some (record { start = 24; end = 25; count = 1; next = 25 })
 unfolding lines_met
 second_one = refl

@@ -1,8 +1,8 @@
 -- The refusals of an expression have the numbers 13 to 19.
+use Rattle.std.specs.Prelude.{Option, Some, None}
 use Prim.Native.Nat.{ℕ, zero, suc, ◌^◌, ◌≤◌}
 use mathlib.Core.Path.{sym, subst}
 use mathlib.Core.List.{List, [], ◌∷◌}
-use mathlib.Core.Option.{Option, some, none}
 use native.Mathlib.Omega.{arith}
 use borrow.Author.Tests.{eqb-true, eqb-false}
 use lib.Dec.{eqb, ltb}
@@ -37,8 +37,8 @@ nested_wrong zero inner h = (omega arith, omega arith)
 nested_wrong (suc d) inner h = then_wrong (inner d) closed (h d) closed_wrong
 
 named_wrong : (x : Option Tree) → WrongIn (named x)
-named_wrong none = (omega arith, omega arith)
-named_wrong (some t) = tt
+named_wrong None = (omega arith, omega arith)
+named_wrong (Some t) = tt
 
 literal_wrong : (w : List ℕ) → WrongIn (literal w)
 literal_wrong w = by_bool (ltb (value w) (2 ^ 64)) (λ e. rw e tt) (λ e. rw e (omega arith, omega arith))

@@ -1,9 +1,9 @@
 -- The numbers of a tree that an expression means are below 2^64 where those of its bindings are.
+use Rattle.std.specs.Prelude.{Option, Some, None}
 use Prim.Native.Nat.{ℕ, ◌+◌, ◌*◌, ◌^◌, ◌<◌, ◌≤◌}
 use mathlib.Core.Path.{◌≡◌}
 use mathlib.Core.List.{List, [], ◌∷◌}
 use mathlib.Core.Bool.{Bool, true, false, cond}
-use mathlib.Core.Option.{Option, some, none}
 use native.Mathlib.Omega.{arith}
 use Rattle.base.specs.Outcome.{is}
 use Rattle.base.specs.Equal.{equal}
@@ -24,14 +24,14 @@ WordsIn [] = Unit {0}
 WordsIn (b ∷ env) = Words b.tree × WordsIn env
 
 abbrev WordsOf : Option Tree → Type 0
-WordsOf none = Unit {0}
-WordsOf (some t) = Words t
+WordsOf None = Unit {0}
+WordsOf (Some t) = Words t
 
 lookup-words : (w : List ℕ) (env : Env) → WordsIn env → WordsOf (lookup w env)
 lookup-words w [] h = tt
 lookup-words w (b ∷ env) h = go (equal w b.name) (lookup-words w env h.1)
   where
-    go : (q : Bool) → WordsOf (lookup w env) → WordsOf (cond q (some b.tree) (lookup w env))
+    go : (q : Bool) → WordsOf (lookup w env) → WordsOf (cond q (Some b.tree) (lookup w env))
     go true x = h.0
     go false x = x
 

@@ -1,13 +1,12 @@
 -- What assembly makes of a contract and a vector: the vector's expected value and the last return's tree, which has it; or a refusal.
+use Rattle.std.specs.Prelude.{Option, Some, None, Result, Ok, Err}
+use Rattle.source.specs.declared.function.FunctionError.{FunctionError}
 use Rattle.std.specs.Prelude.{ℕ, List, Bool, ◌&&◌, eqb, leb, length}
-use Rattle.std.proofs.Math.Option.{Option, some, none}
 use Rattle.base.specs.Ascii.{ascii}
 use Rattle.base.specs.Need.{need}
 use Rattle.utf8.specs.Utf8.{utf8}
 use Rattle.lines.specs.Lines.{lines}
 use Rattle.source.specs.declared.function.Places.{Places}
-use Rattle.source.specs.declared.function.Function.{Function}
-use Rattle.source.specs.declared.function.Function.TheVariants.{Found, Refused}
 use Rattle.source.specs.Function.{function_of, function_error_numbered}
 use Rattle.source.specs.Parameters.{parameters}
 use Rattle.source.specs.Vector.{vector_number}
@@ -26,17 +25,17 @@ readable s = leb (length s) 65536 && utf8 s
 -- the parameters are bound, which have places from 1; then the body is read, whose lines are numbered from 1
 abbrev pub body_read : List ℕ → List ℕ → Places → Outcome Numbered Scope
 body_read contract vector p =
-    and_then (each (parameter_bound vector) 1 started (parameters (part contract p.params_start p.params_end)))
-    (λ st. each line_read 1 st (lines (part contract p.body_start p.body_end)))
+    and_then (each (parameter_bound vector) 1 started (parameters (part contract p.params.start p.params.end)))
+    (λ st. each line_read 1 st (lines (part contract p.body.start p.body.end)))
 
 -- the value of the last return's tree is compared with the expected one
 abbrev pub compared : ℕ → Tree → Option ℕ → Outcome Numbered (ℕ × Tree)
-compared expected t none = refused (plain 23)
-compared expected t (some n) = need (eqb n expected) (refused (plain 24)) (is (expected, t))
+compared expected t None = refused (plain 23)
+compared expected t (Some n) = need (eqb n expected) (refused (plain 24)) (is (expected, t))
 
 abbrev pub returned : ℕ → Option Tree → Outcome Numbered (ℕ × Tree)
-returned expected none = refused (plain 22)
-returned expected (some t) = compared expected t (value_of t)
+returned expected None = refused (plain 22)
+returned expected (Some t) = compared expected t (value_of t)
 
 -- `expected` has the place 0
 abbrev pub function_read : List ℕ → List ℕ → Places → Outcome Numbered (ℕ × Tree)
@@ -44,9 +43,9 @@ function_read contract vector p =
     and_then (keyed (vector_number vector (ascii "expected")) 0) (λ expected.
     and_then (body_read contract vector p) (λ st. returned expected st.last))
 
-abbrev pub places_of : Function → Outcome Numbered Places
-places_of (Found p) = is p
-places_of (Refused e) = refused (function_error_numbered e)
+abbrev pub places_of : Result Places FunctionError → Outcome Numbered Places
+places_of (Ok p) = is p
+places_of (Err e) = refused (function_error_numbered e)
 
 unfoldable pub assembled_tree : List ℕ → List ℕ → Outcome Numbered (ℕ × Tree)
 assembled_tree contract vector =

@@ -1,10 +1,10 @@
 -- Where the run of a tree's program ends: with success, out of gas, or with the stack full.
+use Rattle.std.specs.Prelude.{Some}
 use Prim.Native.Nat.{ℕ, ◌+◌, ◌-◌, ◌≤◌, ◌<◌}
 use native.Mathlib.Omega.{arith}
 use native.Mathlib.Decide.{dec_lt}
 use mathlib.Core.Path.{◌≡◌}
 use mathlib.Core.List.{List}
-use mathlib.Core.Option.{some}
 use lib.ListN.{take}
 use Rattle.kinds.specs.Kinds.{Operation}
 use Rattle.machine.specs.Machine.{Fault, out_of_gas, stack_limit_exceeded, done, stop, run_to_end}
@@ -41,7 +41,7 @@ shorts t g h = first_short (operations_of t) g (omega (arith, program_cost t))
 none_shorts : (t : Tree) (g : ℕ) → gas_of t ≤ g → (i : ℕ) → ¬ (FirstUnpaid (operations_of t) g i)
 none_shorts t g h i s = omega (arith, program_cost t, all_paid (operations_of t) i s.within, s.short)
 
-module _ (t : Tree) (v : ℕ) (e : value_of t ≡ some v) (c room g : ℕ) (m : List ℕ) where
+module _ (t : Tree) (v : ℕ) (e : value_of t ≡ Some v) (c room g : ℕ) (m : List ℕ) where
   pub succeeds : gas_of t ≤ g → p_of t ≤ 4096 → run_to_end (operations_of t) c room g m ≡ done (g - gas_of t) (last t v m)
   succeeds a b =
       let d : g - cost (operations_of t) ≡ g - gas_of t = omega (arith, program_cost t) in

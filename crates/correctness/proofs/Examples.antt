@@ -1,9 +1,10 @@
 -- Document 01's bench example through the compile statement; and the edges between success and the two refusals, at 1 + (1 + (.. 1)).
+use Rattle.std.specs.Prelude.{Some}
+use Rattle.std.specs.Prelude.{Ok}
 use Prim.Native.Nat.{ℕ, zero, suc, ◌≤◌}
 use native.Mathlib.Omega.{arith}
 use mathlib.Core.Path.{◌≡◌, refl}
 use mathlib.Core.List.{List, [], ◌∷◌}
-use mathlib.Core.Option.{some}
 use lib.ListN.{replicate}
 use Rattle.base.specs.Ascii.{ascii}
 use Rattle.base.specs.Overwrite.{overwrite}
@@ -14,10 +15,8 @@ use Rattle.numbered.specs.Numbered.{carrying, plain}
 use Rattle.decimal.specs.Decimal.{decimal}
 use Rattle.token.specs.Token.{scan}
 use Rattle.ops.specs.Ops.{Reading, ops_of, kinds_of, operands_of}
-use Rattle.context.specs.declared.Gate.TheVariants as gate
 use Rattle.machine.specs.Machine.{out_of_gas, stack_limit_exceeded, run_to_end}
 use Rattle.perform.specs.declared.State.{State}
-use Rattle.perform.specs.declared.RunAnswer.TheVariants.{Success}
 use Rattle.perform.specs.Numbers.{run_answer_numbered}
 use Rattle.perform.specs.Call.{Call}
 use Rattle.perform.specs.Run.{of_run}
@@ -55,7 +54,7 @@ run caller g = record {
 }
 
 abbrev call : ℕ → ℕ → Compilation
-call caller g = record { contract = tally; vector = vector; stem = ascii "tally"; out = replicate 4096 9; context = gate.Passed; run = run caller g }
+call caller g = record { contract = tally; vector = vector; stem = ascii "tally"; out = replicate 4096 9; context = (Ok tt); run = run caller g }
 
 -- 67 bytes are written
 tally_accepted : (caller g : ℕ) → Hypotheses (call caller g) 67 3 2 24
@@ -80,7 +79,7 @@ module _ (caller g : ℕ) (h : 7 ≤ g) where
   abbrev reading : Reading
   reading = reading_of (call caller g)
 
-  tally_answers : (transition_on (call caller g) (overwrite 0 (kinds_of (ops_of reading)) (replicate 6 9)) (overwrite 0 (operands_of (ops_of reading)) (replicate 6 9))).answer ≡ Success 7 6 1 unused
+  tally_answers : (transition_on (call caller g) (overwrite 0 (kinds_of (ops_of reading)) (replicate 6 9)) (overwrite 0 (operands_of (ops_of reading)) (replicate 6 9))).answer ≡ Ok (record { gas_spent = 7; operations = 6; items = 1; state = unused })
   tally_answers = told tally_runs.0
 
 -- n sums
@@ -88,7 +87,7 @@ nest : ℕ → Tree
 nest zero = num 1
 nest (suc n) = bin add (num 1) (nest n)
 
-counts : (k_of (nest 4096) ≡ 4097) × (p_of (nest 4096) ≡ 4097) × (value_of (nest 4096) ≡ some 4097)
+counts : (k_of (nest 4096) ≡ 4097) × (p_of (nest 4096) ≡ 4097) × (value_of (nest 4096) ≡ Some 4097)
 unfolding nest
 counts = (refl, refl, refl)
 

@@ -1,4 +1,5 @@
 -- The operations that a tree is written as: each can be written, is read again as it is, and passes the verifier.
+use Rattle.std.specs.Prelude.{Ok}
 use Prim.Native.Nat.{ℕ, ◌*◌, ◌^◌, ◌<◌}
 use native.Mathlib.Omega.{arith}
 use mathlib.Core.Path.{◌≡◌, refl, ap, ◌∙◌}
@@ -9,7 +10,6 @@ use Rattle.kinds.specs.Kinds.{Operation, operation}
 use Rattle.ops.specs.Ops.{kinds_of, operands_of}
 use Rattle.mnemonic.specs.Written.{cleared, IsOperation, Each, none, one}
 use Rattle.machine.specs.Machine.{halt, decode}
-use Rattle.checks.specs.declared.Check.TheVariants.{Passed}
 use Rattle.checks.specs.Verify.{operation_check, operations_check}
 use Rattle.grammar.specs.Tree.{Tree, num, bin, k_of}
 use Rattle.grammar.specs.Written.{tree_ops}
@@ -21,7 +21,7 @@ use Rattle.contract.proofs.Words.{Words}
 pub record Fine (o : Operation) : Type 0 where
   pub writable : IsOperation o
   pub same : cleared o ≡ o
-  pub passes : (n : ℕ) → operation_check n o ≡ Passed
+  pub passes : (n : ℕ) → operation_check n o ≡ Ok tt
 
 pub each_append : {P : Operation → Type 0} {a b : List Operation} → Each P a → Each P b → Each P (a ++ b)
 each_append none q = q
@@ -63,7 +63,7 @@ pub all_same : {os : List Operation} → Each Fine os → map cleared os ≡ os
 all_same none = refl
 all_same (one {a = o} {l = os} p ps) = ap (λ (x : Operation). x ∷ map cleared os) p.same ∙ ap (λ (l : List Operation). o ∷ l) (all_same ps)
 
-pub all_pass : (n : ℕ) {os : List Operation} → Each Fine os → operations_check n (kinds_of os) (operands_of os) ≡ Passed
+pub all_pass : (n : ℕ) {os : List Operation} → Each Fine os → operations_check n (kinds_of os) (operands_of os) ≡ Ok tt
 unfolding operations_check
 all_pass n none = refl
 all_pass n (one {a = o} {l = os} p ps) = rw (p.passes n) (all_pass n ps)

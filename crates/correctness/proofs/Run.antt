@@ -1,11 +1,11 @@
 -- The result of running a tree's program, as the call's answer and buffers say it.
+use Rattle.std.specs.Prelude.{Some}
 use Prim.Native.Nat.{ℕ, ◌-◌, ◌≤◌, ◌<◌}
 use native.Mathlib.Omega.{arith}
 use native.Mathlib.Decide.{dec_lt}
 use mathlib.Core.Path.{◌≡◌, refl, ap}
 use mathlib.Core.List.{List}
 use mathlib.Core.Logic.{◌↔◌}
-use mathlib.Core.Option.{some}
 use lib.ListN.{length, take, replicate, take-append-drop}
 use lib.Seq.{length-take-le}
 use Rattle.base.specs.Outcome as Outcome
@@ -29,7 +29,7 @@ pub record Kept (used : ℕ) (m : List ℕ) (r : Ending) : Type 0 where
   pub work : r.work ≡ replicate (length m) 0
 
 -- a call that fits its buffers, as 34 asks
-module _ (t : Tree) (v : ℕ) (e : value_of t ≡ some v) (x : Call) (same : length x.work ≡ length x.storage) (h : x.state.used ≤ length x.storage) where
+module _ (t : Tree) (v : ℕ) (e : value_of t ≡ Some v) (x : Call) (same : length x.work ≡ length x.storage) (h : x.state.used ≤ length x.storage) where
   abbrev g : ℕ
   g = x.limit
 

@@ -1,15 +1,14 @@
 -- The transition on a tree's operations: nothing before the run refuses it.
+use Rattle.std.specs.Prelude.{Some}
+use Rattle.std.specs.Prelude.{Ok}
 use Prim.Native.Nat.{ℕ, ◌*◌, ◌≤◌}
 use native.Mathlib.Omega.{arith}
 use mathlib.Core.Path.{◌≡◌, refl}
 use mathlib.Core.List.{List}
 use mathlib.Core.Bool.{true}
-use mathlib.Core.Option.{some}
 use borrow.Author.Tests.{eq-eqb, le-leb, lt-ltb}
 use lib.ListN.{length, length-map}
-use Rattle.context.specs.declared.Gate.TheVariants as gate
 use Rattle.ops.specs.Ops.{kinds_of, operands_of}
-use Rattle.checks.specs.declared.Check.TheVariants.{Passed}
 use Rattle.checks.specs.Verify.{buffers_fit, verify_of}
 use Rattle.perform.specs.Call.{Call}
 use Rattle.perform.proofs.Laws.{lent}
@@ -35,19 +34,19 @@ module _ (t : Tree) where
   pub operands-length : length vs ≡ 2 * k_of t
   operands-length = rw length-map (operations-length t)
 
-  verifies : Words t → k_of t ≤ 32768 → (used : ℕ) → used ≤ 65536 → verify_of ks vs used ≡ Passed
+  verifies : Words t → k_of t ≤ 32768 → (used : ℕ) → used ≤ 65536 → verify_of ks vs used ≡ Ok tt
   verifies h k used u =
       rw (all_pass (length ks) (operations_fine t h), kinds-length, operands-length, eq-eqb (2 * k_of t) (2 * k_of t) refl, lt-ltb 0 (2 * k_of t) (omega (arith, k_positive t)), le-leb (2 * k_of t) 65536 (omega arith), le-leb used 65536 u)
 
-  module _ (v : ℕ) (e : value_of t ≡ some v) (h : Words t) (k : k_of t ≤ 32768) (x : Call) where
+  module _ (v : ℕ) (e : value_of t ≡ Some v) (h : Words t) (k : k_of t ≤ 32768) (x : Call) where
     -- the call with the tree's operations in its two program buffers
     abbrev y : Call
     y = with_program x ks vs
 
     pub transition : buffers_fit (2 * k_of t) (2 * k_of t) (length x.stack) (length x.work) (length x.storage) x.state.used ≡ true → x.state.used ≤ 65536
-        → TreeRun t v x.limit x.state.used x.stack x.storage (ending_of (transition_of gate.Passed y))
+        → TreeRun t v x.limit x.state.used x.stack x.storage (ending_of (transition_of (Ok tt) y))
     transition b u =
         let fit : buffers_fit (length ks) (length vs) (length x.stack) (length x.work) (length x.storage) x.state.used ≡ true = rw (kinds-length, operands-length) b in
-        let passes : checks_of Passed Passed y ≡ Passed = rw (fit, verifies h k x.state.used u) in
-        let l = lent ks vs x.stack x.work x.storage x.state.used fit in
+        let passes : checks_of (Ok tt) (Ok tt) y ≡ (Ok tt) = rw (fit, verifies h k x.state.used u) in
+        let l = lent y fit in
         rw (passes, decoded (operations_of t)) (compiled t v e y l.same l.within)

@@ -1,10 +1,10 @@
 -- A tree's program: its sizes, its shape, and its run: gas and the stack's height alone decide where it ends.
+use Rattle.std.specs.Prelude.{Option, Some, None}
 use Prim.Native.Nat.{ℕ, suc, ◌+◌, ◌-◌, ◌*◌, max}
 use native.Mathlib.Omega.{arith}
 use mathlib.Core.Path.{◌≡◌, refl, ◌∙◌}
 use mathlib.Core.List.{List, [], ◌∷◌, ◌++◌, append_assoc}
 use mathlib.Core.Bool.{Bool, true, false, not, cond}
-use mathlib.Core.Option.{Option, some, none}
 use lib.ListN.{length, length-append}
 use lib.Dec.{ltb}
 use borrow.Author.Tests.{le-ltb}
@@ -68,8 +68,8 @@ takes_two o (b ∷ []) m = tt
 takes_two o (b ∷ a ∷ s) m = go (apply o a b)
   where
     go : (x : Option ℕ) → Goes (ofValue x s m)
-    go none = tt
-    go (some v) = tt
+    go None = tt
+    go (Some v) = tt
 
 plain : (t : Tree) → Each Plain (tree_ops t)
 plain (num n) = one (λ c room s m. pushes_on n s m) no_more
@@ -123,12 +123,12 @@ program_trace t g = rw (trace_append (tree_ops t) (halt ∷ []) g 0) (go (trace 
 
 -- a value's parts
 abbrev Parts : Binary → Option ℕ → Option ℕ → ℕ → Type 0
-Parts o x y v = (a : ℕ) × (b : ℕ) × (x ≡ some a) × (y ≡ some b) × (apply o a b ≡ some v)
+Parts o x y v = (a : ℕ) × (b : ℕ) × (x ≡ Some a) × (y ≡ Some b) × (apply o a b ≡ Some v)
 
-parts : (o : Binary) (x y : Option ℕ) (v : ℕ) → applied o x y ≡ some v → Parts o x y v
-parts o none y v e = let z : ◌≡◌ {A = ℕ} 0 1 = cc in absurd (omega arith)
-parts o (some a) none v e = let z : ◌≡◌ {A = ℕ} 0 1 = cc in absurd (omega arith)
-parts o (some a) (some b) v e = (a, b, refl, refl, e)
+parts : (o : Binary) (x y : Option ℕ) (v : ℕ) → applied o x y ≡ Some v → Parts o x y v
+parts o None y v e = let z : ◌≡◌ {A = ℕ} 0 1 = cc in absurd (omega arith)
+parts o (Some a) None v e = let z : ◌≡◌ {A = ℕ} 0 1 = cc in absurd (omega arith)
+parts o (Some a) (Some b) v e = (a, b, refl, refl, e)
 
 onward_then : (x : Metered) (h : ℕ → Metered) (f : ℕ → Progress) → onward (and_then x h) f ≡ onward x (λ g. onward (h g) f)
 onward_then (is g) h f = refl
@@ -139,7 +139,7 @@ abbrev grown : Frame → ℕ → List ℕ → Frame
 grown fr n s = record { pos = fr.pos + n; stack = s; storage = fr.storage; ops = fr.ops + n }
 
 module _ (c room : ℕ) where
-  do_two : (o : Binary) (a b v : ℕ) → apply o a b ≡ some v → (f : ℕ → Frame → Progress) (g n : ℕ) (s : List ℕ) (fr : Frame)
+  do_two : (o : Binary) (a b v : ℕ) → apply o a b ≡ Some v → (f : ℕ → Frame → Progress) (g n : ℕ) (s : List ℕ) (fr : Frame)
       → line c room f (operator_of o ∷ []) g (grown fr n (b ∷ a ∷ s)) ≡ onward (spend g) (λ g'. f g' (grown (grown fr n (b ∷ a ∷ s)) 1 (v ∷ s)))
   unfolding line price
   do_two o a b v e f g n s fr = rw ((operator o).price_two, (operator o).does c room, e) (go (ltb g 2))
@@ -161,7 +161,7 @@ module _ (c room : ℕ) where
       go false false = refl
 
   -- from any frame, whatever follows
-  agree : (t : Tree) (v : ℕ) → value_of t ≡ some v → (f : ℕ → Frame → Progress) (g : ℕ) (fr : Frame)
+  agree : (t : Tree) (v : ℕ) → value_of t ≡ Some v → (f : ℕ → Frame → Progress) (g : ℕ) (fr : Frame)
       → line c room f (tree_ops t) g fr ≡ onward (trace (tree_ops t) g (length fr.stack)) (λ g'. f g' (grown fr (length (tree_ops t)) (v ∷ fr.stack)))
   agree (num n) v e f g fr = let q : n ≡ v = cc in rw (← q) (do_push f n g fr)
   agree (bin o l r) v e f g fr =
@@ -185,7 +185,7 @@ halts c room f g t v m =
     rw (le-ltb g 0 (omega arith)) (rw d (rw b (rw a)))
 
 -- gas and height alone decide
-pub decided : (t : Tree) (v : ℕ) → value_of t ≡ some v → (c room g : ℕ) (m : List ℕ) → run_to_end (operations_of t) c room g m ≡ onward (trace (operations_of t) g 0) (λ g'. done g' (last t v m))
+pub decided : (t : Tree) (v : ℕ) → value_of t ≡ Some v → (c room g : ℕ) (m : List ℕ) → run_to_end (operations_of t) c room g m ≡ onward (trace (operations_of t) g 0) (λ g'. done g' (last t v m))
 decided t v e c room g m =
     rw (program_trace t g)
     (whole_line (operations_of t) (each_append (plain t) (one (λ c room s m. tt) no_more)) c room g m ∙ rw (line_append, agree c room t v e) (simp halts))

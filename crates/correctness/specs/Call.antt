@@ -1,7 +1,8 @@
 -- What is passed to assembly, reading and transition in a row, and what each of the three makes of it.
+use Rattle.std.specs.Prelude.{Result}
+use Rattle.context.specs.declared.ContextError.{ContextError}
 use Rattle.std.specs.Prelude.{ℕ, min, List, length}
 use Rattle.ops.specs.Ops.{Reading, read_text}
-use Rattle.context.specs.declared.Gate.{Gate}
 use Rattle.perform.specs.Call.{Call}
 use Rattle.perform.specs.Run.{RunResult}
 use Rattle.vm.specs.Transition.{transition_of}
@@ -14,7 +15,7 @@ pub record Compilation : Type 0 where
   pub vector : List ℕ
   pub stem : List ℕ
   pub out : List ℕ
-  pub context : Gate
+  pub context : Result (Unit {0}) ContextError
   pub run : Call
 
 -- what is left in the lent buffers: assembly's, reading's two, the transition's three

@@ -1,15 +1,13 @@
 -- The compile statement of document 01: one claim about assembly, reading and transition in a row, in document 01's numbers.
+use Rattle.std.specs.Prelude.{Some, Ok}
 use Rattle.std.specs.Prelude.{ℕ, ◌-◌, ◌*◌, ◌≤◌, ◌<◌, ◌≡◌, List, [], ◌∷◌, true, cond, ◌↔◌, eqb, length, get_or, replicate}
-use Rattle.std.proofs.Math.Option.{some}
 use Rattle.base.specs.Ascii.{ascii}
 use Rattle.base.specs.Overwrite.{overwrite}
 use Rattle.numbered.specs.declared.Numbered.{Numbered}
 use Rattle.numbered.specs.Numbered.{carrying, plain}
 use Rattle.source.specs.Vector.{vector_number}
-use Rattle.source.specs.declared.vector.KeyValue.TheVariants as key
 use Rattle.ops.specs.Ops.{answer_of, ops_of, kinds_of, operands_of}
 use Rattle.ops.specs.Numbers.{parsed_ops_numbered}
-use Rattle.context.specs.declared.Gate.TheVariants as gate
 use Rattle.checks.specs.Verify.{buffers_fit}
 use Rattle.perform.specs.Numbers.{run_answer_numbered}
 use Rattle.perform.specs.Run.{RunResult}
@@ -79,7 +77,7 @@ pub record Hypotheses (x : Compilation) (n k p v : ℕ) : Type 0 where
   pub accepts : (assembly_of x).answer ≡ carrying 0 (n ∷ k ∷ p ∷ v ∷ [])
   pub kinds_room : length x.run.kinds ≡ 2 * k
   pub operands_room : length x.run.operands ≡ 2 * k
-  pub passes : x.context ≡ gate.Passed
+  pub passes : x.context ≡ Ok tt
   pub lent : buffers_fit (length x.run.kinds) (length x.run.operands)
       (length x.run.stack) (length x.run.work) (length x.run.storage) x.run.state.used ≡ true
   pub used : x.run.state.used ≤ 65536
@@ -91,8 +89,8 @@ pub record CompileStatement (x : Compilation) (k p v : ℕ) (y : Observed) : Typ
   pub assembles : assembled_tree x.contract x.vector ≡ is (v, tree)
   pub k_counts : k ≡ k_of tree
   pub p_counts : p ≡ p_of tree
-  pub value : value_of tree ≡ some v
-  pub expected : vector_number x.vector (ascii "expected") ≡ key.Is v
+  pub value : value_of tree ≡ Some v
+  pub expected : vector_number x.vector (ascii "expected") ≡ Ok v
   -- reading answers 0 with 2k operations, and both buffers are filled with the tree's
   pub reads : y.reading ≡ carrying 0 (2 * k ∷ [])
   pub kinds_filled : y.kinds ≡ kinds_of (operations_of tree)

@@ -1,4 +1,5 @@
 -- Digits written over a buffer.
+use Rattle.std.specs.Prelude.{Some, None}
 use Prim.Native.Nat.{ℕ, ◌+◌, ◌-◌, ◌/◌, ◌%◌, ◌<◌, ◌≤◌}
 use mathlib.Core.Path.{◌≡◌, sym, ap, ◌∙◌}
 use mathlib.Core.List.{List, [], ◌∷◌, ◌++◌}
@@ -9,7 +10,6 @@ use Rattle.base.specs.Overwrite.{overwrite}
 use Rattle.base.proofs.Overwrite.{overwrite_one, overwrite_last}
 use Rattle.decimal.specs.Decimal.{decimal}
 use Rattle.decimal.specs.Code.Digits.{written_at, buffer_after}
-use Rattle.decimal.specs.declared.Written.TheVariants.{To, NoRoom}
 use Rattle.decimal.proofs.Laws.{decimal_one, decimal_more, length_one, length_more, length_positive}
 
 -- a number's digits from at on, of which the last one stands at i
@@ -59,8 +59,8 @@ module _ {at n i : ℕ} {out : List ℕ} (e : Ends at n i out) (m : 100 ≤ n) (
 
 -- whether a number fits
 module _ (n at : ℕ) (out : List ℕ) where
-  pub room : at + length (decimal n) ≤ length out → (To (at + length (decimal n)) ≡ written_at n at (length out)) × (overwrite at (decimal n) out ≡ buffer_after n at out)
+  pub room : at + length (decimal n) ≤ length out → (Some (at + length (decimal n)) ≡ written_at n at (length out)) × (overwrite at (decimal n) out ≡ buffer_after n at out)
   room h = let e = le-leb (at + length (decimal n)) (length out) h in (simp e, simp e)
 
-  pub no_room : length out < at + length (decimal n) → (NoRoom ≡ written_at n at (length out)) × (out ≡ buffer_after n at out)
+  pub no_room : length out < at + length (decimal n) → (None ≡ written_at n at (length out)) × (out ≡ buffer_after n at out)
   no_room h = let e = lt-leb (at + length (decimal n)) (length out) h in (simp e, simp e)

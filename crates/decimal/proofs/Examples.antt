@@ -1,10 +1,9 @@
 -- What the definitions give, computed.
+use Rattle.std.specs.Prelude.{Some, None}
 use mathlib.Core.Path.{◌≡◌, refl}
 use mathlib.Core.List.{[], ◌∷◌}
 use Rattle.decimal.specs.Decimal.{number_of, decimal}
 use Rattle.decimal.specs.Code.Digits.{digits_at}
-use Rattle.decimal.specs.declared.Value.TheVariants as Value
-use Rattle.decimal.specs.declared.Number.TheVariants.{Is, Invalid}
 
 decimal_zero : decimal 0 ≡ 48 ∷ []
 unfolding decimal
@@ -23,38 +22,38 @@ unfolding decimal
 largest = refl
 
 -- +5
-plus_five : number_of (43 ∷ 53 ∷ []) ≡ Is 5
+plus_five : number_of (43 ∷ 53 ∷ []) ≡ Some 5
 plus_five = refl
 
 -- -0
-minus_zero : number_of (45 ∷ 48 ∷ []) ≡ Invalid
+minus_zero : number_of (45 ∷ 48 ∷ []) ≡ None
 minus_zero = refl
 
-empty : number_of [] ≡ Invalid
+empty : number_of [] ≡ None
 empty = refl
 
-plus : number_of (43 ∷ []) ≡ Invalid
+plus : number_of (43 ∷ []) ≡ None
 plus = refl
 
 -- ++1
-two_pluses : number_of (43 ∷ 43 ∷ 49 ∷ []) ≡ Invalid
+two_pluses : number_of (43 ∷ 43 ∷ 49 ∷ []) ≡ None
 two_pluses = refl
 
 -- 00012
-leading_zeros : number_of (48 ∷ 48 ∷ 48 ∷ 49 ∷ 50 ∷ []) ≡ Is 12
+leading_zeros : number_of (48 ∷ 48 ∷ 48 ∷ 49 ∷ 50 ∷ []) ≡ Some 12
 leading_zeros = refl
 
-largest_read : number_of (decimal 18446744073709551615) ≡ Is 18446744073709551615
+largest_read : number_of (decimal 18446744073709551615) ≡ Some 18446744073709551615
 unfolding decimal
 largest_read = refl
 
-too_large : number_of (decimal 18446744073709551616) ≡ Invalid
+too_large : number_of (decimal 18446744073709551616) ≡ None
 unfolding decimal
 too_large = refl
 
 -- 12 in a12b, and nothing past its end
-in_text : digits_at (97 ∷ 49 ∷ 50 ∷ 98 ∷ []) 1 ≡ record { len = 2; value = Value.Is 12 }
+in_text : digits_at (97 ∷ 49 ∷ 50 ∷ 98 ∷ []) 1 ≡ record { len = 2; value = Some 12 }
 in_text = refl
 
-past_end : digits_at (97 ∷ 49 ∷ 50 ∷ 98 ∷ []) 9 ≡ record { len = 0; value = Value.Is 0 }
+past_end : digits_at (97 ∷ 49 ∷ 50 ∷ 98 ∷ []) 9 ≡ record { len = 0; value = Some 0 }
 past_end = refl

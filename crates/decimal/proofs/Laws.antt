@@ -1,5 +1,6 @@
 -- Laws of `decimal`: a number's digits.
-use Prim.Native.Nat.{ℕ, zero, suc, ◌+◌, ◌-◌, ◌*◌, ◌/◌, ◌%◌, ◌^◌, ◌<◌, ◌≤◌}
+use Rattle.std.specs.Prelude.{Some}
+use Prim.Native.Nat.{max, ℕ, zero, suc, ◌+◌, ◌-◌, ◌*◌, ◌/◌, ◌%◌, ◌^◌, ◌<◌, ◌≤◌}
 use mathlib.Core.Path.{◌≡◌, refl, sym, ap, ◌∙◌}
 use mathlib.Core.List.{List, [], ◌∷◌, ◌++◌}
 use mathlib.Core.Bool.{true}
@@ -11,7 +12,6 @@ use Rattle.base.specs.Lists.{all}
 use Rattle.base.proofs.Tests.{by_leb, inside, between, and_both}
 use Rattle.base.proofs.Lists.{all_behind, all_at}
 use Rattle.decimal.specs.Decimal.{digit, value_from, value, from_digits, number_of, decimal_with, decimal}
-use Rattle.decimal.specs.declared.Number.TheVariants.{Is}
 use Rattle.decimal.proofs.FromStr.{not_signed}
 
 -- any fuel above the number is enough
@@ -72,18 +72,6 @@ length_one n h = ap length (decimal_one n h)
 pub length_more : (n : ℕ) → 10 ≤ n → length (decimal n) ≡ length (decimal (n / 10)) + 1
 length_more n h = ap length (decimal_more n h) ∙ length-append (decimal (n / 10)) ((48 + n % 10) ∷ [])
 
-pub length_four_more : (n : ℕ) → 10000 ≤ n → length (decimal n) ≡ length (decimal (n / 10000)) + 4
-length_four_more n h =
-    let e : n / 10 / 10 / 10 / 10 ≡ n / 10000 = omega arith in
-    omega (
-      arith,
-      length_more n (omega arith),
-      length_more (n / 10) (omega arith),
-      length_more (n / 10 / 10) (omega arith),
-      length_more (n / 10 / 10 / 10) (omega arith),
-      ap (λ (m : ℕ). length (decimal m)) e,
-    )
-
 pub length_positive : (n : ℕ) → 0 < length (decimal n)
 length_positive n = by_leb 10 n (λ h. omega (arith, length_more n h)) (λ h. omega (arith, length_one n h))
 
@@ -93,6 +81,25 @@ length_below (suc k) n h =
     by_leb 10 n
     (λ e. let i = length_below k (n / 10) (omega (arith, pow-suc 10 (suc k))) in omega (arith, length_more n e))
     (λ e. omega (arith, length_one n e))
+
+length_from : (k n : ℕ) → 10 ^ k ≤ n → k < length (decimal n)
+length_from zero n h = length_positive n
+length_from (suc k) n h =
+    let m : 10 ^ k ≤ n / 10 = omega (arith, pow-suc 10 k) in
+    let i = length_from k (n / 10) m in
+    let p : 10 ≤ n = omega (arith, pow-suc 10 k, pow-positive k) in
+    omega (arith, length_more n p)
+  where
+    pow-positive : (k : ℕ) → 0 < 10 ^ k
+    pow-positive zero = omega arith
+    pow-positive (suc k) = omega (arith, pow-suc 10 k, pow-positive k)
+
+-- by the logarithm; 0 has one digit, as 1 has
+pub length_log : (n k : ℕ) → 10 ^ k ≤ max n 1 → max n 1 < 10 * 10 ^ k → length (decimal n) ≡ k + 1
+length_log zero k h m = omega (arith, length_from k 1 h, length_one 1 (omega arith), length_one 0 (omega arith))
+length_log (suc n) k h m =
+    let e : max (suc n) 1 ≡ suc n = omega arith in
+    omega (arith, length_from k (suc n) (omega arith), length_below k (suc n) (omega (arith, pow-suc 10 k)))
 
 pub length_word : (n : ℕ) → n < 2 ^ 64 → length (decimal n) ≤ 20
 length_word n h = length_below 19 n (omega arith)
@@ -110,7 +117,7 @@ first_zero =
     (λ n h r e. absurd (let z = r (sym (first_more n h) ∙ e) in omega arith))
 
 -- what is written is read again
-pub round_trip : (n : ℕ) → n < 2 ^ 64 → number_of (decimal n) ≡ Is n
+pub round_trip : (n : ℕ) → n < 2 ^ 64 → number_of (decimal n) ≡ Some n
 round_trip n h =
     let b = between_decimal n 0 (length_positive n) in
     ap from_digits (sym (not_signed (decimal n) (λ e. omega arith)))

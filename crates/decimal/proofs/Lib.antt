@@ -3,3 +3,4 @@ pub mod FromStr
 pub mod Laws
 pub mod Buffer
 pub mod Examples
+pub mod Shown

@@ -1,19 +1,20 @@
 -- The digits from a place on: one after the other, where they end, and the number that they write.
-use Prim.Native.Nat.{ℕ, ◌+◌, ◌-◌, ◌*◌, ◌^◌, ◌<◌, ◌≤◌}
+use Rattle.std.specs.Prelude.{Option, Some, None}
+use Prim.Native.Nat.{zero, suc, ℕ, ◌+◌, ◌-◌, ◌*◌, ◌^◌, ◌<◌, ◌≤◌}
 use mathlib.Core.Path.{◌≡◌, refl, sym, ap, ap₂, ◌∙◌}
 use mathlib.Core.List.{List, [], ◌∷◌}
-use mathlib.Core.Bool.{true, false}
-use borrow.Author.Tests.{lt-ltb, le-ltb}
+use mathlib.Core.Bool.{true, ◌&&◌, false}
+use borrow.Author.Tests.{lt-ltb, le-ltb, eqb-true}
 use native.Mathlib.Omega.{arith}
-use lib.ListN.{length, get_or, drop, length-drop}
-use Rattle.base.specs.Lists.{take_while}
-use Rattle.base.proofs.Tests.{between}
+use lib.ListN.{length, get_or, take, drop, length-drop}
+use Rattle.base.specs.Lists.{all, take_while}
+use Rattle.base.proofs.Tests.{and_left, and_right, between}
+use Rattle.base.proofs.Parts.{drop_cons_at}
+use lib.Dec.{eqb}
 use Rattle.base.proofs.Lists.{length-take_while, take_while_more, take_while_none, end_from, passes_inside, end_more}
 use Rattle.decimal.specs.Decimal.{digit, value_from, value}
 use Rattle.decimal.specs.Code.Digits.{capped, digits_at}
 use Rattle.decimal.specs.Code.Zeros.{ZerosTo}
-use Rattle.decimal.specs.declared.Value.{Value}
-use Rattle.decimal.specs.declared.Value.TheVariants.{Is, TooLarge}
 use Rattle.decimal.specs.declared.Digits.{Digits}
 
 -- a digit stands at a place
@@ -40,6 +41,9 @@ module _ {s : List ℕ} {i : ℕ} (d : DigitAt s i) where
 pub value_none : (s : List ℕ) (i : ℕ) → digit (get_or s i 0) ≡ false → (acc : ℕ) → value_from acc (take_while digit (drop i s)) ≡ acc
 value_none s i e acc = ap (value_from acc) (take_while_none digit s i e)
 
+pub end_none : (s : List ℕ) (i : ℕ) → digit (get_or s i 0) ≡ false → end_from digit s i ≡ i
+end_none s i e = let z = ap length (take_while_none digit s i e) in omega arith
+
 -- zeros are passed
 pub no_zeros : (s : List ℕ) (at end : ℕ) → end ≡ at → ZerosTo s at end
 no_zeros s at end e = rw e (record { on = omega arith; stop = refl; same = refl })
@@ -57,6 +61,16 @@ one_zero s i j h e n =
       same = value_more d 0 ∙ ap (λ (a : ℕ). value_from (0 * 10 + (a - 48)) (take_while digit (drop (i + 1) s))) e;
     })
 
+pub zeros_passed : (s : List ℕ) (n at : ℕ) → at + n ≤ length s → all (λ c. eqb c 48) (take n (drop at s)) ≡ true → ZerosTo s at (at + n)
+zeros_passed s zero at h e = no_zeros s at (at + 0) (omega arith)
+zeros_passed s (suc n) at h e =
+    let d : take (suc n) (drop at s) ≡ get_or s at 0 ∷ take n (drop (at + 1) s) = ap (take (suc n)) (drop_cons_at s at (at + 1) (omega arith) refl) in
+    let z : (eqb (get_or s at 0) 48 && all (λ c. eqb c 48) (take n (drop (at + 1) s))) ≡ true = sym (ap (all (λ c. eqb c 48)) d) ∙ e in
+    let m : at + 1 + n ≡ at + suc n = omega arith in
+    let one = one_zero s at (at + 1) (omega arith) (eqb-true _ 48 (and_left _ _ z)) refl in
+    let more = zeros_passed s n (at + 1) (omega arith) (and_right (eqb (get_or s at 0) 48) _ z) in
+    rw (← m) (more_zeros s at (at + 1) (at + 1 + n) one more)
+
 module _ (s : List ℕ) (at first : ℕ) (r : Digits) (z : ZerosTo s at first) (e : r ≡ digits_at s first) where
   behind_length : first - at + r.len ≡ length (take_while digit (drop at s))
   behind_length = let h = z.on in omega (arith, ap (λ (d : Digits). d.len) e, z.stop)
@@ -72,11 +86,11 @@ grows : (n : ℕ) (s : List ℕ) → n ≤ value_from n s
 grows n [] = omega arith
 grows n (a ∷ s) = let h = grows (n * 10 + (a - 48)) s in omega arith
 
-pub fitting : (n : ℕ) → n < 2 ^ 64 → capped n ≡ Is n
+pub fitting : (n : ℕ) → n < 2 ^ 64 → capped n ≡ Some n
 fitting n h = simp (lt-ltb n (2 ^ 64) h)
 
-pub over : (n : ℕ) (s : List ℕ) → 2 ^ 64 ≤ n → capped (value_from n s) ≡ TooLarge
+pub over : (n : ℕ) (s : List ℕ) → 2 ^ 64 ≤ n → capped (value_from n s) ≡ None
 over n s h = let g = grows n s in simp (le-ltb (value_from n s) (2 ^ 64) (omega arith))
 
-pub answer : (s : List ℕ) (at end : ℕ) (v : Value) → end_from digit s at ≡ end → capped (value (take_while digit (drop at s))) ≡ v → ◌≡◌ {A = Digits} (record { len = end - at; value = v }) (digits_at s at)
+pub answer : (s : List ℕ) (at end : ℕ) (v : Option ℕ) → end_from digit s at ≡ end → capped (value (take_while digit (drop at s))) ≡ v → ◌≡◌ {A = Digits} (record { len = end - at; value = v }) (digits_at s at)
 answer s at end v p q = let n : end - at ≡ length (take_while digit (drop at s)) = omega arith in cc

@@ -1,8 +1,8 @@
 -- Numbers in plain decimal: what a text of digits writes, `u64::from_str`, and the digits of a number.
+use Rattle.std.specs.Prelude.{Option, Some, None}
 use Rattle.std.specs.Prelude.{ℕ, zero, suc, ◌+◌, ◌-◌, ◌*◌, ◌/◌, ◌%◌, ◌^◌, List, [], ◌∷◌, ◌++◌, Bool, cond, ◌&&◌, eqb, ltb, length}
 use Rattle.base.specs.Range.{within}
 use Rattle.base.specs.Lists.{all}
-use Rattle.decimal.specs.declared.Number.{Number}
 
 -- 0 to 9
 abbrev pub digit : ℕ → Bool
@@ -22,11 +22,11 @@ without_plus [] = []
 without_plus (a ∷ s) = cond (eqb a 43) s (a ∷ s)
 
 -- one digit or more and nothing else, below 2 ^ 64
-abbrev pub from_digits : List ℕ → Number
-from_digits s = cond (ltb 0 (length s) && all digit s && ltb (value s) (2 ^ 64)) (Number.Is (value s)) Number.Invalid
+abbrev pub from_digits : List ℕ → Option ℕ
+from_digits s = cond (ltb 0 (length s) && all digit s && ltb (value s) (2 ^ 64)) (Some (value s)) None
 
 -- `u64::from_str`
-abbrev pub number_of : List ℕ → Number
+abbrev pub number_of : List ℕ → Option ℕ
 number_of s = from_digits (without_plus s)
 
 -- the last digits of a number, at most as many as fuel

@@ -1,38 +1,20 @@
 // Numbers in plain decimal: read from a text, and written to a buffer.
 #![tactic(auto)]
 
-ghost use Rattle.std.specs.Prelude.{◌≡◌, ◌+◌, ◌*◌, ◌^◌, ◌<◌, ◌≤◌, ltb, length, get_or, drop};
+ghost use Rattle.std.specs.Prelude.{◌≡◌, ◌==◌, ◌+◌, ◌*◌, ◌^◌, ◌<◌, ◌≤◌, ltb, length, get_or, drop};
 ghost use Rattle.base.specs.Overwrite.{overwrite};
 ghost use Rattle.decimal.specs.Decimal.{digit, without_plus, number_of, decimal};
-ghost use Rattle.base.specs.Lists.{take_while};
+ghost use Rattle.base.specs.Lists.{all, take_while};
 ghost use Rattle.decimal.specs.Code.Digits.{digits_at};
 ghost use Rattle.decimal.specs.Code.Digits.{written_at, buffer_after};
 ghost use Rattle.decimal.specs.Code.Zeros.{ZerosTo, ZerosAt};
 
-use base::{both, in_range, widen};
-
-#[derive(Clone, Copy)]
-pub enum Value {
-    Is(u64),
-    TooLarge,
-}
+use base::in_range;
 
 #[derive(Clone, Copy)]
 pub struct Digits {
     pub len: usize,
-    pub value: Value,
-}
-
-#[derive(Clone, Copy)]
-pub enum Number {
-    Is(u64),
-    Invalid,
-}
-
-#[derive(Clone, Copy)]
-pub enum Written {
-    To(usize),
-    NoRoom,
+    pub value: Option<u64>,
 }
 
 // How many zeros a block has.
@@ -57,15 +39,13 @@ pub fn few_digits_at(s: &[u8], at: usize) -> Digits
     ensures { result ≡ digits_at s.now at }
 {
     let mut acc: u64 = 0;
+    // Not `for i in at..s.len()`: tried, and reading took a tenth more time, numbers of 20 digits twice as much.
     let mut i = at;
     while is_digit_at(s, i) {
-        let d = widen(s[i] - b'0');
+        let d = u64::from(s[i] - b'0');
         if !next_fits(acc, d) {
             let len = digits_end(s, i) - at;
-            return Digits {
-                len,
-                value: Value::TooLarge,
-            };
+            return Digits { len, value: None };
         }
         acc = acc * 10 + d;
         i += 1;
@@ -73,79 +53,59 @@ pub fn few_digits_at(s: &[u8], at: usize) -> Digits
     let len = i - at;
     Digits {
         len,
-        value: Value::Is(acc),
+        value: Some(acc),
     }
 }
 
 // u64::from_str
-pub fn from_str(s: &[u8]) -> Number
+pub fn from_str(s: &[u8]) -> Option<u64>
     ensures { result ≡ number_of s.now }
 {
     let at = plus_len(s);
     let run = digits_at(s, at);
-    let len = run.len;
-    if len == 0 {
-        return Number::Invalid;
+    if run.len == 0 || run.len < s.len() - at {
+        return None;
     }
-    if len < s.len() - at {
-        return Number::Invalid;
-    }
-    let value = run.value;
-    match value {
-        Value::Is(n) => Number::Is(n),
-        Value::TooLarge => Number::Invalid,
-    }
+    run.value
 }
 
 // How many digits a number has.
 pub fn decimal_len(n: u64) -> usize
     ensures { result ≡ length (decimal n) }
 {
-    let mut rest = n;
-    let mut len: usize = 0;
-    while rest >= 10000 {
-        rest = rest / 10000;
-        len += 4;
-    }
-    len + short_len(rest)
+    n.max(1).ilog10() as usize + 1
 }
 
 // A number in plain decimal at an offset of a buffer. Where it doesn't fit, nothing is written.
-pub fn write_decimal(n: u64, out: &mut [u8], at: usize) -> Written
+pub fn write_decimal(n: u64, out: &mut [u8], at: usize) -> Option<usize>
     ensures value { result ≡ written_at n at (length out.old) }
     ensures out_after { out.new ≡ buffer_after n at out.old }
 {
     let len = decimal_len(n);
-    let room = out.len();
-    if at > room {
-        return Written::NoRoom;
+    if out.len() < at || out.len() - at < len {
+        return None;
     }
-    if room - at < len {
-        return Written::NoRoom;
-    }
-    let end = at + len;
     write_digits(n, out, at, len);
-    Written::To(end)
+    Some(at + len)
 }
 
 fn is_digit_at(s: &[u8], i: usize) -> bool
     ensures { result ≡ digit (get_or s.now i 0) }
 {
-    if i < s.len() {
-        return in_range(b'0', b'9', s[i]);
-    }
-    false
+    i < s.len() && in_range(b'0', b'9', s[i])
 }
 
 // Where the digits starting at an offset end.
 fn digits_end(s: &[u8], at: usize) -> usize
+    requires { at ≤ length s.now }
     ensures { result ≡ at + length (take_while digit (drop at s.now)) }
 {
-    let mut i = at;
-    while is_digit_at(s, i) {
-        i += 1;
+    for i in at..s.len() {
+        if !in_range(b'0', b'9', s[i]) {
+            return i;
+        }
     }
-    i
+    s.len()
 }
 
 // Passes blocks of zeros. Most numbers don't start with one.
@@ -155,6 +115,7 @@ fn pass_zeros(s: &[u8], at: usize) -> usize
     if !is_zero_at(s, at) {
         return at;
     }
+    // From any offset, by blocks; the test has the bounds, so no iterator is plainer.
     let mut i = at;
     while zeros_at(s, i) {
         i += BLOCK;
@@ -163,36 +124,23 @@ fn pass_zeros(s: &[u8], at: usize) -> usize
 }
 
 fn is_zero_at(s: &[u8], at: usize) -> bool {
-    if at < s.len() {
-        return s[at] == b'0';
-    }
-    false
+    at < s.len() && s[at] == b'0'
 }
 
 // Whether a block of zeros stands at an offset.
 fn zeros_at(s: &[u8], at: usize) -> bool
     ensures { ZerosAt s.now at 16 result }
 {
-    if s.len() < BLOCK {
+    if s.len() < at || s.len() - at < BLOCK {
         return false;
     }
-    if s.len() - BLOCK < at {
-        return false;
-    }
-    all_zeros(s, at, BLOCK)
+    all_zeros(&s[at..at + BLOCK])
 }
 
-fn all_zeros(s: &[u8], at: usize, n: usize) -> bool
-    requires { at + n ≤ length s.now }
-    ensures { ZerosAt s.now at n result }
+fn all_zeros(block: &[u8]) -> bool
+    ensures { result ≡ all (λ c. c == 48) block.now }
 {
-    let mut zeros = true;
-    let mut k: usize = 0;
-    while k < n {
-        zeros = both(zeros, s[at + k] == b'0');
-        k += 1;
-    }
-    zeros
+    block.iter().fold(true, |zeros, c| zeros & (*c == b'0'))
 }
 
 // Whether a number with one digit more is below 2^64.
@@ -213,32 +161,11 @@ fn next_fits(acc: u64, d: u64) -> bool
 fn plus_len(s: &[u8]) -> usize
     ensures { (result ≤ length s.now) × (drop result s.now ≡ without_plus s.now) }
 {
-    if 0 < s.len() {
-        if s[0] == b'+' {
-            return 1;
-        }
-    }
-    0
+    if !s.is_empty() && s[0] == b'+' { 1 } else { 0 }
 }
 
-// How many digits a number of at most four has.
-fn short_len(n: u64) -> usize
-    requires { n < 10000 }
-    ensures { result ≡ length (decimal n) }
-{
-    if n < 10 {
-        return 1;
-    }
-    if n < 100 {
-        return 2;
-    }
-    if n < 1000 {
-        return 3;
-    }
-    4
-}
-
-// The len digits of a number, from the last to the first, two in a turn.
+// The len digits of a number, from the last to the first, two in a turn. What is left of the number says when it ends; no iterator has
+// that.
 fn write_digits(n: u64, out: &mut [u8], at: usize, len: usize)
     requires { (len ≡ length (decimal n)) × (at + len ≤ length out.old) }
     ensures { out.new ≡ overwrite at (decimal n) out.old }

@@ -4,7 +4,7 @@ use mathlib.Core.Path.{◌≡◌, refl, sym, ap, subst, ◌∙◌}
 use mathlib.Core.List.{List, [], ◌∷◌, ◌++◌, append-nil, append_assoc}
 use mathlib.Core.Bool.{Bool, true, false}
 use native.Mathlib.Omega.{arith}
-use lib.ListN.{length, get_or, take, drop, set, length-append, length-set, drop_of_length-le}
+use lib.ListN.{length, get_or, take, drop, length-append, length-set, drop_of_length-le}
 use lib.Seq.{length-take-le}
 use borrow.Author.Tests.{eq-eqb, ne_eqb}
 use Rattle.base.specs.Outcome.{is}
@@ -21,12 +21,15 @@ use Rattle.grammar.specs.Code.Texts.{text_of}
 use Rattle.writer.specs.Code.Overwrites.{Overwrites}
 use Rattle.emission.specs.Code.Lines.{push_text, operators_text}
 use Rattle.writer.proofs.Pieces.{overwrites_none, overwrites_then, overwrites_length}
+use Rattle.std.specs.Prelude.{Option}
+use Rattle.emission.specs.declared.Piece.{Piece}
 use Rattle.emission.specs.declared.factor.Factor.{Factor}
 use Rattle.emission.specs.declared.factor.Factor.TheVariants.{Open, Literal, Name, Nothing}
 use Rattle.emission.specs.declared.factor.FactorAt.{FactorAt}
 use Rattle.emission.specs.declared.operator.Turn.{Turn}
 use Rattle.emission.specs.Code.Factor.{factor_at}
-use Rattle.emission.specs.Code.Waiting.{most, popped}
+use Rattle.emission.specs.declared.waiting.Waiting.{Waiting}
+use Rattle.emission.specs.Code.Waiting.{most, popped, stack, pushed, none_waiting, Holds}
 use Rattle.emission.specs.Code.Turn.{sign_at, down_to, CanTurn, Turns}
 use Rattle.emission.specs.Code.Emitted.{tree_between, MeansTree, KeepsWritten}
 use Rattle.emission.proofs.Stack.{text_num}
@@ -35,14 +38,13 @@ use Rattle.emission.proofs.Postfix.{postfix}
 use Rattle.emission.proofs.WalkStep.{token_past, Factored, onward, Operated, factor_step, operator_step}
 
 module _ (s : List ℕ) (c : Sources) (count end : ℕ) (whole out₀ : List ℕ) (at : ℕ) where
-  pub record Going (out : List ℕ) (to : ℕ) (waiting : List ℕ) (n i : ℕ) (due : Bool) : Type 0 where
+  pub record Going (out : List ℕ) (to : ℕ) (waiting : Waiting) (i : ℕ) (due : Bool) : Type 0 where
     pub o : List ℕ
     pub rest : List ℕ
     pub all : o ++ rest ≡ whole
     pub put : Overwrites out₀ at o out to
-    pub few : n ≤ most
-    pub full : length waiting ≡ most
-    pub walks : Walks (env_of s c count) due (stack_of waiting n) (tokens (drop i (take end s))) rest
+    pub holds : Holds waiting
+    pub walks : Walks (env_of s c count) due (stack waiting) (tokens (drop i (take end s))) rest
 
   -- what does not change
   pub record Fixed : Type 0 where
@@ -51,36 +53,35 @@ module _ (s : List ℕ) (c : Sources) (count end : ℕ) (whole out₀ : List ℕ
     pub room : at + length whole ≤ length out₀
 
 -- the loop's invariant
-pub record Running (s : List ℕ) (c : Sources) (count start end : ℕ) (out₀ : List ℕ) (at : ℕ) (out : List ℕ) (to : ℕ) (waiting : List ℕ) (n i : ℕ) (due : Bool) (places lengths : List ℕ) : Type 0 where
+pub record Running (s : List ℕ) (c : Sources) (count start end : ℕ) (out₀ : List ℕ) (at : ℕ) (out : List ℕ) (to : ℕ) (waiting : Waiting) (i : ℕ) (due : Bool) (pieces : List (Option Piece)) : Type 0 where
   pub fixed : Fixed s c count end (text_of (tree_between s c count start end)) out₀ at
-  pub going : Going s c count end (text_of (tree_between s c count start end)) out₀ at out to waiting n i due
-  pub kept : KeepsWritten s c out to places lengths
+  pub going : Going s c count end (text_of (tree_between s c count start end)) out₀ at out to waiting i due
+  pub kept : KeepsWritten s c out to pieces
 
-pub running_as : {s : List ℕ} {c : Sources} {count start end : ℕ} {out₀ : List ℕ} {at : ℕ} {out : List ℕ} {to : ℕ} {waiting : List ℕ} {n i : ℕ} {due d : Bool} {places lengths : List ℕ} → Running s c count start end out₀ at out to waiting n i due places lengths → due ≡ d → Running s c count start end out₀ at out to waiting n i d places lengths
-running_as {s} {c} {count} {start} {end} {out₀} {at} {out} {to} {waiting} {n} {i} {due} {d} {places} {lengths} r e = subst (λ (b : Bool). Running s c count start end out₀ at out to waiting n i b places lengths) e r
+pub running_as : {s : List ℕ} {c : Sources} {count start end : ℕ} {out₀ : List ℕ} {at : ℕ} {out : List ℕ} {to : ℕ} {waiting : Waiting} {i : ℕ} {due d : Bool} {pieces : List (Option Piece)} → Running s c count start end out₀ at out to waiting i due pieces → due ≡ d → Running s c count start end out₀ at out to waiting i d pieces
+running_as {s} {c} {count} {start} {end} {out₀} {at} {out} {to} {waiting} {i} {due} {d} {pieces} r e = subst (λ (b : Bool). Running s c count start end out₀ at out to waiting i b pieces) e r
 
 -- a token is behind the place, or the end is
 past : (s : List ℕ) (end i : ℕ) → end ≤ length s → i < end → {j : ℕ} → j ≡ (token_at (take end s) i).end → end - j < end - i
 past s end i h l e = omega (arith, token_past (take end s) i (omega (arith, length-take-le end s h)))
 
 -- it starts with nothing written
-pub going_starts : {s : List ℕ} {c : Sources} {count start end : ℕ} {out : List ℕ} {at : ℕ} {waiting : List ℕ} → MeansTree s c count start end → length waiting ≡ most → Going s c count end (text_of (tree_between s c count start end)) out at out at waiting 0 start true
+pub going_starts : {s : List ℕ} {c : Sources} {count start end : ℕ} {out : List ℕ} {at : ℕ} → MeansTree s c count start end → Going s c count end (text_of (tree_between s c count start end)) out at out at none_waiting start true
 unfolding stack_of
-going_starts {s} {c} {count} {start} {end} {out} {at} m f = record {
+going_starts {s} {c} {count} {start} {end} {out} {at} m = record {
   o = [];
   rest = text_of (tree_between s c count start end);
   all = refl;
   put = overwrites_none out at;
-  few = omega arith;
-  full = f;
+  holds = record { few = omega arith; full = refl };
   walks = postfix (env_of s c count) (drop start (take end s)) (tree_between s c count start end) m.is;
 }
 
-pub running_starts : {s : List ℕ} {c : Sources} {count start end : ℕ} {out : List ℕ} {at : ℕ} {waiting places lengths : List ℕ} → MeansTree s c count start end → at + length (text_of (tree_between s c count start end)) ≤ length out → KeepsWritten s c out at places lengths → length waiting ≡ most → Running s c count start end out at out at waiting 0 start true places lengths
-running_starts m r k f = record { fixed = record { stand = m.stand; inside = m.inside; room = r }; going = going_starts m f; kept = k }
+pub running_starts : {s : List ℕ} {c : Sources} {count start end : ℕ} {out : List ℕ} {at : ℕ} {pieces : List (Option Piece)} → MeansTree s c count start end → at + length (text_of (tree_between s c count start end)) ≤ length out → KeepsWritten s c out at pieces → Running s c count start end out at out at none_waiting start true pieces
+running_starts m r k = record { fixed = record { stand = m.stand; inside = m.inside; room = r }; going = going_starts m; kept = k }
 
-module _ {s : List ℕ} {c : Sources} {count end : ℕ} {whole out₀ : List ℕ} {at : ℕ} (x : Fixed s c count end whole out₀ at) {out : List ℕ} {to : ℕ} {waiting : List ℕ} {n i : ℕ} where
-  module _ {due : Bool} (g : Going s c count end whole out₀ at out to waiting n i due) where
+module _ {s : List ℕ} {c : Sources} {count end : ℕ} {whole out₀ : List ℕ} {at : ℕ} (x : Fixed s c count end whole out₀ at) {out : List ℕ} {to : ℕ} {waiting : Waiting} {i : ℕ} where
+  module _ {due : Bool} (g : Going s c count end whole out₀ at out to waiting i due) where
     written : length g.o + length g.rest ≡ length whole
     written = sym (length-append g.o g.rest) ∙ ap length g.all
 
@@ -95,24 +96,23 @@ module _ {s : List ℕ} {c : Sources} {count end : ℕ} {whole out₀ : List ℕ
       pub fits : to + length piece ≤ length out
       fits = omega (arith, going_length, g.put.next, x.room, part)
 
-      goes : {new : List ℕ} {r : ℕ} → Overwrites out to piece new r → {waiting' : List ℕ} {n' i' : ℕ} {due' : Bool} → n' ≤ most → length waiting' ≡ most → Walks (env_of s c count) due' (stack_of waiting' n') (tokens (drop i' (take end s))) more → Going s c count end whole out₀ at new r waiting' n' i' due'
-      goes {new} {r} p f l w = record {
+      goes : {new : List ℕ} {r : ℕ} → Overwrites out to piece new r → {waiting' : Waiting} {i' : ℕ} {due' : Bool} → Holds waiting' → Walks (env_of s c count) due' (stack waiting') (tokens (drop i' (take end s))) more → Going s c count end whole out₀ at new r waiting' i' due'
+      goes {new} {r} p h w = record {
         o = g.o ++ piece;
         rest = more;
         all = append_assoc g.o piece more ∙ ap (λ (y : List ℕ). g.o ++ y) (sym e) ∙ g.all;
         put = overwrites_then g.put (omega (arith, x.room, part)) p;
-        few = f;
-        full = l;
+        holds = h;
         walks = w;
       }
 
   -- a factor
-  module _ (g : Going s c count end whole out₀ at out to waiting n i true) {next : FactorAt} (e : next ≡ factor_at s end i count c.names c.lens c.tags) where
+  module _ (g : Going s c count end whole out₀ at out to waiting i true) {next : FactorAt} (e : next ≡ factor_at s end i count c.names c.lens c.tags) where
     behind : next.end ≡ (token_at (take end s) i).end
     behind = ap (λ (y : FactorAt). y.end) e
 
-    step : (f : Factor) → next.factor ≡ f → Factored s c count (onward s c count (take end s) i (stack_of waiting n) g.rest) (stack_of waiting n) g.rest f
-    step f q = subst (Factored s c count (onward s c count (take end s) i (stack_of waiting n) g.rest) (stack_of waiting n) g.rest) (sym (ap (λ (y : FactorAt). y.factor) e) ∙ q) (factor_step s c count x.stand (take end s) i (stack_of waiting n) g.rest g.walks)
+    step : (f : Factor) → next.factor ≡ f → Factored s c count (onward s c count (take end s) i (stack waiting) g.rest) (stack waiting) g.rest f
+    step f q = subst (Factored s c count (onward s c count (take end s) i (stack waiting) g.rest) (stack waiting) g.rest) (sym (ap (λ (y : FactorAt). y.factor) e) ∙ q) (factor_step s c count x.stand (take end s) i (stack waiting) g.rest g.walks)
 
     there : (due : Bool) (st o : List ℕ) → Walks (env_of s c count) due st (tokens (drop (token_at (take end s) i).end (take end s))) o → Walks (env_of s c count) due st (tokens (drop next.end (take end s))) o
     there due st o w = subst (λ (j : ℕ). Walks (env_of s c count) due st (tokens (drop j (take end s))) o) (sym behind) w
@@ -123,10 +123,10 @@ module _ {s : List ℕ} {c : Sources} {count end : ℕ} {whole out₀ : List ℕ
     pub no_factor : next.factor ≡ Nothing → ⊥
     no_factor q = step Nothing q
 
-    pub open_room : next.factor ≡ Open → n < most
-    open_room q = omega (arith, (step Open q).0, length_stack waiting n)
+    pub open_room : next.factor ≡ Open → waiting.count < most
+    open_room q = omega (arith, (step Open q).0, length_stack waiting.signs waiting.count)
 
-    pub opened : next.factor ≡ Open → Going s c count end whole out₀ at out to (set waiting n 40) (n + 1) next.end true
+    pub opened : next.factor ≡ Open → Going s c count end whole out₀ at out to (pushed waiting 40) next.end true
     opened q =
         let l = open_room q in
         record {
@@ -134,17 +134,16 @@ module _ {s : List ℕ} {c : Sources} {count end : ℕ} {whole out₀ : List ℕ
           rest = g.rest;
           all = g.all;
           put = g.put;
-          few = omega arith;
-          full = simp length-set g.full;
-          walks = rw (stack_push waiting n 40 (omega (arith, g.full))) (there true (40 ∷ stack_of waiting n) g.rest (step Open q).1);
+          holds = record { few = omega arith; full = simp length-set g.holds.full };
+          walks = rw (stack_push waiting.signs waiting.count 40 (omega (arith, g.holds.full))) (there true (40 ∷ stack waiting) g.rest (step Open q).1);
         }
 
     module _ (v : ℕ) (q : next.factor ≡ Literal v) where
       pub literal_fits : to + length (push_text v) ≤ length out
       literal_fits = let w = step (Literal v) q in fits g (push_text v) w.0 w.1.0
 
-      pub literal_goes : {new : List ℕ} {r : ℕ} → Overwrites out to (push_text v) new r → Going s c count end whole out₀ at new r waiting n next.end false
-      literal_goes p = let w = step (Literal v) q in goes g (push_text v) w.0 w.1.0 p g.few g.full (there false (stack_of waiting n) w.0 w.1.1)
+      pub literal_goes : {new : List ℕ} {r : ℕ} → Overwrites out to (push_text v) new r → Going s c count end whole out₀ at new r waiting next.end false
+      literal_goes p = let w = step (Literal v) q in goes g (push_text v) w.0 w.1.0 p g.holds (there false (stack waiting) w.0 w.1.1)
 
     module _ (b : ℕ) (q : next.factor ≡ Name b) where
       pub name_below : b < count
@@ -156,46 +155,46 @@ module _ {s : List ℕ} {c : Sources} {count end : ℕ} {whole out₀ : List ℕ
       pub name_fits : to + length (text_of (tree_of s c b)) ≤ length out
       name_fits = let w = (step (Name b) q).1 in fits g (text_of (tree_of s c b)) w.0 w.1.0
 
-      pub name_goes : {new : List ℕ} {r : ℕ} → Overwrites out to (text_of (tree_of s c b)) new r → Going s c count end whole out₀ at new r waiting n next.end false
-      name_goes p = let w = (step (Name b) q).1 in goes g (text_of (tree_of s c b)) w.0 w.1.0 p g.few g.full (there false (stack_of waiting n) w.0 w.1.1)
+      pub name_goes : {new : List ℕ} {r : ℕ} → Overwrites out to (text_of (tree_of s c b)) new r → Going s c count end whole out₀ at new r waiting next.end false
+      name_goes p = let w = (step (Name b) q).1 in goes g (text_of (tree_of s c b)) w.0 w.1.0 p g.holds (there false (stack waiting) w.0 w.1.1)
 
   -- an operator
-  module _ (g : Going s c count end whole out₀ at out to waiting n i false) where
-    turn : Operated s c count (take end s) i (stack_of waiting n) g.rest (sign_at s end i)
-    turn = operator_step s c count (take end s) i (stack_of waiting n) g.rest g.walks
+  module _ (g : Going s c count end whole out₀ at out to waiting i false) where
+    turn : Operated s c count (take end s) i (stack waiting) g.rest (sign_at s end i)
+    turn = operator_step s c count (take end s) i (stack waiting) g.rest g.walks
 
-    pub turn_ready : CanTurn s end i out to waiting n
-    turn_ready = record { inside = x.inside; few = g.few; full = g.full; room = fits g (operators_text (popped (down_to (sign_at s end i)) (stack_of waiting n))) turn.o' turn.text; operator = turn.room; mark = turn.mark }
+    pub turn_ready : CanTurn s end i out to waiting
+    turn_ready = record { inside = x.inside; holds = g.holds; room = fits g (operators_text (popped (down_to (sign_at s end i)) (stack waiting))) turn.o' turn.text; operator = turn.room; mark = turn.mark }
 
-    pub turn_room : to + length (operators_text (popped (down_to (sign_at s end i)) (stack_of waiting n))) ≤ length out
-    turn_room = fits g (operators_text (popped (down_to (sign_at s end i)) (stack_of waiting n))) turn.o' turn.text
+    pub turn_room : to + length (operators_text (popped (down_to (sign_at s end i)) (stack waiting))) ≤ length out
+    turn_room = fits g (operators_text (popped (down_to (sign_at s end i)) (stack waiting))) turn.o' turn.text
 
-    pub turn_past : {new waiting' : List ℕ} {r : Turn} → i < end → Turns s end i out to waiting n new waiting' r → end - r.at < end - i
+    pub turn_past : {new : List ℕ} {waiting' : Waiting} {r : Turn} → i < end → Turns s end i out to waiting new waiting' r → end - r.at < end - i
     turn_past l t = past s end i x.inside l t.next
 
-    pub turn_goes : {new waiting' : List ℕ} {r : Turn} → Turns s end i out to waiting n new waiting' r → Going s c count end whole out₀ at new r.to waiting' r.waiting r.at r.due
-    turn_goes t = goes g (operators_text (popped (down_to (sign_at s end i)) (stack_of waiting n))) turn.o' turn.text t.put t.few t.full (rw (t.next, t.stack, t.due) turn.walks)
+    pub turn_goes : {new : List ℕ} {waiting' : Waiting} {r : Turn} → Turns s end i out to waiting new waiting' r → Going s c count end whole out₀ at new r.to waiting' r.at r.due
+    turn_goes t = goes g (operators_text (popped (down_to (sign_at s end i)) (stack waiting))) turn.o' turn.text t.put t.holds (rw (t.next, t.stacked, t.due) turn.walks)
 
   -- the end
-  module _ {due : Bool} (g : Going s c count end whole out₀ at out to waiting n i due) (l : end ≤ i) where
+  module _ {due : Bool} (g : Going s c count end whole out₀ at out to waiting i due) (l : end ≤ i) where
     none_left : tokens (drop i (take end s)) ≡ []
     unfolding scan
     none_left = ap tokens (drop_of_length-le (take end s) {i = i} (omega (arith, length-take-le end s x.inside)))
 
-    last : (d : Bool) → due ≡ d → g.rest ≡ operators_text (popped levels (stack_of waiting n)) ++ []
+    last : (d : Bool) → due ≡ d → g.rest ≡ operators_text (popped levels (stack waiting)) ++ []
     last true e = absurd (rw (none_left, e) at g.walks)
     last false e =
-        let w : Walks (env_of s c count) false (stack_of waiting n) [] g.rest = rw (none_left, e) at g.walks in
-        w.text ∙ sym (append-nil (operators_text (popped levels (stack_of waiting n))))
+        let w : Walks (env_of s c count) false (stack waiting) [] g.rest = rw (none_left, e) at g.walks in
+        w.text ∙ sym (append-nil (operators_text (popped levels (stack waiting))))
 
-    pub end_fits : to + length (operators_text (popped levels (stack_of waiting n))) ≤ length out
-    end_fits = fits g (operators_text (popped levels (stack_of waiting n))) [] (last due refl)
+    pub end_fits : to + length (operators_text (popped levels (stack waiting))) ≤ length out
+    end_fits = fits g (operators_text (popped levels (stack waiting))) [] (last due refl)
 
-    pub end_put : {new : List ℕ} {r : ℕ} → Overwrites out to (operators_text (popped levels (stack_of waiting n))) new r → Overwrites out₀ at whole new r
+    pub end_put : {new : List ℕ} {r : ℕ} → Overwrites out to (operators_text (popped levels (stack waiting))) new r → Overwrites out₀ at whole new r
     end_put p =
         let e = last due refl in
-        let q = overwrites_then g.put (omega (arith, x.room, part g (operators_text (popped levels (stack_of waiting n))) [] e)) p in
-        let a : g.o ++ operators_text (popped levels (stack_of waiting n)) ≡ whole = ap (λ (y : List ℕ). g.o ++ y) (sym (e ∙ append-nil (operators_text (popped levels (stack_of waiting n))))) ∙ g.all in
+        let q = overwrites_then g.put (omega (arith, x.room, part g (operators_text (popped levels (stack waiting))) [] e)) p in
+        let a : g.o ++ operators_text (popped levels (stack waiting)) ≡ whole = ap (λ (y : List ℕ). g.o ++ y) (sym (e ∙ append-nil (operators_text (popped levels (stack waiting))))) ∙ g.all in
         rw (← a) q
 
 -- a binding that has an expression means its tree among the bindings before it

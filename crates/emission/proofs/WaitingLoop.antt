@@ -8,7 +8,8 @@ use Rattle.writer.specs.Code.Overwrites.{Overwrites}
 use Rattle.emission.specs.Code.Lines.{operator_text, operators_text}
 use Rattle.writer.proofs.Pieces.{overwrites_none, overwrites_then, overwrites_length}
 use Rattle.grammar.specs.Code.Operator.{level_of}
-use Rattle.emission.specs.Code.Waiting.{most, popped, left, Pops}
+use Rattle.emission.specs.Code.Waiting.{most, popped, left, stack, Pops}
+use Rattle.emission.specs.declared.waiting.Waiting.{Waiting}
 use Rattle.emission.proofs.Stack.{left_one, left_none, popped_empty, popped_shut, popped_more}
 use Rattle.base.specs.Code.Stack.{stack_of}
 use Rattle.base.proofs.Stack.{stack_pop}
@@ -37,19 +38,24 @@ module _ {A : List ℕ} {level n : ℕ} {out₀ : List ℕ} {at : ℕ} {out : Li
   pub popping_length : length out ≡ length out₀
   popping_length = overwrites_length p.put (omega (arith, written, p.room))
 
-  pops : popped level (stack_of A k) ≡ [] → stack_of A k ≡ left level (stack_of A k) → Pops out₀ at A n level out (record { to = to; left = k })
-  pops e l =
-      let a : p.o ≡ operators_text (popped level (stack_of A n)) = sym (append-nil p.o) ∙ ap (λ (x : List ℕ). p.o ++ operators_text x) (sym e) ∙ p.all in
-      record { put = rw (← a) p.put; rest = l ∙ p.same; fewer = p.fewer }
+  -- the operators that waited at first were w
+  abbrev Left : Type 0
+  Left = (w : Waiting) → A ≡ w.signs → n ≡ w.count → length A ≡ most → Pops out₀ at w level out (record { signs = A; count = k }) to
 
-  pub popping_empty : k ≤ 0 → Pops out₀ at A n level out (record { to = to; left = k })
+  pops : popped level (stack_of A k) ≡ [] → stack_of A k ≡ left level (stack_of A k) → Left
+  pops e l w x y f =
+      let a : p.o ≡ operators_text (popped level (stack_of A n)) = sym (append-nil p.o) ∙ ap (λ (x : List ℕ). p.o ++ operators_text x) (sym e) ∙ p.all in
+      let z : stack_of A n ≡ stack w = rw (x, y) refl in
+      record { put = rw (← z, ← a) p.put; rest = rw (← z) (l ∙ p.same); holds = record { few = omega (arith, p.fewer, p.few); full = f } }
+
+  pub popping_empty : k ≤ 0 → Left
   popping_empty h = pops (popped_empty A level k h) (left_empty A level k h)
 
   module _ (h : 0 < k) where
     top : stack_of A k ≡ get_or A (k - 1) 0 ∷ stack_of A (k - 1)
     top = stack_pop A k h
 
-    pub popping_shut : level < level_of (get_or A (k - 1) 0) → Pops out₀ at A n level out (record { to = to; left = k })
+    pub popping_shut : level < level_of (get_or A (k - 1) 0) → Left
     popping_shut l = pops (popped_shut A level k h l) (top ∙ sym (left_none level (get_or A (k - 1) 0) (stack_of A (k - 1)) l) ∙ ap (left level) (sym top))
 
     module _ (l : level_of (get_or A (k - 1) 0) ≤ level) where

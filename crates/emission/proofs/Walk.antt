@@ -3,7 +3,7 @@ use Prim.Native.Nat.{ℕ, ◌^◌, ◌<◌, ◌≤◌}
 use mathlib.Core.Path.{◌≡◌}
 use mathlib.Core.List.{List, [], ◌∷◌, ◌++◌}
 use mathlib.Core.Bool.{Bool, true, false}
-use mathlib.Core.Option.{some}
+use Rattle.std.specs.Prelude.{Some}
 use lib.ListN.{length}
 use Rattle.base.specs.Lists.{all}
 use Rattle.decimal.specs.Decimal.{digit, value}
@@ -20,7 +20,7 @@ use Rattle.emission.specs.Code.Waiting.{most, popped, left}
 pub data FactorStep (env : Env) (next : Bool → List ℕ → List ℕ → Type 0) (st w o : List ℕ) : Type 0 where
   opens : symbol w ≡ 40 → length st < most → next true (40 ∷ st) o → FactorStep env next st w o
   number : (symbol w ≡ 40 → ⊥) → all digit w ≡ true → value w < 2 ^ 64 → (o' : List ℕ) → o ≡ text_of (num (value w)) ++ o' → next false st o' → FactorStep env next st w o
-  name : (symbol w ≡ 40 → ⊥) → all digit w ≡ false → (t : Tree) → lookup w env ≡ some t → (o' : List ℕ) → o ≡ text_of t ++ o' → next false st o' → FactorStep env next st w o
+  name : (symbol w ≡ 40 → ⊥) → all digit w ≡ false → (t : Tree) → lookup w env ≡ Some t → (o' : List ℕ) → o ≡ text_of t ++ o' → next false st o' → FactorStep env next st w o
 
 -- The token w where an operator is due: `)` writes the operators down to the mark; an operator writes those that bind at least as tightly, then waits.
 pub data OperatorStep (next : Bool → List ℕ → List ℕ → Type 0) (st w o : List ℕ) : Type 0 where

@@ -1,9 +1,9 @@
 -- A step of the walk, as what the code reads at a place says it.
+use Rattle.std.specs.Prelude.{Option, Some, None}
 use Prim.Native.Nat.{ℕ, ◌+◌, ◌^◌, ◌<◌, ◌≤◌}
 use mathlib.Core.Path.{◌≡◌, refl, sym, ap, subst, ◌∙◌}
 use mathlib.Core.List.{List, [], ◌∷◌, ◌++◌, append-nil}
 use mathlib.Core.Bool.{Bool, true, false}
-use mathlib.Core.Option.{some, none}
 use native.Mathlib.Omega.{arith}
 use borrow.Author.Tests.{lt-ltb, le-leb, eq-eqb, ne_eqb}
 use lib.Dec.{leb}
@@ -13,7 +13,6 @@ use Rattle.decimal.specs.Decimal.{value}
 use Rattle.token.specs.Token.{tokens, scan}
 use Rattle.token.specs.Code.Places.{token_at, start_at, first}
 use Rattle.token.proofs.Tokens.{token_none, token_next, token_from, next_at}
-use Rattle.bindings.specs.declared.names.BoundName.{BoundName}
 use Rattle.grammar.specs.Tree.{Tree}
 use Rattle.grammar.specs.Grammar.{levels}
 use Rattle.grammar.specs.Parse.{lookup, symbol}
@@ -57,12 +56,12 @@ module _ (s : List ℕ) (c : Sources) (count : ℕ) (next : Bool → List ℕ �
   Factored Nothing = ⊥
 
 module _ (s : List ℕ) (c : Sources) (count : ℕ) (a : AllInText s c count) (next : Bool → List ℕ → List ℕ → Type 0) (st o : List ℕ) where
-  named : (w : List ℕ) (t : Tree) → lookup w (env_of s c count) ≡ some t → (o' : List ℕ) → o ≡ text_of t ++ o' → next false st o' → (f : BoundName) → Looked s c w count f → Factored s c count next st o (named_by f)
-  named w t q o' e g (BoundName.At i) (l, r) =
-      let z : some t ≡ some (tree_of s c i) = sym q ∙ r in
+  named : (w : List ℕ) (t : Tree) → lookup w (env_of s c count) ≡ Some t → (o' : List ℕ) → o ≡ text_of t ++ o' → next false st o' → (f : Option ℕ) → Looked s c w count f → Factored s c count next st o (named_by f)
+  named w t q o' e g (Some i) (l, r) =
+      let z : Some t ≡ Some (tree_of s c i) = sym q ∙ r in
       let y : t ≡ tree_of s c i = cc in
       (l, (o', (e ∙ ap (λ (u : Tree). text_of u ++ o') y, g)))
-  named w t q o' e g BoundName.Nothing r = absurd (let z : some t ≡ none = sym q ∙ r in let y : ◌≡◌ {A = ℕ} 0 1 = cc in omega arith)
+  named w t q o' e g None r = absurd (let z : Some t ≡ None = sym q ∙ r in let y : ◌≡◌ {A = ℕ} 0 1 = cc in omega arith)
 
   factored : (w : List ℕ) (ts : List (List ℕ)) → FactorStep (env_of s c count) next st w o → Factored s c count next st o (factor_of s count c.names c.lens c.tags (w ∷ ts))
   factored w ts (opens e l g) =

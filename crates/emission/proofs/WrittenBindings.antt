@@ -1,69 +1,75 @@
--- What is kept of bindings that were written: it stays where the output grows, one more is marked, and one that is marked is written once more.
+-- What is kept of bindings that were written: it stays where the output grows, one more is kept, and one that is kept is written once more.
 use Prim.Native.Nat.{ℕ, zero, suc, ◌+◌, ◌-◌, ◌<◌, ◌≤◌}
-use mathlib.Core.Path.{◌≡◌, refl, ap, ◌∙◌}
+use mathlib.Core.Path.{◌≡◌, refl, ap, subst, ◌∙◌}
 use mathlib.Core.List.{List}
 use native.Mathlib.Omega.{arith}
 use lib.ListN.{length, get_or, set, replicate, length-set}
 use lib.Seq.{slice, length-slice, get_or-set_same, get_or-set_other}
+use Rattle.std.specs.Prelude.{Option, Some, None}
 use Rattle.base.proofs.Tests.{by_eqb}
 use Rattle.bindings.specs.Code.Source.{Sources, tree_of}
 use Rattle.grammar.specs.Code.Texts.{text_of}
 use Rattle.writer.specs.Code.Overwrites.{Overwrites}
 use Rattle.writer.proofs.Pieces.{overwrites_slice, overwrites_there}
-use Rattle.emission.specs.Code.Emitted.{KeepsWritten}
+use Rattle.emission.specs.declared.Piece.{Piece}
+use Rattle.emission.specs.Code.Emitted.{Before, KeepsWritten}
 
 module _ {s : List ℕ} {c : Sources} where
-  pub kept_put : {out : List ℕ} {to : ℕ} {places lengths bytes after : List ℕ} {r : ℕ} → KeepsWritten s c out to places lengths → Overwrites out to bytes after r → to + length bytes ≤ length out → KeepsWritten s c after r places lengths
-  kept_put {out} {to} {places} {lengths} k p h = record {
-    places_full = k.places_full;
-    lengths_full = k.lengths_full;
-    before = λ i z. omega (arith, k.before i z, p.next);
-    holds = λ i z. overwrites_slice p h (get_or places i 0) (get_or places i 0 + get_or lengths i 0) (k.before i z) ∙ k.holds i z;
+  pub kept_put : {out : List ℕ} {to : ℕ} {pieces : List (Option Piece)} {bytes after : List ℕ} {r : ℕ} → KeepsWritten s c out to pieces → Overwrites out to bytes after r → to + length bytes ≤ length out → KeepsWritten s c after r pieces
+  kept_put k p h = record {
+    full = k.full;
+    before = λ i q z. let b = k.before i q z in record { ordered = b.ordered; before = omega (arith, b.before, p.next) };
+    holds = λ i q z. overwrites_slice p h q.start q.end (k.before i q z).before ∙ k.holds i q z;
   }
 
   -- binding b, written from a place on
-  module _ (b : ℕ) {before : List ℕ} {at : ℕ} {out : List ℕ} {to : ℕ} {places lengths : List ℕ} (k : KeepsWritten s c out to places lengths) (p : Overwrites before at (text_of (tree_of s c b)) out to) (h : at + length (text_of (tree_of s c b)) ≤ length before) (few : b < 256) where
-    pub kept_mark : KeepsWritten s c out to (set places b at) (set lengths b (to - at))
+  module _ (b : ℕ) {before : List ℕ} {at : ℕ} {out : List ℕ} {to : ℕ} {pieces : List (Option Piece)} (k : KeepsWritten s c out to pieces) (p : Overwrites before at (text_of (tree_of s c b)) out to) (h : at + length (text_of (tree_of s c b)) ≤ length before) (few : b < 256) where
+    abbrev it : Piece
+    it = record { start = at; end = to }
+
+    pub kept_mark : KeepsWritten s c out to (set pieces b (Some it))
     kept_mark = record {
-      places_full = simp length-set k.places_full;
-      lengths_full = simp length-set k.lengths_full;
-      before = λ i z. (marked i z).0;
-      holds = λ i z. (marked i z).1;
+      full = simp length-set k.full;
+      before = λ i q z. (marked i q z).0;
+      holds = λ i q z. (marked i q z).1;
     }
       where
-        marked : (i : ℕ) → 0 < get_or (set lengths b (to - at)) i 0 → (get_or (set places b at) i 0 + get_or (set lengths b (to - at)) i 0 ≤ to) × (slice (get_or (set places b at) i 0) (get_or (set places b at) i 0 + get_or (set lengths b (to - at)) i 0) out ≡ text_of (tree_of s c i))
-        marked i z =
+        same : (q : Piece) → Some it ≡ Some q → it ≡ q
+        same q e = cc
+
+        marked : (i : ℕ) (q : Piece) → get_or (set pieces b (Some it)) i None ≡ Some q → Before q to × (slice q.start q.end out ≡ text_of (tree_of s c i))
+        marked i q z =
             by_eqb i b
             (λ e.
-            let n : at + (to - at) ≡ to = omega (arith, p.next) in
-            rw (e, get_or-set_same places b at 0 (omega (arith, k.places_full)), get_or-set_same lengths b (to - at) 0 (omega (arith, k.lengths_full)), n) (omega arith, overwrites_there p h))
+            let y : Some it ≡ Some q = rw (e, get_or-set_same pieces b (Some it) None (omega (arith, k.full))) at z in
+            rw e (subst (λ (x : Piece). Before x to × (slice x.start x.end out ≡ text_of (tree_of s c b))) (same q y) (record { ordered = omega (arith, p.next); before = omega arith }, overwrites_there p h)))
             (λ e.
-            let q = get_or-set_other places b i at 0 e in
-            let l = get_or-set_other lengths b i (to - at) 0 e in
-            let y = rw l at z in
-            rw (q, l) (k.before i y, k.holds i y))
+            let y = rw (get_or-set_other pieces b i (Some it) None e) at z in
+            (k.before i q y, k.holds i q y))
 
-  -- binding b is marked
-  module _ (b : ℕ) {out : List ℕ} {at : ℕ} {places lengths : List ℕ} (k : KeepsWritten s c out at places lengths) (room : at + length (text_of (tree_of s c b)) ≤ length out) (some : 0 < get_or lengths b 0) where
-    size : get_or lengths b 0 ≡ length (text_of (tree_of s c b))
-    size = omega (arith, ap length (k.holds b some), length-slice (get_or places b 0) (get_or places b 0 + get_or lengths b 0) out (omega (arith, k.before b some)))
+  -- what binding b wrote is kept
+  module _ (b : ℕ) {out : List ℕ} {at : ℕ} {pieces : List (Option Piece)} (k : KeepsWritten s c out at pieces) (room : at + length (text_of (tree_of s c b)) ≤ length out) {q : Piece} (e : get_or pieces b None ≡ Some q) where
+    size : q.end - q.start ≡ length (text_of (tree_of s c b))
+    size = let o = k.before b q e in omega (arith, ap length (k.holds b q e), length-slice q.start q.end out (omega (arith, o.before)))
 
-    pub again_fits : (get_or places b 0 + get_or lengths b 0 ≤ at) × (at + get_or lengths b 0 ≤ length out)
-    again_fits = (k.before b some, omega (arith, size))
+    pub again_fits : Before q at × (at + (q.end - q.start) ≤ length out)
+    again_fits = (k.before b q e, omega (arith, size))
 
-    pub again_put : {after : List ℕ} {r : ℕ} → Overwrites out at (slice (get_or places b 0) (get_or places b 0 + get_or lengths b 0) out) after r → Overwrites out at (text_of (tree_of s c b)) after r
-    again_put p = rw (k.holds b some) at p
+    pub again_put : {after : List ℕ} {r : ℕ} → Overwrites out at (slice q.start q.end out) after r → Overwrites out at (text_of (tree_of s c b)) after r
+    again_put p = rw (k.holds b q e) at p
 
-zeros : (n i : ℕ) → ◌≡◌ {A = ℕ} (get_or (replicate n 0) i 0) 0
-zeros zero i = refl
-zeros (suc n) zero = refl
-zeros (suc n) (suc i) = zeros n i
+nones : (n i : ℕ) → ◌≡◌ {A = Option Piece} (get_or (replicate n None) i None) None
+nones zero i = refl
+nones (suc n) zero = refl
+nones (suc n) (suc i) = nones n i
 
--- nothing is marked at first
-pub kept_none : (s : List ℕ) (c : Sources) (out : List ℕ) (at : ℕ) (places : List ℕ) → length places ≡ 256 → KeepsWritten s c out at places (replicate 256 0)
-kept_none s c out at places h = record {
-  places_full = h;
-  lengths_full = refl;
-  before = λ i z. absurd (omega (arith, zeros 256 i));
-  holds = λ i z. absurd (omega (arith, zeros 256 i));
+not_none : {P : Type 0} (p : Piece) {x : Option Piece} → x ≡ None → x ≡ Some p → P
+not_none p e f = absurd (let z : ◌≡◌ {A = ℕ} 0 1 = cc in omega arith)
+
+-- nothing is kept at first
+pub kept_none : (s : List ℕ) (c : Sources) (out : List ℕ) (at : ℕ) → KeepsWritten s c out at (replicate 256 None)
+kept_none s c out at = record {
+  full = refl;
+  before = λ i p z. not_none p (nones 256 i) z;
+  holds = λ i p z. not_none p (nones 256 i) z;
 }

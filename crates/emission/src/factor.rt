@@ -2,10 +2,11 @@
 ghost use Rattle.std.specs.Prelude.{◌≡◌, ◌≤◌, length, drop};
 ghost use Rattle.base.specs.Lists.{take_while};
 ghost use Rattle.decimal.specs.Decimal.{digit};
-ghost use Rattle.emission.specs.Code.Factor.{literal_of, named_by, factor_at};
+ghost use Rattle.bindings.specs.Code.Known.{Few};
+ghost use Rattle.emission.specs.Code.Factor.{literal_of, named_by, known_factor};
 
-use bindings::names::{BoundName, lookup};
-use decimal::{Value, digits_at};
+use bindings::names::Known;
+use decimal::digits_at;
 use expression::parts::symbol_byte;
 use token::{is_digit, token_at};
 
@@ -24,21 +25,14 @@ pub struct FactorAt {
     pub end: usize,
 }
 
-// The factor starting at an offset, in an expression that ends at an offset of the text. A name is the newest of the first count bindings.
-// The loop over an expression calls it with the end that the table or the last return has, and with at most 256 bindings.
-pub fn factor_at<'a>(
-    text: &'a [u8],
-    end: usize,
-    at: usize,
-    count: usize,
-    names: &'a [u16; 256],
-    lens: &'a [u16; 256],
-    tags: &'a [u8; 256],
-) -> FactorAt
-    requires { (end ≤ length text.now) × (count ≤ 256) }
-    ensures { result ≡ factor_at text.now end at count names.now lens.now tags.now }
+// The factor starting at an offset, in an expression that ends at an offset of the text. The loop over an expression calls it with the
+// end that the table or the last return has.
+pub fn factor_at(known: Known, end: usize, at: usize) -> FactorAt
+    requires few { Few known }
+    requires inside { end ≤ length known.text.now }
+    ensures { result ≡ known_factor known.entry end at }
 {
-    let expression = &text[..end];
+    let expression = &known.text[..end];
     let token = token_at(expression, at);
     let first = token.start;
     let behind = token.end;
@@ -48,21 +42,20 @@ pub fn factor_at<'a>(
             end: behind,
         };
     }
-    if symbol_byte(expression, first, behind) == b'(' {
+    if symbol_byte(&expression[first..behind]) == b'(' {
         return FactorAt {
             factor: Factor::Open,
             end: behind,
         };
     }
-    if is_digit(text[first]) {
+    if is_digit(expression[first]) {
         return FactorAt {
             factor: literal(expression, first),
             end: behind,
         };
     }
-    let found = lookup(text, first, behind - first, count, names, lens, tags);
     FactorAt {
-        factor: named(found),
+        factor: named(known.lookup(&expression[first..behind])),
         end: behind,
     }
 }
@@ -71,19 +64,17 @@ pub fn factor_at<'a>(
 fn literal(expression: &[u8], first: usize) -> Factor
     ensures { result ≡ literal_of (take_while digit (drop first expression.now)) }
 {
-    let run = digits_at(expression, first);
-    let value = run.value;
-    match value {
-        Value::Is(n) => Factor::Literal(n),
-        Value::TooLarge => Factor::Nothing,
+    match digits_at(expression, first).value {
+        Some(n) => Factor::Literal(n),
+        None => Factor::Nothing,
     }
 }
 
-fn named(found: BoundName) -> Factor
+fn named(found: Option<usize>) -> Factor
     ensures { result ≡ named_by found }
 {
     match found {
-        BoundName::At(i) => Factor::Name(i),
-        BoundName::Nothing => Factor::Nothing,
+        Some(i) => Factor::Name(i),
+        None => Factor::Nothing,
     }
 }

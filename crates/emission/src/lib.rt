@@ -2,120 +2,76 @@
 // expression; what a binding wrote once is copied from the output.
 #![tactic(auto)]
 
-ghost use Rattle.std.specs.Prelude.{◌+◌, ◌<◌, ◌≤◌, length};
+ghost use Rattle.std.specs.Prelude.{◌+◌, ◌-◌, ◌<◌, ◌≤◌, length};
 ghost use Rattle.std.proofs.Math.Seq.{slice};
-ghost use Rattle.bindings.specs.Code.Source.{sources_of, sources, tree_of, AllInText};
 ghost use Rattle.grammar.specs.Code.Texts.{text_of};
 ghost use Rattle.writer.specs.Code.Overwrites.{Overwrites};
-ghost use Rattle.emission.specs.Code.Emitted.{tree_between, MeansTree, KeepsWritten};
+ghost use Rattle.emission.specs.Code.Emitted.{known_tree, binding_tree, KnownMeans, KnownStand, Keeps, Before};
 
 mod factor;
 mod operator;
 mod waiting;
 
-use base::wide;
-use bindings::{Bindings, Values};
+use bindings::names::Known;
 use factor::{Factor, factor_at};
 use operator::operate;
-use waiting::{LEVELS, WAITING, pop};
+use waiting::{LEVELS, none_waiting};
 use writer::put_push;
 
-// Writes the expression from start to end of the text at an offset of the output, where there is room for it. Its names mean the first
-// count bindings. Returns the offset behind it. Assembly calls it with the last return of a contract that it accepts, whose expressions
-// were all parsed, and only where the output's length, added up in parsing, fits (26).
-pub fn emit(
-    text: &[u8],
-    start: usize,
-    end: usize,
-    count: usize,
-    table: Bindings,
-    values: Values,
-    out: &mut [u8],
-    at: usize,
-) -> usize
-    requires means_tree { MeansTree text.now (sources table values) count start end }
-    requires end_in_bounds { at + length (text_of (tree_between text.now (sources table values) count start end)) ≤ length out.old }
-    ensures { Overwrites out.old at (text_of (tree_between text.now (sources table values) count start end))
-        out.new result }
+// Where what a binding wrote stands in the output.
+#[derive(Clone, Copy)]
+struct Piece {
+    pub start: usize,
+    pub end: usize,
+}
+
+// Writes the expression from start to end of the text at an offset of the output, where there is room for it, and returns the offset
+// behind it. Assembly calls it with the last return of a contract that it accepts, whose expressions were all parsed, and only where
+// the output's length, added up in parsing, fits (26).
+pub fn emit(known: Known, start: usize, end: usize, out: &mut [u8], at: usize) -> usize
+    requires means_tree { KnownMeans known start end }
+    requires end_in_bounds { at + length (text_of (known_tree known start end)) ≤ length out.old }
+    ensures { Overwrites out.old at (text_of (known_tree known.entry start end)) out.new result }
 {
-    let mut places = [0usize; 256];
-    let mut lengths = [0usize; 256];
-    expression(
-        text,
-        start,
-        end,
-        count,
-        &table.name_start,
-        &table.name_len,
-        &values.tag,
-        &table.expr_start,
-        &table.expr_len,
-        &values.value,
-        out,
-        at,
-        &mut places,
-        &mut lengths,
-    )
+    let mut pieces = [None; 256];
+    expression(known, start, end, out, at, &mut pieces)
 }
 
 // Parentheses are no recursion: the operators wait on one flat stack.
 #[cycle(binding_expression)]
-fn expression<'a>(
-    text: &'a [u8],
+fn expression(
+    known: Known,
     start: usize,
     end: usize,
-    count: usize,
-    names: &'a [u16; 256],
-    lens: &'a [u16; 256],
-    tags: &'a [u8; 256],
-    starts: &'a [u16; 256],
-    sizes: &'a [u16; 256],
-    values: &'a [u64; 256],
     out: &mut [u8],
     at: usize,
-    places: &mut [usize; 256],
-    lengths: &mut [usize; 256],
+    pieces: &mut [Option<Piece>; 256],
 ) -> usize
-    requires means_tree { MeansTree text.now
-        (sources_of names.now lens.now tags.now starts.now sizes.now values.now) count start end }
-    requires end_in_bounds { at + length (text_of (tree_between text.now
-        (sources_of names.now lens.now tags.now starts.now sizes.now values.now) count start end))
-        ≤ length out.old }
-    requires keeps_written { KeepsWritten text.now
-        (sources_of names.now lens.now tags.now starts.now sizes.now values.now)
-        out.old at places.old lengths.old }
-    ensures wrote { Overwrites out.old at (text_of (tree_between text.now
-        (sources_of names.now lens.now tags.now
-        starts.now sizes.now values.now)
-        count start end)) out.new result }
-    ensures keeps { KeepsWritten text.now
-        (sources_of names.now lens.now tags.now
-        starts.now sizes.now values.now)
-        out.new result places.new lengths.new }
+    requires means_tree { KnownMeans known start end }
+    requires end_in_bounds { at + length (text_of (known_tree known start end)) ≤ length out.old }
+    requires keeps { Keeps known out.old at pieces.old }
+    ensures wrote { Overwrites out.old at (text_of (known_tree known.entry start end)) out.new result }
+    ensures keeps { Keeps known.entry out.new result pieces.new }
 {
-    let mut waiting = [0u8; WAITING];
-    let mut n: usize = 0;
+    let mut waiting = none_waiting();
     let mut due = true;
     let mut i = start;
     let mut to = at;
+    // A turn passes a token, and the next factor or operator says where it ends: no iterator is plainer.
     while i < end {
         if due {
-            let next = factor_at(text, end, i, count, names, lens, tags);
-            let factor = next.factor;
+            let next = factor_at(known, end, i);
             i = next.end;
-            match factor {
+            match next.factor {
                 Factor::Open => {
-                    waiting[n] = b'(';
-                    n += 1;
+                    waiting.push(b'(');
                 }
                 Factor::Literal(value) => {
                     to = put_push(out, to, value);
                     due = false;
                 }
                 Factor::Name(b) => {
-                    to = binding(
-                        text, b, names, lens, tags, starts, sizes, values, out, to, places, lengths,
-                    );
+                    to = binding(known, b, out, to, pieces);
                     due = false;
                 }
                 Factor::Nothing => {
@@ -123,90 +79,58 @@ fn expression<'a>(
                 }
             }
         } else {
-            let next = operate(text, end, i, out, to, &mut waiting, n);
+            let next = operate(known.text, end, i, out, to, &mut waiting);
             i = next.at;
             to = next.to;
-            n = next.waiting;
             due = next.due;
         }
     }
-    let last = pop(out, to, &waiting, n, LEVELS);
-    last.to
+    waiting.write(out, to, LEVELS)
 }
 
 // The binding b: once more, where it was written before; a parameter; or its expression, whose names mean the bindings before it.
 #[cycle(binding_expression)]
-fn binding<'a>(
-    text: &'a [u8],
+fn binding(
+    known: Known,
     b: usize,
-    names: &'a [u16; 256],
-    lens: &'a [u16; 256],
-    tags: &'a [u8; 256],
-    starts: &'a [u16; 256],
-    sizes: &'a [u16; 256],
-    values: &'a [u64; 256],
     out: &mut [u8],
     at: usize,
-    places: &mut [usize; 256],
-    lengths: &mut [usize; 256],
+    pieces: &mut [Option<Piece>; 256],
 ) -> usize
-    requires b_bound { (b < 256) × AllInText text.now
-        (sources_of names.now lens.now tags.now starts.now sizes.now values.now) (b + 1) }
-    requires b_in_bounds { at + length (text_of (tree_of text.now
-        (sources_of names.now lens.now tags.now starts.now sizes.now values.now) b))
-        ≤ length out.old }
-    requires keeps_written { KeepsWritten text.now
-        (sources_of names.now lens.now tags.now starts.now sizes.now values.now)
-        out.old at places.old lengths.old }
-    ensures wrote { Overwrites out.old at (text_of (tree_of text.now
-        (sources_of names.now lens.now tags.now
-        starts.now sizes.now values.now)
-        b)) out.new result }
-    ensures keeps { KeepsWritten text.now
-        (sources_of names.now lens.now tags.now
-        starts.now sizes.now values.now)
-        out.new result places.new lengths.new }
+    requires stand { (b < 256) × KnownStand known (b + 1) }
+    requires b_in_bounds { at + length (text_of (binding_tree known b)) ≤ length out.old }
+    requires keeps { Keeps known out.old at pieces.old }
+    ensures wrote { Overwrites out.old at (text_of (binding_tree known.entry b)) out.new result }
+    ensures keeps { Keeps known.entry out.new result pieces.new }
 {
-    let length = lengths[b];
-    if 0 < length {
-        return put_again(out, at, places[b], length);
+    if let Some(piece) = pieces[b] {
+        return put_again(out, at, piece);
     }
-    let size = wide(sizes[b]);
+    let size = usize::from(known.table.expr_len[b]);
     if size == 0 {
-        return put_push(out, at, values[b]);
+        return put_push(out, at, known.values.value[b]);
     }
-    let start = wide(starts[b]);
-    let behind = expression(
-        text,
+    let start = usize::from(known.table.expr_start[b]);
+    let end = expression(
+        Known { count: b, ..known },
         start,
         start + size,
-        b,
-        names,
-        lens,
-        tags,
-        starts,
-        sizes,
-        values,
         out,
         at,
-        places,
-        lengths,
+        pieces,
     );
-    places[b] = at;
-    lengths[b] = behind - at;
-    behind
+    pieces[b] = Some(Piece { start: at, end });
+    end
 }
 
-// Bytes that stand before an offset, once more at that offset.
-fn put_again(out: &mut [u8], at: usize, from: usize, len: usize) -> usize
-    requires { (from + len ≤ at) × (at + len ≤ length out.old) }
-    ensures { Overwrites out.old at (slice from (from + len) out.old) out.new result }
+// A piece of the output that stands before an offset, once more at that offset. `copy_within` took 1.8 of the time where bindings are
+// doubled: it copies byte by byte.
+fn put_again(out: &mut [u8], at: usize, piece: Piece) -> usize
+    requires { Before piece at × (at + (piece.end - piece.start) ≤ length out.old) }
+    ensures { Overwrites out.old at (slice piece.start piece.end out.old) out.new result }
 {
-    let mut j: usize = 0;
-    while j < len {
-        let b = out[from + j];
-        out[at + j] = b;
-        j += 1;
-    }
+    let len = piece.end - piece.start;
+    let (before, behind) = out.split_at_mut(at);
+    behind[..len].copy_from_slice(&before[piece.start..piece.end]);
     at + len
 }

@@ -1,4 +1,3 @@
 pub mod Numbers
 pub mod Runs
 pub mod Bench
-pub mod Code

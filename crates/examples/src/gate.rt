@@ -3,14 +3,23 @@ ghost use Rattle.std.specs.Prelude.{◌≡◌};
 ghost use Rattle.numbered.specs.Numbered.{plain};
 ghost use Rattle.context.specs.Gate.{gate_numbered};
 
-use context::{Gate, execution_gate};
+use context::{ChainContext, ContextError, Gate, execution_gate};
 
-pub fn letters() -> Gate
+pub fn letters() -> Result<(), ContextError>
     ensures { gate_numbered result ≡ plain 40 }
 {
-    let genesis = [65u8; 64];
-    let computed = [97u8; 64];
-    execution_gate(
-        b"atc", b"devnet", &genesis, b"1", b"2", &computed, b"1", b"2",
-    )
+    let genesis = [b'A'; 64];
+    let computed = [b'a'; 64];
+    execution_gate(Gate {
+        context: ChainContext {
+            chain_id: b"atc",
+            network_id: b"devnet",
+            genesis_id: &genesis,
+            protocol_version: b"1",
+            vm_version: b"2",
+        },
+        computed_genesis_id: &computed,
+        expected_protocol: b"1",
+        expected_vm: b"2",
+    })
 }

@@ -5,10 +5,11 @@ ghost use Rattle.compile.specs.Numbers.{compiled_numbered};
 ghost use Rattle.examples.specs.Numbers.{Gives};
 ghost use Rattle.examples.specs.Runs.{zeros};
 
-use compile::{Compiled, compile};
+use compile::{CompileError, Compiled, compile};
+use context::{ChainContext, Gate};
 use perform::State;
 
-pub fn tally(stack: &mut [u64; 4096]) -> Compiled
+pub fn tally(stack: &mut [u64; 4096]) -> Result<Compiled, CompileError>
     requires { stack.old ≡ zeros }
     ensures { Gives (compiled_numbered result) (carrying 0 (7 ∷ 6 ∷ 1 ∷ 0 ∷ [])) stack.new (24 ∷ replicate 4095 0) }
 {
@@ -18,6 +19,18 @@ pub fn tally(stack: &mut [u64; 4096]) -> Compiled
     let mut operands = [0u64; 6];
     let mut work = [7u64; 4];
     let mut storage = [7u64; 4];
+    let gate = Gate {
+        context: ChainContext {
+            chain_id: b"atc",
+            network_id: b"devnet",
+            genesis_id: &genesis,
+            protocol_version: b"1",
+            vm_version: b"2",
+        },
+        computed_genesis_id: &genesis,
+        expected_protocol: b"1",
+        expected_vm: b"2",
+    };
     compile(
         b"fn total (a, b) {\n  let s = a + b\n  return s * 2\n}\n",
         b"{\"a\": 5, \"b\": 7, \"expected\": 24}",
@@ -25,14 +38,7 @@ pub fn tally(stack: &mut [u64; 4096]) -> Compiled
         &mut out,
         &mut kinds,
         &mut operands,
-        b"atc",
-        b"devnet",
-        &genesis,
-        b"1",
-        b"2",
-        &genesis,
-        b"1",
-        b"2",
+        gate,
         7,
         7,
         stack,

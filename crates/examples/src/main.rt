@@ -6,102 +6,67 @@
 mod assemblies;
 mod gate;
 mod in_row;
+mod line;
 mod readings;
 mod run;
 mod runs;
-mod show;
 
 use std::io;
 
 fn main(rt: HostRuntime) -> io::Result<()> {
     e1(&rt)?;
-    e1_run(&rt)?;
-    e1_compiled(&rt)?;
-    run_line(&rt, b"E2", runs::tally_short())?;
-    run_line(&rt, b"E3", runs::div_price())?;
-    run_line(&rt, b"E3", runs::div_items())?;
-    run_line(&rt, b"E4", runs::halt())?;
+    e2_to_e4(&rt)?;
     e5(&rt)?;
-    run_line(&rt, b"E5", runs::lone_jump())?;
     e6(&rt)?;
-    run_line(&rt, b"E6", runs::store_4())?;
-    run_line(&rt, b"E6", runs::store_65535())?;
-    run_line(&rt, b"E6", runs::store_65536())?;
-    e7(&rt)?;
-    reading_line(&rt, b"E7", readings::push_minus())?;
-    reading_line(&rt, b"E8", readings::push_alone())?;
-    assembly_line(&rt, b"E9", assemblies::precedence())?;
-    assembly_line(&rt, b"E9", assemblies::left_to_right())?;
-    rt.write_all(b"E10")?;
-    show::gate(&rt, gate::letters())?;
-    rt.write_all(b"\n")
+    e7_and_e8(&rt)?;
+    line::print(&rt, "E9", assemblies::precedence(), 4, &[])?;
+    line::print(&rt, "E9", assemblies::left_to_right(), 4, &[])?;
+    line::print(&rt, "E10", gate::letters(), 0, &[])
 }
 
+// The assembly with its text, a run of it, and all calls in a row.
 fn e1(rt: &impl Print) -> io::Result<()> {
-    let mut out = [0u8; 4096];
-    assembly_line(rt, b"E1", assemblies::tally(&mut out))?;
-    rt.write_all(&out[..67])
+    let mut out = [0; 4096];
+    let assembled = assemblies::tally(&mut out);
+    line::print(rt, "E1", assembled, 4, &[])?;
+    rt.write_all(&out[..67])?;
+    let mut stack = [0; 4096];
+    let ran = runs::tally(&mut stack);
+    line::print(rt, "E1", ran, 4, &stack[..1])?;
+    let mut stack = [0; 4096];
+    let compiled = in_row::tally(&mut stack);
+    line::print(rt, "E1", compiled, 4, &stack[..1])
 }
 
-fn e1_run(rt: &impl Print) -> io::Result<()> {
-    let mut stack = [0u64; 4096];
-    rt.write_all(b"E1")?;
-    show::run(rt, runs::tally(&mut stack))?;
-    show::number(rt, stack[0])?;
-    rt.write_all(b"\n")
-}
-
-fn e1_compiled(rt: &impl Print) -> io::Result<()> {
-    let mut stack = [0u64; 4096];
-    rt.write_all(b"E1")?;
-    show::compiled(rt, in_row::tally(&mut stack))?;
-    show::number(rt, stack[0])?;
-    rt.write_all(b"\n")
+fn e2_to_e4(rt: &impl Print) -> io::Result<()> {
+    line::print(rt, "E2", runs::tally_short(), 2, &[])?;
+    line::print(rt, "E3", runs::div_price(), 2, &[])?;
+    line::print(rt, "E3", runs::div_items(), 0, &[])?;
+    line::print(rt, "E4", runs::halt(), 4, &[])
 }
 
 fn e5(rt: &impl Print) -> io::Result<()> {
-    let mut stack = [0u64; 4096];
-    rt.write_all(b"E5")?;
-    show::run(rt, runs::lone_push(&mut stack))?;
-    show::number(rt, stack[0])?;
-    rt.write_all(b"\n")
+    let mut stack = [0; 4096];
+    let ran = runs::lone_push(&mut stack);
+    line::print(rt, "E5", ran, 4, &stack[..1])?;
+    line::print(rt, "E5", runs::lone_jump(), 0, &[])
 }
 
 fn e6(rt: &impl Print) -> io::Result<()> {
-    let mut storage = [7u64; 4];
-    rt.write_all(b"E6")?;
-    show::run(rt, runs::store_3(&mut storage))?;
-    show::number(rt, storage[0])?;
-    show::number(rt, storage[1])?;
-    show::number(rt, storage[2])?;
-    show::number(rt, storage[3])?;
-    rt.write_all(b"\n")
+    let mut storage = [7; 4];
+    let stored = runs::store_3(&mut storage);
+    line::print(rt, "E6", stored, 4, &storage)?;
+    line::print(rt, "E6", runs::store_4(), 0, &[])?;
+    line::print(rt, "E6", runs::store_65535(), 0, &[])?;
+    line::print(rt, "E6", runs::store_65536(), 1, &[])
 }
 
-fn e7(rt: &impl Print) -> io::Result<()> {
-    let mut kinds = [9u8; 4096];
-    let mut operands = [0u64; 4096];
-    rt.write_all(b"E7")?;
-    show::reading(rt, readings::push_plus(&mut kinds, &mut operands))?;
-    show::byte(rt, kinds[0])?;
-    show::number(rt, operands[0])?;
-    rt.write_all(b"\n")
-}
-
-fn run_line(rt: &impl Print, name: &[u8], a: perform::RunAnswer) -> io::Result<()> {
-    rt.write_all(name)?;
-    show::run(rt, a)?;
-    rt.write_all(b"\n")
-}
-
-fn reading_line(rt: &impl Print, name: &[u8], r: ops::ParsedOps) -> io::Result<()> {
-    rt.write_all(name)?;
-    show::reading(rt, r)?;
-    rt.write_all(b"\n")
-}
-
-fn assembly_line(rt: &impl Print, name: &[u8], a: assembler::AssemblyAnswer) -> io::Result<()> {
-    rt.write_all(name)?;
-    show::assembly(rt, a)?;
-    rt.write_all(b"\n")
+// Of the first its kind and its operand.
+fn e7_and_e8(rt: &impl Print) -> io::Result<()> {
+    let mut kinds = [9; 4096];
+    let mut operands = [0; 4096];
+    let read = readings::push_plus(&mut kinds, &mut operands);
+    line::print(rt, "E7", read, 1, &[u64::from(kinds[0]), operands[0]])?;
+    line::print(rt, "E7", readings::push_minus(), 3, &[])?;
+    line::print(rt, "E8", readings::push_alone(), 3, &[])
 }

@@ -1,4 +1,6 @@
 -- The compile statement of the three exports in a row.
+use Rattle.std.specs.Prelude.{Result, Ok, Err}
+use Rattle.context.specs.declared.ContextError.{ContextError}
 use Prim.Native.Nat.{ℕ, ◌≤◌}
 use native.Mathlib.Omega.{arith}
 use mathlib.Core.Path.{◌≡◌, refl, sym, ap, subst, ◌∙◌}
@@ -11,8 +13,6 @@ use Rattle.base.specs.Overwrite.{overwrite}
 use Rattle.numbered.specs.declared.Numbered.{Numbered}
 use Rattle.numbered.specs.Numbered.{carrying}
 use Rattle.context.specs.declared.ContextError.TheVariants.{InvalidChainId, InvalidNetworkId, InvalidGenesisId, ProtocolMismatch, VmMismatch, GenesisMismatch}
-use Rattle.context.specs.declared.Gate.{Gate}
-use Rattle.context.specs.declared.Gate.TheVariants.{Passed, Refused}
 use Rattle.context.specs.Gate.{gate_numbered}
 use Rattle.ops.specs.Ops.{ops_of, kinds_of, operands_of}
 use Rattle.checks.specs.Verify.{buffers_fit}
@@ -30,14 +30,14 @@ use Rattle.exported.specs.Exports.{Given, InRow, Lends}
 tells_is : {n m : Numbered} → Tells n m.words m.number → n ≡ m
 tells_is {n} {m} t = λ i. record { number = sym t.number i; words = sym t.words i }
 
-gate_passed : (g : Gate) → (gate_numbered g).number ≡ 0 → g ≡ Passed
-gate_passed Passed e = refl
-gate_passed (Refused InvalidChainId) e = absurd (omega arith)
-gate_passed (Refused InvalidNetworkId) e = absurd (omega arith)
-gate_passed (Refused InvalidGenesisId) e = absurd (omega arith)
-gate_passed (Refused ProtocolMismatch) e = absurd (omega arith)
-gate_passed (Refused VmMismatch) e = absurd (omega arith)
-gate_passed (Refused GenesisMismatch) e = absurd (omega arith)
+gate_passed : (g : Result (Unit {0}) ContextError) → (gate_numbered g).number ≡ 0 → g ≡ Ok tt
+gate_passed (Ok tt) e = refl
+gate_passed (Err InvalidChainId) e = absurd (omega arith)
+gate_passed (Err InvalidNetworkId) e = absurd (omega arith)
+gate_passed (Err InvalidGenesisId) e = absurd (omega arith)
+gate_passed (Err ProtocolMismatch) e = absurd (omega arith)
+gate_passed (Err VmMismatch) e = absurd (omega arith)
+gate_passed (Err GenesisMismatch) e = absurd (omega arith)
 
 fits : (ks vs s w m used : ℕ) → ks ≡ vs → 4096 ≤ s → w ≡ m → used ≤ m → buffers_fit ks vs s w m used ≡ true
 fits ks vs s w m used a b c d = rw (eq-eqb ks vs a, le-leb 4096 s b, eq-eqb w m c, le-leb used m d)

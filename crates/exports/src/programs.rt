@@ -1,115 +1,111 @@
 // The calls on a program: Caller, Store 1, Load 0, Load 3, Halt; two of four slots are used.
-use crate::show;
+use crate::show::Numbers;
 use std::io;
 
+const KINDS: [u8; 5] = [13, 12, 11, 11, 15];
+
+const OPERANDS: [u64; 5] = [0, 1, 0, 3, 0];
+
+const GENESIS: [u8; 64] = [b'A'; 64];
+
+// What a run is lent.
+#[derive(Clone, Copy)]
+struct Lent {
+    stack: [u64; 4096],
+    work: [u64; 4],
+    storage: [u64; 4],
+    answer: [u64; 8],
+}
+
+impl Lent {
+    fn new() -> Lent {
+        Lent {
+            stack: [20; 4096],
+            work: [21; 4],
+            storage: [22, 23, 24, 25],
+            answer: [9; 8],
+        }
+    }
+
+    // Of the stack two items and the last entry.
+    fn print(&self, rt: &impl Print, call: &str, number: u64) -> io::Result<()> {
+        print!(rt; "{call} {number}{}", Numbers(&self.answer))?;
+        print!(rt; " |{} {}", Numbers(&self.stack[..2]), self.stack[4095])?;
+        println!(rt; " |{} |{}", Numbers(&self.work), Numbers(&self.storage))
+    }
+}
+
 pub fn verify(rt: &impl Print) -> io::Result<()> {
-    let kinds = [13u8, 12, 11, 11, 15];
-    let operands = [0u64, 1, 0, 3, 0];
-    let mut answer = [9u64; 8];
-    let number = atc_vm::atc_verify(&kinds, &operands, 65537, &mut answer);
-    rt.write_all(b"verify")?;
-    show::answer(rt, number, &answer)?;
-    rt.write_all(b"\n")
+    let mut answer = [9; 8];
+    let number = atc_vm::atc_verify(&KINDS, &OPERANDS, 65537, &mut answer);
+    println!(rt; "verify {number}{}", Numbers(&answer))
 }
 
 pub fn run_with_gas(rt: &impl Print) -> io::Result<()> {
-    let kinds = [13u8, 12, 11, 11, 15];
-    let operands = [0u64, 1, 0, 3, 0];
-    let mut stack = [20u64; 4096];
-    let mut work = [21u64; 4];
-    let mut storage = [22u64, 23, 24, 25];
-    let mut answer = [9u64; 8];
+    let mut lent = Lent::new();
     let number = atc_vm::atc_run_with_gas(
-        &kinds,
-        &operands,
+        &KINDS,
+        &OPERANDS,
         7,
         1000,
-        &mut stack,
-        &mut work,
-        &mut storage,
+        &mut lent.stack,
+        &mut lent.work,
+        &mut lent.storage,
         2,
-        &mut answer,
+        &mut lent.answer,
     );
-    rt.write_all(b"run_with_gas")?;
-    left(rt, number, &answer, &stack, &work, &storage)
+    lent.print(rt, "run_with_gas", number)
 }
 
 pub fn transition_with_gas(rt: &impl Print) -> io::Result<()> {
-    let genesis = [65u8; 64];
-    let kinds = [13u8, 12, 11, 11, 15];
-    let operands = [0u64, 1, 0, 3, 0];
-    let mut stack = [20u64; 4096];
-    let mut work = [21u64; 4];
-    let mut storage = [22u64, 23, 24, 25];
-    let mut answer = [9u64; 8];
+    let mut lent = Lent::new();
     let number = atc_vm::atc_execute_state_transition_with_gas(
         b"atc",
         b"devnet",
-        &genesis,
+        &GENESIS,
         b"1",
         b"2",
-        &genesis,
+        &GENESIS,
         b"1",
         b"2",
-        &kinds,
-        &operands,
+        &KINDS,
+        &OPERANDS,
         7,
         1000,
-        &mut stack,
-        &mut work,
-        &mut storage,
+        &mut lent.stack,
+        &mut lent.work,
+        &mut lent.storage,
         2,
-        &mut answer,
+        &mut lent.answer,
     );
-    rt.write_all(b"transition_with_gas")?;
-    left(rt, number, &answer, &stack, &work, &storage)
+    lent.print(rt, "transition_with_gas", number)
 }
 
 // Without gas the first operation is refused, and Halt alone is not.
 pub fn transition(rt: &impl Print) -> io::Result<()> {
-    limitless(rt, &[13u8, 12, 11, 11, 15], &[0u64, 1, 0, 3, 0])?;
-    limitless(rt, &[15u8], &[0u64])
+    limitless(rt, &KINDS, &OPERANDS)?;
+    limitless(rt, &[15], &[0])
 }
 
 fn limitless(rt: &impl Print, kinds: &[u8], operands: &[u64]) -> io::Result<()> {
-    let genesis = [65u8; 64];
-    let mut stack = [20u64; 4096];
-    let mut work = [21u64; 4];
-    let mut storage = [22u64, 23, 24, 25];
-    let mut answer = [9u64; 8];
+    let mut lent = Lent::new();
     let number = atc_vm::atc_execute_state_transition(
         b"atc",
         b"devnet",
-        &genesis,
+        &GENESIS,
         b"1",
         b"2",
-        &genesis,
+        &GENESIS,
         b"1",
         b"2",
         kinds,
         operands,
         7,
-        &mut stack,
-        &mut work,
-        &mut storage,
+        &mut lent.stack,
+        &mut lent.work,
+        &mut lent.storage,
         2,
-        &mut answer,
+        &mut lent.answer,
     );
-    rt.write_all(b"transition")?;
-    left(rt, number, &answer, &stack, &work, &storage)
-}
-
-fn left(
-    rt: &impl Print,
-    number: u64,
-    answer: &[u64; 8],
-    stack: &[u64; 4096],
-    work: &[u64; 4],
-    storage: &[u64; 4],
-) -> io::Result<()> {
-    show::answer(rt, number, answer)?;
-    show::stack(rt, stack)?;
-    show::slots(rt, work)?;
-    show::slots(rt, storage)?;
-    rt.write_all(b"\n")
+    lent.print(rt, "transition", number)
 }

@@ -1,8 +1,10 @@
 -- The promise of factor: what each of its tokens makes of it.
+use Rattle.std.specs.Prelude.{Option, Some, None, Result, Ok, Err}
+use Rattle.figures.specs.declared.Figures.{Figures}
 use Prim.Native.Nat.{ℕ, suc, ◌+◌, ◌-◌, ◌^◌}
 use mathlib.Core.Path.{◌≡◌, refl, sym, ap, subst, ◌∙◌}
 use mathlib.Core.List.{List, [], ◌∷◌}
-use mathlib.Core.Bool.{Bool, true, false}
+use mathlib.Core.Bool.{true, false}
 use native.Mathlib.Omega.{arith}
 use borrow.Author.Tests.{ltb-true, ltb-false}
 use lib.Dec.{ltb}
@@ -17,46 +19,37 @@ use Rattle.decimal.proofs.Laws.{length_word}
 use Rattle.token.specs.Token.{tokens}
 use Rattle.token.specs.Code.Places.{token_at}
 use Rattle.token.proofs.Tokens.{Next, token_from, token_none, token_next, digit_token}
-use Rattle.figures.specs.declared.TreeValue.TheVariants.{Is}
-use Rattle.bindings.specs.declared.names.BoundName.{BoundName}
-use Rattle.bindings.specs.declared.names.BoundName.TheVariants.{At, Nothing}
 use Rattle.expression.specs.declared.ExprError.{ExprError}
 use Rattle.expression.specs.declared.ExprError.TheVariants.{UnexpectedEnd, UnbalancedParenthesis, InvalidLiteral, TooDeep}
 use Rattle.expression.specs.declared.Operand.{Operand}
-use Rattle.expression.specs.declared.OperandResult.TheVariants.{Done, Refused}
-use Rattle.expression.specs.declared.ParseResult.{ParseResult}
 use Rattle.grammar.specs.Tree.{num}
 use Rattle.grammar.specs.Parse.{Binding, lookup, symbol, factor, expression}
-use Rattle.figures.specs.Code.Figures.{FiguresOf, option_of}
-use Rattle.bindings.specs.Code.Table.{Columns, Entry, entry_at, RowFor, value_unless_none, found}
-use Rattle.expression.specs.Code.Parts.{followed_by, literal_read, bound_value, bound_read, name_read, AllFit, closed_read}
+use Rattle.figures.specs.Code.Figures.{FiguresOf}
+use Rattle.bindings.specs.Code.Table.{Columns, Entry, entry_at, RowFor, found}
+use Rattle.expression.specs.Code.Parts.{followed_by, literal_read, bound_read, name_read, AllFit, closed_read}
 use Rattle.grammar.specs.Code.Reads.{Reads}
 use Rattle.expression.specs.Code.Cycle.{ParsesAs}
 use Rattle.grammar.proofs.Steps.{ended, too_deep, opened_refused, unclosed, closes, not-closed, number_read, number_refused, name_read_lem, name_refused}
 use Rattle.bindings.proofs.Lookup.{Looked, looked}
 use Rattle.expression.proofs.Atoms.{closed_is, closed_other}
 
-pub none_meets : (s : List ℕ) (at : ℕ) (c : Columns) (d : ℕ) → tokens (drop at s) ≡ [] → ParsesAs s at c factor d (Refused UnexpectedEnd)
+pub none_meets : (s : List ℕ) (at : ℕ) (c : Columns) (d : ℕ) → tokens (drop at s) ≡ [] → ParsesAs s at c factor d (Err UnexpectedEnd)
 none_meets s at c d e = record { fine = tt; means = λ env h. rw e (ended env d) }
-
-bound_option : (b : Bool) (n : ℕ) → option_of (bound_value b n) ≡ value_unless_none b n
-bound_option true n = refl
-bound_option false n = refl
 
 -- a name's figures are its binding's
 bound_figures : (s : List ℕ) (e : Entry) (end : ℕ) (b : Binding) → RowFor s e b → FiguresOf b.tree (bound_read e end)
-bound_figures s e end b t = record { k = t.k; p = t.p; value = bound_option e.none e.value ∙ t.value; len = t.len; short = t.short }
+bound_figures s e end b t = record { k = t.k; p = t.p; value = t.value; len = t.len; short = t.short }
 
 module _ {s : List ℕ} {at : ℕ} (c : Columns) {start end : ℕ} (n : Next s at start end) where
-  pub deep_meets : {room : ℕ} → room ≡ 0 → symbol (token_from s start) ≡ 40 → ParsesAs s at c factor room (Refused TooDeep)
-  deep_meets q o = subst (λ (r : ℕ). ParsesAs s at c factor r (Refused TooDeep)) (sym q) (record { fine = tt; means = λ env h. rw n.list (too_deep env (token_from s start) (tokens (drop end s)) o) })
+  pub deep_meets : {room : ℕ} → room ≡ 0 → symbol (token_from s start) ≡ 40 → ParsesAs s at c factor room (Err TooDeep)
+  deep_meets q o = subst (λ (r : ℕ). ParsesAs s at c factor r (Err TooDeep)) (sym q) (record { fine = tt; means = λ env h. rw n.list (too_deep env (token_from s start) (tokens (drop end s)) o) })
 
   module _ {d : ℕ} (o : symbol (token_from s start) ≡ 40) where
-    opened : {e : ExprError} → ParsesAs s end c expression d (Refused e) → ParsesAs s at c factor (suc d) (Refused e)
+    opened : {e : ExprError} → ParsesAs s end c expression d (Err e) → ParsesAs s at c factor (suc d) (Err e)
     opened m = record { fine = tt; means = λ env h. rw n.list (opened_refused env (token_from s start) (tokens (drop end s)) o d (m.means env h)) }
 
     -- what was read in parentheses, and the tokens that follow it
-    inner_ended : {u : Operand} → ParsesAs s end c expression d (Done u) → tokens (drop u.figures.next s) ≡ [] → ParsesAs s at c factor (suc d) (Refused UnexpectedEnd)
+    inner_ended : {u : Operand} → ParsesAs s end c expression d (Ok u) → tokens (drop u.figures.next s) ≡ [] → ParsesAs s at c factor (suc d) (Err UnexpectedEnd)
     inner_ended m e = record {
       fine = tt;
       means = λ env h.
@@ -64,8 +57,8 @@ module _ {s : List ℕ} {at : ℕ} (c : Columns) {start end : ℕ} (n : Next s a
           rw n.list (unclosed env (token_from s start) (tokens (drop end s)) o d (subst (λ (ts : List (List ℕ)). Reads env expression d (tokens (drop end s)) x.0 ts) e x.1.0));
     }
 
-    module _ {u : Operand} (m : ParsesAs s end c expression d (Done u)) {i j : ℕ} (a : Next s u.figures.next i j) where
-      inner_other : (symbol (token_from s i) ≡ 41 → ⊥) → ParsesAs s at c factor (suc d) (Refused UnbalancedParenthesis)
+    module _ {u : Operand} (m : ParsesAs s end c expression d (Ok u)) {i j : ℕ} (a : Next s u.figures.next i j) where
+      inner_other : (symbol (token_from s i) ≡ 41 → ⊥) → ParsesAs s at c factor (suc d) (Err UnbalancedParenthesis)
       inner_other q = record {
         fine = tt;
         means = λ env h.
@@ -73,7 +66,7 @@ module _ {s : List ℕ} {at : ℕ} (c : Columns) {start end : ℕ} (n : Next s a
             rw n.list (not-closed env (token_from s start) (tokens (drop end s)) o d (token_from s i) (subst (λ (ts : List (List ℕ)). Reads env expression d (tokens (drop end s)) x.0 ts) a.list x.1.0) q);
       }
 
-      inner_done : symbol (token_from s i) ≡ 41 → ParsesAs s at c factor (suc d) (followed_by s (ParseResult.Done (record { next = j; k = u.figures.k; p = u.figures.p; len = u.figures.len; value = u.figures.value })))
+      inner_done : symbol (token_from s i) ≡ 41 → ParsesAs s at c factor (suc d) (followed_by s (Ok (record { next = j; k = u.figures.k; p = u.figures.p; len = u.figures.len; value = u.figures.value })))
       inner_done q =
           let f = m.fine.0 in
           record {
@@ -99,7 +92,7 @@ module _ {s : List ℕ} {at : ℕ} (c : Columns) {start end : ℕ} (n : Next s a
                 );
           }
 
-    closed : {u : Operand} → ParsesAs s end c expression d (Done u) → ParsesAs s at c factor (suc d) (followed_by s (closed_read (tokens (drop u.figures.next s)) (token_at s u.figures.next).end u.figures))
+    closed : {u : Operand} → ParsesAs s end c expression d (Ok u) → ParsesAs s at c factor (suc d) (followed_by s (closed_read (tokens (drop u.figures.next s)) (token_at s u.figures.next).end u.figures))
     closed {u} m =
         let v = u.figures in
         let t = token_at s v.next in
@@ -110,14 +103,14 @@ module _ {s : List ℕ} {at : ℕ} (c : Columns) {start end : ℕ} (n : Next s a
         (λ h.
         let a = token_next s v.next h in
         by_eqb (symbol (token_from s t.start)) 41
-        (λ q. subst (λ (r : ParseResult). ParsesAs s at c factor (suc d) (followed_by s r)) (closed_is v t.end a.list q) (inner_done m a q))
-        (λ q. subst (λ (r : ParseResult). ParsesAs s at c factor (suc d) (followed_by s r)) (closed_other v t.end a.list q) (inner_other m a q)))
+        (λ q. subst (λ (r : Result Figures ExprError). ParsesAs s at c factor (suc d) (followed_by s r)) (closed_is v t.end a.list q) (inner_done m a q))
+        (λ q. subst (λ (r : Result Figures ExprError). ParsesAs s at c factor (suc d) (followed_by s r)) (closed_other v t.end a.list q) (inner_other m a q)))
 
   module _ {room d : ℕ} (q : room ≡ suc d) (o : symbol (token_from s start) ≡ 40) where
-    pub inner_refused : {e : ExprError} → ParsesAs s end c expression d (Refused e) → ParsesAs s at c factor room (Refused e)
-    inner_refused {e} m = subst (λ (r : ℕ). ParsesAs s at c factor r (Refused e)) (sym q) (opened o m)
+    pub inner_refused : {e : ExprError} → ParsesAs s end c expression d (Err e) → ParsesAs s at c factor room (Err e)
+    inner_refused {e} m = subst (λ (r : ℕ). ParsesAs s at c factor r (Err e)) (sym q) (opened o m)
 
-    pub inner_closed : {u : Operand} → ParsesAs s end c expression d (Done u) → ParsesAs s at c factor room (followed_by s (closed_read (tokens (drop u.figures.next s)) (token_at s u.figures.next).end u.figures))
+    pub inner_closed : {u : Operand} → ParsesAs s end c expression d (Ok u) → ParsesAs s at c factor room (followed_by s (closed_read (tokens (drop u.figures.next s)) (token_at s u.figures.next).end u.figures))
     inner_closed {u} m = subst (λ (r : ℕ). ParsesAs s at c factor r (followed_by s (closed_read (tokens (drop u.figures.next s)) (token_at s u.figures.next).end u.figures))) (sym q) (closed o m)
 
   module _ (d : ℕ) (o : symbol (token_from s start) ≡ 40 → ⊥) where
@@ -134,8 +127,8 @@ module _ {s : List ℕ} {at : ℕ} (c : Columns) {start end : ℕ} (n : Next s a
         (λ h.
         let v = ltb-true (value w) (2 ^ 64) h in
         let l = length_word (value w) v in
-        let q : literal_read w start ≡ ParseResult.Done (record { next = start + length w; k = 1; p = 1; len = 6 + length (decimal (value w)); value = Is (value w) }) = simp h in
-        subst (λ (r : ParseResult). ParsesAs s at c factor d (followed_by s r)) (sym q) (record {
+        let q : literal_read w start ≡ Ok (record { next = start + length w; k = 1; p = 1; len = 6 + length (decimal (value w)); value = Some (value w) }) = simp h in
+        subst (λ (r : Result Figures ExprError). ParsesAs s at c factor d (followed_by s r)) (sym q) (record {
           fine = (
             record {
               past = omega (arith, len_token, n.after, n.some);
@@ -156,8 +149,8 @@ module _ {s : List ℕ} {at : ℕ} (c : Columns) {start end : ℕ} (n : Next s a
           );
         }))
         (λ h.
-        let q : literal_read w start ≡ ParseResult.Refused InvalidLiteral = simp h in
-        subst (λ (r : ParseResult). ParsesAs s at c factor d (followed_by s r)) (sym q) (record {
+        let q : literal_read w start ≡ Err InvalidLiteral = simp h in
+        subst (λ (r : Result Figures ExprError). ParsesAs s at c factor d (followed_by s r)) (sym q) (record {
           fine = tt;
           means = λ env g. rw n.list (number_refused env d w (tokens (drop end s)) o e (ltb-false (value w) (2 ^ 64) h));
         }))
@@ -168,14 +161,14 @@ module _ {s : List ℕ} {at : ℕ} (c : Columns) {start end : ℕ} (n : Next s a
         let q : token_from s start ≡ take_while digit (drop start s) = digit_token (get_or s start 0) e (drop (start + 1) s) ∙ ap (take_while digit) (sym x) in
         subst (λ (w : List ℕ). ParsesAs s at c factor d (followed_by s (literal_read w start))) q (literal_token (ap (all digit) q ∙ all_take_while digit (drop start s)))
 
-    pub name_meets : digit (get_or s start 0) ≡ false → (f : BoundName) → found c.count s c.names c.lens c.tags (take (end - start) (drop start s)) ≡ f → AllFit (name_read c end f) → ParsesAs s at c factor d (followed_by s (name_read c end f))
-    name_meets e Nothing q a = record {
+    pub name_meets : digit (get_or s start 0) ≡ false → (f : Option ℕ) → found c.count s c.names c.lens c.tags (take (end - start) (drop start s)) ≡ f → AllFit (name_read c end f) → ParsesAs s at c factor d (followed_by s (name_read c end f))
+    name_meets e None q a = record {
       fine = tt;
       means = λ env h.
           let l = subst (Looked s c env (take (end - start) (drop start s))) q (looked s c c.count env (take (end - start) (drop start s)) h.told) in
           rw n.list (name_refused env d (token_from s start) (tokens (drop end s)) o (simp e) (ap (λ (w : List ℕ). lookup w env) (sym n.bytes) ∙ l));
     }
-    name_meets e (At i) q a = record {
+    name_meets e (Some i) q a = record {
       fine = (
         record {
           past = omega (arith, n.after, n.some);

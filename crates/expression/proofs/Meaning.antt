@@ -1,4 +1,5 @@
 -- What the cycle reads of a whole expression is what the text means.
+use Rattle.std.specs.Prelude.{Result, Ok, Err}
 use Prim.Native.Nat.{ℕ, zero, suc, ◌-◌}
 use mathlib.Core.Path.{◌≡◌, refl, sym, ap, subst, ◌∙◌}
 use mathlib.Core.List.{List, [], ◌∷◌}
@@ -16,9 +17,6 @@ use Rattle.figures.specs.declared.Figures.{Figures}
 use Rattle.expression.specs.declared.ExprError.{ExprError}
 use Rattle.expression.specs.declared.ExprError.TheVariants.{InvalidCharacter, UnconsumedTokens}
 use Rattle.expression.specs.declared.Operand.{Operand}
-use Rattle.expression.specs.declared.OperandResult.{OperandResult}
-use Rattle.expression.specs.declared.ParseResult.{ParseResult}
-use Rattle.expression.specs.declared.ParseResult.TheVariants.{Done, Refused}
 use Rattle.grammar.specs.Tree.{Tree}
 use Rattle.grammar.specs.Parse.{Env, Parse, enough, parse_f, more_f, all_read, meaning, expression, depth}
 use Rattle.figures.specs.Code.Figures.{FiguresOf}
@@ -32,17 +30,17 @@ use Rattle.expression.proofs.Signs.{none_of, next_of}
 use Rattle.grammar.proofs.Grammar.{meaning_whole, meaning-not_allowed}
 
 -- from what a text means to what is promised of it
-means : (s : List ℕ) (at : ℕ) (c : Columns) (r : ParseResult) → EndsLast s r → ((env : Env) → RowsFor s c (at_most256 c.count) env → (m : Outcome Numbered Tree) × ((meaning env (drop at s) ≡ m) × ((parse_answer r ≡ meaning_answer m) × ShortText m))) → Answers s at c r
+means : (s : List ℕ) (at : ℕ) (c : Columns) (r : Result Figures ExprError) → EndsLast s r → ((env : Env) → RowsFor s c (at_most256 c.count) env → (m : Outcome Numbered Tree) × ((meaning env (drop at s) ≡ m) × ((parse_answer r ≡ meaning_answer m) × ShortText m))) → Answers s at c r
 means s at c r o f = record {
   is = λ env h. let x = f env h in x.1.1.0 ∙ sym (ap meaning_answer x.1.0);
   short = λ env h. let x = f env h in subst ShortText (sym x.1.0) x.1.1.1;
   ends = o;
 }
 
-pub not_allowed : (s : List ℕ) (at : ℕ) (c : Columns) → allowed (drop at s) ≡ false → Answers s at c (Refused InvalidCharacter)
+pub not_allowed : (s : List ℕ) (at : ℕ) (c : Columns) → allowed (drop at s) ≡ false → Answers s at c (Err InvalidCharacter)
 not_allowed s at c e = means s at c _ tt (λ env h. (refused (plain 13), (meaning-not_allowed env (drop at s) e, (refl, tt))))
 
-figures_said : {t : Tree} {v : Figures} → FiguresOf t v → parse_answer (Done v) ≡ meaning_answer (is t)
+figures_said : {t : Tree} {v : Figures} → FiguresOf t v → parse_answer (Ok v) ≡ meaning_answer (is t)
 figures_said f = cc (f.k, f.p, f.value, f.len)
 
 -- the same columns with another count
@@ -72,12 +70,12 @@ module _ (s : List ℕ) (at : ℕ) (c : Columns) (n : ℕ) (few-is : n ≡ at_mo
   holds : (env : Env) → RowsFor s c (at_most256 c.count) env → TableFor s (recount n c) env
   holds env h = record { room = omega arith; told = told_recount s c n n env (rw few-is h) }
 
-  pub refused_answers : {e : ExprError} → ParsesAs s at (recount n c) expression depth (OperandResult.Refused e) → Answers s at c (Refused e)
+  pub refused_answers : {e : ExprError} → ParsesAs s at (recount n c) expression depth (Err e) → Answers s at c (Err e)
   refused_answers {e} m = means s at c _ tt (λ env h.
       let x = m.means env (holds env h) in
       (refused (expr_error_numbered e), (meaning_whole env (drop at s) a ∙ ap (λ (p : Parse). and_then p all_read) (x.same (enough expression (tokens (drop at s))) (omega arith)), (refl, tt))))
 
-  pub done_answers : {o : Operand} (ts : List (List ℕ)) → tokens (drop o.figures.next s) ≡ ts → ParsesAs s at (recount n c) expression depth (OperandResult.Done o) → Answers s at c (whole_read ts o.figures)
+  pub done_answers : {o : Operand} (ts : List (List ℕ)) → tokens (drop o.figures.next s) ≡ ts → ParsesAs s at (recount n c) expression depth (Ok o) → Answers s at c (whole_read ts o.figures)
   done_answers [] q m = means s at c _ (read_ends m.fine.0 q) (λ env h.
       let x = m.means env (holds env h) in
       let f = x.1.1 in (
@@ -93,10 +91,10 @@ module _ (s : List ℕ) (at : ℕ) (c : Columns) (n : ℕ) (few-is : n ≡ at_mo
 
 -- the token that follows what was read
 module _ (s : List ℕ) (v : Figures) (t : Token) (e : t ≡ token_at s v.next) where
-  pub whole_done : t.start ≡ t.end → Done v ≡ whole_read (tokens (drop v.next s)) v
+  pub whole_done : t.start ≡ t.end → Ok v ≡ whole_read (tokens (drop v.next s)) v
   whole_done h = rw (none_of s v.next t e h)
 
-  pub whole_more : (t.start ≡ t.end → ⊥) → Refused UnconsumedTokens ≡ whole_read (tokens (drop v.next s)) v
+  pub whole_more : (t.start ≡ t.end → ⊥) → Err UnconsumedTokens ≡ whole_read (tokens (drop v.next s)) v
   whole_more h = rw (next_of s v.next t e h).list
 
 -- an empty text is no expression

@@ -1,4 +1,5 @@
 -- The promises of expression, sum and term: operands that operators join, step by step as the code reads them.
+use Rattle.std.specs.Prelude.{Result, Ok, Err}
 use Prim.Native.Nat.{ℕ, suc, ◌-◌, ◌<◌, ◌≤◌}
 use mathlib.Core.Path.{◌≡◌, refl, sym, ap, subst, ◌∙◌}
 use mathlib.Core.List.{List, ◌∷◌}
@@ -14,8 +15,6 @@ use Rattle.figures.specs.declared.Figures.{Figures}
 use Rattle.expression.specs.declared.ExprError.{ExprError}
 use Rattle.expression.specs.declared.parts.Sign.{Sign}
 use Rattle.expression.specs.declared.Operand.{Operand}
-use Rattle.expression.specs.declared.OperandResult.{OperandResult}
-use Rattle.expression.specs.declared.OperandResult.TheVariants.{Done, Refused}
 use Rattle.grammar.specs.Tree.{Tree, bin}
 use Rattle.grammar.specs.Code.Lengths.{operator_length}
 use Rattle.grammar.specs.Parse.{Env, symbol, is_operator_at, operator}
@@ -26,8 +25,8 @@ use Rattle.grammar.specs.Code.Reads.{Reads}
 use Rattle.expression.specs.Code.Cycle.{ReadWithin, ParsesAs}
 use Rattle.grammar.proofs.Steps.{no_level, Left, starts, starts_refused, turns, turns_refused, stops}
 
-pub carry : {s : List ℕ} {at : ℕ} {c : Columns} {l d : ℕ} {r q : OperandResult} → r ≡ q → ParsesAs s at c l d r → ParsesAs s at c l d q
-carry {s} {at} {c} {l} {d} e m = subst (λ (x : OperandResult). ParsesAs s at c l d x) e m
+pub carry : {s : List ℕ} {at : ℕ} {c : Columns} {l d : ℕ} {r q : Result Operand ExprError} → r ≡ q → ParsesAs s at c l d r → ParsesAs s at c l d q
+carry {s} {at} {c} {l} {d} e m = subst (λ (x : Result Operand ExprError). ParsesAs s at c l d x) e m
 
 -- sums of figures fit, since a text has at most 65,536 bytes
 pub small : {s : List ℕ} {at : ℕ} {v : Figures} → length s ≤ 65536 → ReadWithin s at v → SumsFit v
@@ -82,13 +81,13 @@ pub record Going (s : List ℕ) (at : ℕ) (c : Columns) (l d : ℕ) (o : Operan
   pub means : (env : Env) → TableFor s c env → (t : Tree) × (Left env l d (tokens (drop at s)) t (tokens (drop o.figures.next s)) × FiguresOf t o.figures)
 
 module _ {s : List ℕ} {at : ℕ} {c : Columns} {l d : ℕ} where
-  begins : {o : Operand} → ParsesAs s at c l d (Done o) → Going s at c l d o
+  begins : {o : Operand} → ParsesAs s at c l d (Ok o) → Going s at c l d o
   begins m = record { placed = m.fine.0; sign = m.fine.1; means = λ env h. let x = m.means env h in (x.0, (starts x.1.0, x.1.1)) }
 
-  begins_refused : {e : ExprError} → ParsesAs s at c l d (Refused e) → ParsesAs s at c (suc l) d (Refused e)
+  begins_refused : {e : ExprError} → ParsesAs s at c l d (Err e) → ParsesAs s at c (suc l) d (Err e)
   begins_refused m = record { fine = tt; means = λ env h. starts_refused (m.means env h) }
 
-  pub finishes : {o : Operand} → is_operator_at (suc l) o.sign.byte ≡ false → Going s at c l d o → ParsesAs s at c (suc l) d (Done o)
+  pub finishes : {o : Operand} → is_operator_at (suc l) o.sign.byte ≡ false → Going s at c l d o → ParsesAs s at c (suc l) d (Ok o)
   finishes {o} j g = record {
     fine = (g.placed, g.sign);
     means = λ env h.
@@ -100,7 +99,7 @@ module _ {s : List ℕ} {at : ℕ} {c : Columns} {l d : ℕ} where
     next_operator : NextOperator s o.figures.next o.sign (token_from s (token_at s o.figures.next).start)
     next_operator = operator_next s o.figures.next (suc l) o.sign g.sign j
 
-    goes_on_lem : {w r : Operand} → ParsesAs s o.sign.end c l d (Done w) → Joined o.sign.byte o.figures w.figures r.figures → r.sign ≡ w.sign → Going s at c l d r
+    goes_on_lem : {w r : Operand} → ParsesAs s o.sign.end c l d (Ok w) → Joined o.sign.byte o.figures w.figures r.figures → r.sign ≡ w.sign → Going s at c l d r
     goes_on_lem {w} {r} m q e =
         let p = g.placed in
         let n = m.fine.0 in
@@ -132,7 +131,7 @@ module _ {s : List ℕ} {at : ℕ} {c : Columns} {l d : ℕ} where
               ),
             )
 
-    goes_refused : {x : ExprError} → ParsesAs s o.sign.end c l d (Refused x) → ParsesAs s at c (suc l) d (Refused x)
+    goes_refused : {x : ExprError} → ParsesAs s o.sign.end c l d (Err x) → ParsesAs s at c (suc l) d (Err x)
     goes_refused m =
         let i = next_operator in
         let z = token_from s (token_at s o.figures.next).start in
@@ -164,16 +163,16 @@ module _ {s : List ℕ} {at : ℕ} {c : Columns} {l d : ℕ} where
   chain_fits h starting = record { k = omega arith; p = omega arith; len = omega arith }
   chain_fits h (behind g j) = small h g.placed
 
-  pub chain_refused : {o : Operand} {e : ExprError} → Chain s at c l d o → ParsesAs s o.sign.end c l d (Refused e) → ParsesAs s at c (suc l) d (Refused e)
+  pub chain_refused : {o : Operand} {e : ExprError} → Chain s at c l d o → ParsesAs s o.sign.end c l d (Err e) → ParsesAs s at c (suc l) d (Err e)
   chain_refused starting m = begins_refused m
   chain_refused (behind g j) m = goes_refused j g m
 
-  pub chain_joined : {o w r : Operand} → Chain s at c l d o → ParsesAs s o.sign.end c l d (Done w) → JoinedTo o w r → Going s at c l d r
+  pub chain_joined : {o w r : Operand} → Chain s at c l d o → ParsesAs s o.sign.end c l d (Ok w) → JoinedTo o w r → Going s at c l d r
   chain_joined starting m q = subst (Going s at c l d) (sym (q.alone refl)) (begins m)
   chain_joined (behind {o} g j) m q = goes_on_lem j g m (q.figures (not_none (suc l) o.sign.byte j)) q.sign
 
 -- the text left falls from operand to operand
-pub chain_falls : {s : List ℕ} {c : Columns} {l d : ℕ} {o w r : Operand} → ParsesAs s o.sign.end c l d (Done w) → JoinedTo o w r → length s - r.sign.end < length s - o.sign.end
+pub chain_falls : {s : List ℕ} {c : Columns} {l d : ℕ} {o w r : Operand} → ParsesAs s o.sign.end c l d (Ok w) → JoinedTo o w r → length s - r.sign.end < length s - o.sign.end
 chain_falls {s} {c} {l} {d} {o} {w} {r} m q =
     let n = m.fine.0 in
     let e : r.sign.end ≡ w.sign.end = ap (λ (x : Sign). x.end) q.sign in

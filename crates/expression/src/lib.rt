@@ -5,7 +5,8 @@ ghost use Rattle.std.specs.Prelude.{◌≡◌, ◌≤◌, length};
 ghost use Rattle.grammar.specs.Parse.{factor, term, sum, expression};
 ghost use Rattle.expression.specs.Answer.{expr_error_numbered};
 ghost use Rattle.expression.specs.Code.Answers.{Answers};
-ghost use Rattle.bindings.specs.Code.Table.{columns_of, columns};
+ghost use Rattle.bindings.specs.Code.Table.{columns};
+ghost use Rattle.bindings.specs.Code.Known.{known_columns};
 ghost use Rattle.expression.specs.Code.Cycle.{CanParse, ParsesAs};
 ghost use Rattle.expression.specs.Code.Parts.{followed_by, nothing_yet, JoinedTo};
 ghost use Rattle.figures.specs.Code.Figures.{SumsFit};
@@ -13,16 +14,16 @@ ghost use Rattle.figures.specs.Code.Figures.{SumsFit};
 mod operands;
 pub mod parts;
 
-use base::min;
+use bindings::names::Known;
 use bindings::{Bindings, Values};
+use figures::Figures;
 use figures::joining::join;
-use figures::{Figures, TreeValue};
-use numbered::{Numbered, plain};
+use numbered::{Answer, Numbered, plain};
 use operands::{close, literal, name, whole};
 use parts::{Sign, is_comparison, is_product, is_sum, sign_at, symbol_byte};
 use token::{is_all_tokens, is_digit, token_at};
 
-#[derive(Clone, Copy)]
+#[derive(Clone, Copy, Debug, PartialEq, Eq)]
 pub enum ExprError {
     InvalidCharacter,
     UnexpectedEnd,
@@ -33,10 +34,10 @@ pub enum ExprError {
     UnconsumedTokens,
 }
 
-impl ExprError {
-    pub fn numbered(self) -> Numbered
-        ensures { result ≡ expr_error_numbered self }
-    {
+impl Answer for ExprError {
+    ghost numbered_as = { expr_error_numbered };
+
+    fn numbered(self) -> Numbered {
         match self {
             ExprError::InvalidCharacter => plain(13),
             ExprError::UnexpectedEnd => plain(14),
@@ -49,23 +50,11 @@ impl ExprError {
     }
 }
 
-#[derive(Clone, Copy)]
-pub enum ParseResult {
-    Done(Figures),
-    Refused(ExprError),
-}
-
 // An operand that is read, and the sign behind it.
 #[derive(Clone, Copy)]
 struct Operand {
     pub figures: Figures,
     pub sign: Sign,
-}
-
-#[derive(Clone, Copy)]
-enum OperandResult {
-    Done(Operand),
-    Refused(ExprError),
 }
 
 // So many parentheses may be open at once.
@@ -75,241 +64,92 @@ pub const DEPTH: usize = 64;
 // those of the first bindings, of a count above 256 the first 256. What is free: the answer where they tell no environment (a name that
 // isn't inside the text, figures of no tree). The assembler calls it with a part of a contract that has at most 65,536 bytes (1), and its
 // table tells the environment that it has read.
-pub fn parse(text: &[u8], at: usize, table: Bindings, values: Values) -> ParseResult
+pub fn parse(text: &[u8], at: usize, table: Bindings, values: Values) -> Result<Figures, ExprError>
     requires { length text.now ≤ 65536 }
     ensures { Answers text.now at (columns table values) result }
 {
     if !is_all_tokens(text, at) {
-        return ParseResult::Refused(ExprError::InvalidCharacter);
+        return Err(ExprError::InvalidCharacter);
     }
-    let count = min(table.count, 256);
-    match expression(
+    let known = Known {
         text,
-        at,
-        DEPTH,
-        count,
-        &table.name_start,
-        &table.name_len,
-        &values.tag,
-        &table.k,
-        &table.p,
-        &values.value,
-        &values.none,
-        &values.len,
-    ) {
-        OperandResult::Refused(e) => ParseResult::Refused(e),
-        OperandResult::Done(read) => {
-            let figures = read.figures;
-            whole(text, figures)
+        table: &table,
+        values: &values,
+        count: table.count.min(256),
+    };
+    whole(text, expression(known, at, DEPTH)?.figures)
+}
+
+// Sums joined by < and ==. Room is how many more parentheses may be open. The three levels differ in the sign's test and in the level
+// that they call; they are three functions since the project's rules give the cycle that form, and a cycle goes through no closure.
+#[cycle(expression_factor_sum_term)]
+fn expression(known: Known, at: usize, room: usize) -> Result<Operand, ExprError>
+    requires { CanParse known }
+    ensures { ParsesAs known.entry.text.now at (known_columns known.entry) expression room result }
+{
+    let mut left = nothing_yet(at);
+    loop {
+        left = joined(left, sum(known, left.sign.end, room)?);
+        if !is_comparison(left.sign.byte) {
+            return Ok(left);
         }
     }
 }
 
-// Sums joined by < and ==. Room is how many more parentheses may be open.
+// Terms joined by + and -. A function of its own, as said above.
 #[cycle(expression_factor_sum_term)]
-fn expression<'a>(
-    text: &'a [u8],
-    at: usize,
-    room: usize,
-    count: usize,
-    names: &'a [u16; 256],
-    lens: &'a [u16; 256],
-    tags: &'a [u8; 256],
-    ks: &'a [u16; 256],
-    ps: &'a [u16; 256],
-    values: &'a [u64; 256],
-    nones: &'a [bool; 256],
-    sizes: &'a [u32; 256],
-) -> OperandResult
-    requires { CanParse text.now count }
-    ensures { ParsesAs text.now at (columns_of count names.now lens.now tags.now
-        ks.now ps.now values.now nones.now sizes.now) expression room result }
+fn sum(known: Known, at: usize, room: usize) -> Result<Operand, ExprError>
+    requires { CanParse known }
+    ensures { ParsesAs known.entry.text.now at (known_columns known.entry) sum room result }
 {
     let mut left = nothing_yet(at);
     loop {
-        match sum(
-            text,
-            left.sign.end,
-            room,
-            count,
-            names,
-            lens,
-            tags,
-            ks,
-            ps,
-            values,
-            nones,
-            sizes,
-        ) {
-            OperandResult::Refused(e) => {
-                return OperandResult::Refused(e);
-            }
-            OperandResult::Done(right) => {
-                left = joined(left, right);
-                if !is_comparison(left.sign.byte) {
-                    return OperandResult::Done(left);
-                }
-            }
+        left = joined(left, term(known, left.sign.end, room)?);
+        if !is_sum(left.sign.byte) {
+            return Ok(left);
         }
     }
 }
 
-// Terms joined by + and -.
+// Factors joined by * and /. A function of its own, as said above.
 #[cycle(expression_factor_sum_term)]
-fn sum<'a>(
-    text: &'a [u8],
-    at: usize,
-    room: usize,
-    count: usize,
-    names: &'a [u16; 256],
-    lens: &'a [u16; 256],
-    tags: &'a [u8; 256],
-    ks: &'a [u16; 256],
-    ps: &'a [u16; 256],
-    values: &'a [u64; 256],
-    nones: &'a [bool; 256],
-    sizes: &'a [u32; 256],
-) -> OperandResult
-    requires { CanParse text.now count }
-    ensures { ParsesAs text.now at (columns_of count names.now lens.now tags.now
-        ks.now ps.now values.now nones.now sizes.now) sum room result }
+fn term(known: Known, at: usize, room: usize) -> Result<Operand, ExprError>
+    requires { CanParse known }
+    ensures { ParsesAs known.entry.text.now at (known_columns known.entry) term room result }
 {
     let mut left = nothing_yet(at);
     loop {
-        match term(
-            text,
-            left.sign.end,
-            room,
-            count,
-            names,
-            lens,
-            tags,
-            ks,
-            ps,
-            values,
-            nones,
-            sizes,
-        ) {
-            OperandResult::Refused(e) => {
-                return OperandResult::Refused(e);
-            }
-            OperandResult::Done(right) => {
-                left = joined(left, right);
-                if !is_sum(left.sign.byte) {
-                    return OperandResult::Done(left);
-                }
-            }
-        }
-    }
-}
-
-// Factors joined by * and /.
-#[cycle(expression_factor_sum_term)]
-fn term<'a>(
-    text: &'a [u8],
-    at: usize,
-    room: usize,
-    count: usize,
-    names: &'a [u16; 256],
-    lens: &'a [u16; 256],
-    tags: &'a [u8; 256],
-    ks: &'a [u16; 256],
-    ps: &'a [u16; 256],
-    values: &'a [u64; 256],
-    nones: &'a [bool; 256],
-    sizes: &'a [u32; 256],
-) -> OperandResult
-    requires { CanParse text.now count }
-    ensures { ParsesAs text.now at (columns_of count names.now lens.now tags.now
-        ks.now ps.now values.now nones.now sizes.now) term room result }
-{
-    let mut left = nothing_yet(at);
-    loop {
-        match factor(
-            text,
-            left.sign.end,
-            room,
-            count,
-            names,
-            lens,
-            tags,
-            ks,
-            ps,
-            values,
-            nones,
-            sizes,
-        ) {
-            OperandResult::Refused(e) => {
-                return OperandResult::Refused(e);
-            }
-            OperandResult::Done(right) => {
-                left = joined(left, right);
-                if !is_product(left.sign.byte) {
-                    return OperandResult::Done(left);
-                }
-            }
+        left = joined(left, factor(known, left.sign.end, room)?);
+        if !is_product(left.sign.byte) {
+            return Ok(left);
         }
     }
 }
 
 // A literal, a name or an expression in parentheses.
 #[cycle(expression_factor_sum_term)]
-fn factor<'a>(
-    text: &'a [u8],
-    at: usize,
-    room: usize,
-    count: usize,
-    names: &'a [u16; 256],
-    lens: &'a [u16; 256],
-    tags: &'a [u8; 256],
-    ks: &'a [u16; 256],
-    ps: &'a [u16; 256],
-    values: &'a [u64; 256],
-    nones: &'a [bool; 256],
-    sizes: &'a [u32; 256],
-) -> OperandResult
-    requires { CanParse text.now count }
-    ensures { ParsesAs text.now at (columns_of count names.now lens.now tags.now
-        ks.now ps.now values.now nones.now sizes.now) factor room result }
+fn factor(known: Known, at: usize, room: usize) -> Result<Operand, ExprError>
+    requires { CanParse known }
+    ensures { ParsesAs known.entry.text.now at (known_columns known.entry) factor room result }
 {
+    let text = known.text;
     let token = token_at(text, at);
     let start = token.start;
     let end = token.end;
     if start == end {
-        return OperandResult::Refused(ExprError::UnexpectedEnd);
+        return Err(ExprError::UnexpectedEnd);
     }
-    if symbol_byte(text, start, end) == b'(' {
+    if symbol_byte(&text[start..end]) == b'(' {
         if room == 0 {
-            return OperandResult::Refused(ExprError::TooDeep);
+            return Err(ExprError::TooDeep);
         }
-        return match expression(
-            text,
-            end,
-            room - 1,
-            count,
-            names,
-            lens,
-            tags,
-            ks,
-            ps,
-            values,
-            nones,
-            sizes,
-        ) {
-            OperandResult::Refused(e) => OperandResult::Refused(e),
-            OperandResult::Done(inner) => {
-                let figures = inner.figures;
-                followed(text, close(text, figures))
-            }
-        };
+        let inner = expression(known, end, room - 1)?;
+        return followed(text, close(text, inner.figures));
     }
     if is_digit(text[start]) {
         return followed(text, literal(text, start));
     }
-    let read = name(
-        text, start, end, count, names, lens, tags, ks, ps, values, nones, sizes,
-    );
-    followed(text, read)
+    followed(text, name(known, start, end))
 }
 
 // Before the first operand: no sign stands before it.
@@ -322,7 +162,7 @@ fn nothing_yet(at: usize) -> Operand
             k: 0,
             p: 0,
             len: 0,
-            value: TreeValue::None,
+            value: None,
         },
         sign: Sign { byte: 0, end: at },
     }
@@ -337,24 +177,19 @@ fn joined(left: Operand, right: Operand) -> Operand
     if left.sign.byte == 0 {
         return right;
     }
-    let a = left.figures;
-    let b = right.figures;
-    let sign = right.sign;
     Operand {
-        figures: join(left.sign.byte, a, b),
-        sign,
+        figures: join(left.sign.byte, left.figures, right.figures),
+        sign: right.sign,
     }
 }
 
 // A factor with the sign behind it.
-fn followed(text: &[u8], read: ParseResult) -> OperandResult
+fn followed(text: &[u8], read: Result<Figures, ExprError>) -> Result<Operand, ExprError>
     ensures { result ≡ followed_by text.now read }
 {
-    match read {
-        ParseResult::Refused(e) => OperandResult::Refused(e),
-        ParseResult::Done(figures) => OperandResult::Done(Operand {
-            figures,
-            sign: sign_at(text, figures.next),
-        }),
-    }
+    let figures = read?;
+    Ok(Operand {
+        figures,
+        sign: sign_at(text, figures.next),
+    })
 }

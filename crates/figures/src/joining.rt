@@ -1,78 +1,54 @@
 // The figures of two expressions that an operator joins.
-ghost use Rattle.std.specs.Prelude.{◌≡◌, ◌≤◌, max, if◌then◌else◌};
-ghost use Rattle.word.specs.Apply.{apply, div};
+ghost use Rattle.std.specs.Prelude.{◌≡◌, ◌≤◌};
+ghost use Rattle.word.specs.Apply.{apply};
+ghost use Rattle.word.specs.Operator.{binary_of};
 ghost use Rattle.grammar.specs.Tree.{applied};
 ghost use Rattle.grammar.specs.Code.Lengths.{operator_length};
 ghost use Rattle.grammar.specs.Parse.{operator};
-ghost use Rattle.figures.specs.Code.Figures.{option_of, SumsFit, Joined};
+ghost use Rattle.figures.specs.Code.Figures.{SumsFit, Joined};
 
-use crate::{Figures, TreeValue};
-use std::num::{wrapping_add_u64, wrapping_sub_u64};
-use word::wrapping_mul;
+use crate::Figures;
+use word::Operator;
 
 // Two expressions joined by an operator. The figures of what is read from at most 65,536 bytes are small.
 pub fn join(sign: u8, left: Figures, right: Figures) -> Figures
     requires { SumsFit left × SumsFit right }
     ensures { Joined sign left right result }
 {
-    let a = left.value;
-    let b = right.value;
-    let value = applied_value(sign, a, b);
     Figures {
         next: right.next,
         k: left.k + right.k,
-        p: larger(left.p, right.p + 1),
+        p: left.p.max(right.p + 1),
         len: left.len + right.len + line_len(sign),
-        value,
+        value: applied_value(sign, left.value, right.value),
     }
 }
 
 // An operation on none gives none.
-fn applied_value(sign: u8, a: TreeValue, b: TreeValue) -> TreeValue
-    ensures { option_of result ≡ applied (operator sign) (option_of a) (option_of b) }
+fn applied_value(sign: u8, a: Option<u64>, b: Option<u64>) -> Option<u64>
+    ensures { result ≡ applied (operator sign) a b }
 {
-    match a {
-        TreeValue::None => TreeValue::None,
-        TreeValue::Is(x) => match b {
-            TreeValue::None => TreeValue::None,
-            TreeValue::Is(y) => value_of(sign, x, y),
-        },
-    }
+    value_of(sign, a?, b?)
 }
 
-fn value_of(sign: u8, x: u64, y: u64) -> TreeValue
-    ensures { option_of result ≡ apply (operator sign) x y }
+fn value_of(sign: u8, x: u64, y: u64) -> Option<u64>
+    ensures { result ≡ apply (operator sign) x y }
+{
+    operator_of(sign).apply(x, y)
+}
+
+// A byte that is none of the other five is taken for the division's.
+fn operator_of(sign: u8) -> Operator
+    ensures { binary_of result ≡ operator sign }
 {
     match sign {
-        b'+' => TreeValue::Is(wrapping_add_u64(x, y)),
-        b'-' => TreeValue::Is(wrapping_sub_u64(x, y)),
-        b'*' => TreeValue::Is(wrapping_mul(x, y)),
-        b'<' => TreeValue::Is(truth(x < y)),
-        b'=' => TreeValue::Is(truth(x == y)),
-        _ => quotient(x, y),
+        b'+' => Operator::Add,
+        b'-' => Operator::Sub,
+        b'*' => Operator::Mul,
+        b'<' => Operator::Less,
+        b'=' => Operator::Equal,
+        _ => Operator::Div,
     }
-}
-
-// 1 for true and 0 for false.
-fn truth(holds: bool) -> u64
-    ensures { result ≡ (if holds then 1 else 0) }
-{
-    if holds { 1 } else { 0 }
-}
-
-fn quotient(x: u64, y: u64) -> TreeValue
-    ensures { option_of result ≡ apply div x y }
-{
-    if y == 0 {
-        return TreeValue::None;
-    }
-    TreeValue::Is(x / y)
-}
-
-fn larger(a: u64, b: u64) -> u64
-    ensures { result ≡ max a b }
-{
-    if a < b { b } else { a }
 }
 
 // The length of the line that an operator is written as: a word of two letters for a comparison, else of three, and a line feed.
@@ -80,8 +56,7 @@ fn line_len(sign: u8) -> u64
     ensures { (result ≡ operator_length (operator sign)) × (result ≤ 4) }
 {
     match sign {
-        b'<' => 3,
-        b'=' => 3,
+        b'<' | b'=' => 3,
         _ => 4,
     }
 }

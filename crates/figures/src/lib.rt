@@ -3,12 +3,6 @@
 
 pub mod joining;
 
-#[derive(Clone, Copy)]
-pub enum TreeValue {
-    Is(u64),
-    None,
-}
-
 // An expression that is read: where it ends, and its figures.
 #[derive(Clone, Copy)]
 pub struct Figures {
@@ -16,5 +10,5 @@ pub struct Figures {
     pub k: u64,
     pub p: u64,
     pub len: u64,
-    pub value: TreeValue,
+    pub value: Option<u64>,
 }

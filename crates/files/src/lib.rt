@@ -2,19 +2,12 @@
 #![tactic(auto)]
 
 ghost use Rattle.std.specs.Counts.{IsPrefixLen};
-ghost use Rattle.files.specs.Code.Held.{Held};
+ghost use Rattle.std.specs.Io.{ReadsAtMost};
 
 use std::env::{Env, FillError};
-use std::io::Read;
+use std::io::{self, ErrorKind, Read};
 use std::rt::Files;
 use std::{fs, str};
-
-// How many bytes stand in the buffer, or that the file can't be opened or read.
-#[derive(Clone, Copy)]
-pub enum Contents {
-    Read(usize),
-    Unreadable,
-}
 
 // How many bytes at the start of the buffer are the argument. One that is too long fills the buffer, and names no file.
 pub fn argument(rt: &impl Env, i: usize, buf: &mut [u8]) -> usize
@@ -27,43 +20,27 @@ pub fn argument(rt: &impl Env, i: usize, buf: &mut [u8]) -> usize
     }
 }
 
-// A path that isn't UTF-8 names no file that can be opened.
-pub fn read(rt: &impl Files, path: &[u8], buf: &mut [u8]) -> Contents
-    ensures { Held result buf.new }
+// How many bytes at the start of the buffer stand in the file, as far as they fit. A path that isn't UTF-8 names no file.
+pub fn read(rt: &impl Files, path: &[u8], buf: &mut [u8]) -> io::Result<usize>
+    ensures { ReadsAtMost result buf.new }
 {
-    let Ok(name) = str::from_utf8(path) else {
-        return Contents::Unreadable;
-    };
-    let Ok(mut file) = fs::open(rt, name) else {
-        return Contents::Unreadable;
-    };
+    let name = str::from_utf8(path).map_err(|_| io::Error::from(ErrorKind::InvalidInput))?;
+    let mut file = fs::open(rt, name)?;
     fill(&mut file, buf)
 }
 
-// Reads until the buffer is full or the file ends.
-pub fn fill(file: &mut impl Read, buf: &mut [u8]) -> Contents
-    ensures { Held result buf.new }
+// Reads until the buffer is full or the file ends; how many bytes that is.
+pub fn fill(file: &mut impl Read, buf: &mut [u8]) -> io::Result<usize>
+    ensures { ReadsAtMost result buf.new }
 {
     let mut done: usize = 0;
+    // A step is as long as what one read gives, so no iterator is plainer.
     while done < buf.len() {
-        let some = read_some(file, &mut buf[done..]);
-        let Contents::Read(n) = some else {
-            return Contents::Unreadable;
-        };
+        let n = file.read(&mut buf[done..])?;
         if n == 0 {
-            return Contents::Read(done);
+            break;
         }
         done += n;
     }
-    Contents::Read(done)
-}
-
-// One read.
-fn read_some(file: &mut impl Read, buf: &mut [u8]) -> Contents
-    ensures { Held result buf.new }
-{
-    match file.read(buf) {
-        Ok(n) => Contents::Read(n),
-        Err(_) => Contents::Unreadable,
-    }
+    Ok(done)
 }

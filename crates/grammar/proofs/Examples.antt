@@ -1,7 +1,7 @@
 -- Meanings of worked expressions.
 use mathlib.Core.Path.{◌≡◌, refl}
 use mathlib.Core.List.{[], ◌∷◌, ◌++◌}
-use mathlib.Core.Option.{some, none}
+use Rattle.std.specs.Prelude.{Some, None}
 use Prim.Native.String.{String}
 use lib.ListN.{replicate}
 use Rattle.numbered.specs.Numbered.{plain}
@@ -22,19 +22,19 @@ answer env s = meaning_answer (meaning env (ascii s))
 abbrev bind : String → Tree → Binding
 bind s t = record { name = ascii s; tree = t }
 
-precedence : answer [] "7 - 2 * 3" ≡ figures 3 3 (some 1) 29
+precedence : answer [] "7 - 2 * 3" ≡ figures 3 3 (Some 1) 29
 unfolding meaning parse_f scan decimal
 precedence = refl
 
-left_to_right_lem : answer [] "8 / 2 / 2" ≡ figures 3 2 (some 2) 29
+left_to_right_lem : answer [] "8 / 2 / 2" ≡ figures 3 2 (Some 2) 29
 unfolding meaning parse_f scan decimal
 left_to_right_lem = refl
 
-wraps : answer [] "2-3" ≡ figures 2 2 (some 18446744073709551615) 18
+wraps : answer [] "2-3" ≡ figures 2 2 (Some 18446744073709551615) 18
 unfolding meaning parse_f scan decimal
 wraps = refl
 
-no_value : answer [] "(1 / 0) * 0" ≡ figures 3 2 none 29
+no_value : answer [] "(1 / 0) * 0" ≡ figures 3 2 None 29
 unfolding meaning parse_f scan decimal
 no_value = refl
 
@@ -46,7 +46,7 @@ tally-sum : meaning tally (ascii "a + b") ≡ is (bin add (num 5) (num 7))
 unfolding meaning parse_f scan tally
 tally-sum = refl
 
-tally_return : answer tally "s * 2" ≡ figures 3 2 (some 24) 29
+tally_return : answer tally "s * 2" ≡ figures 3 2 (Some 24) 29
 unfolding meaning parse_f scan decimal tally
 tally_return = refl
 
@@ -55,7 +55,7 @@ unfolding decimal
 tally_text = refl
 
 -- signs that are bound
-star : answer (bind "*" (num 5) ∷ []) "* * *" ≡ figures 2 2 (some 25) 18
+star : answer (bind "*" (num 5) ∷ []) "* * *" ≡ figures 2 2 (Some 25) 18
 unfolding meaning parse_f scan decimal
 star = refl
 
@@ -123,15 +123,15 @@ chain : meaning [] (ascii "1 < 2 == 1") ≡ is (bin eq (bin lt (num 1) (num 2)) 
 unfolding meaning parse_f scan
 chain = refl
 
-chain_back : answer [] "0 == 1 < 1" ≡ figures 3 2 (some 1) 27
+chain_back : answer [] "0 == 1 < 1" ≡ figures 3 2 (Some 1) 27
 unfolding meaning parse_f scan decimal
 chain_back = refl
 
-falling : answer [] "3 < 2 < 1" ≡ figures 3 2 (some 1) 27
+falling : answer [] "3 < 2 < 1" ≡ figures 3 2 (Some 1) 27
 unfolding meaning parse_f scan decimal
 falling = refl
 
-thrice : answer [] "3 == 3 == 3" ≡ figures 3 2 (some 0) 27
+thrice : answer [] "3 == 3 == 3" ≡ figures 3 2 (Some 0) 27
 unfolding meaning parse_f scan decimal
 thrice = refl
 
@@ -148,20 +148,20 @@ unfolding meaning parse_f scan
 inner = refl
 
 -- a blank is chosen by power: 65 below 400, else 70
-chooses : answer (bind "power" (num 399) ∷ []) "(power < 400) * 65 + (400 < power + 1) * 70" ≡ figures 7 4 (some 65) 81
+chooses : answer (bind "power" (num 399) ∷ []) "(power < 400) * 65 + (400 < power + 1) * 70" ≡ figures 7 4 (Some 65) 81
 unfolding meaning parse_f scan decimal
 chooses = refl
 
-chooses_other : answer (bind "power" (num 400) ∷ []) "(power < 400) * 65 + (400 < power + 1) * 70" ≡ figures 7 4 (some 70) 81
+chooses_other : answer (bind "power" (num 400) ∷ []) "(power < 400) * 65 + (400 < power + 1) * 70" ≡ figures 7 4 (Some 70) 81
 unfolding meaning parse_f scan decimal
 chooses_other = refl
 
 -- none on a side gives none
-none_equal : answer [] "1/0 == 1/0" ≡ figures 4 3 none 39
+none_equal : answer [] "1/0 == 1/0" ≡ figures 4 3 None 39
 unfolding meaning parse_f scan decimal
 none_equal = refl
 
-none_less : answer [] "1 < 1/0" ≡ figures 3 3 none 28
+none_less : answer [] "1 < 1/0" ≡ figures 3 3 None 28
 unfolding meaning parse_f scan decimal
 none_less = refl
 
@@ -221,11 +221,11 @@ unfolding meaning parse_f scan
 due_less = refl
 
 -- both signs bound
-less_bound : answer (bind "<" (num 5) ∷ []) "< < <" ≡ figures 2 2 (some 0) 17
+less_bound : answer (bind "<" (num 5) ∷ []) "< < <" ≡ figures 2 2 (Some 0) 17
 unfolding meaning parse_f scan decimal
 less_bound = refl
 
-equals_bound : answer (bind "==" (num 5) ∷ []) "== == ==" ≡ figures 2 2 (some 1) 17
+equals_bound : answer (bind "==" (num 5) ∷ []) "== == ==" ≡ figures 2 2 (Some 1) 17
 unfolding meaning parse_f scan decimal
 equals_bound = refl
 

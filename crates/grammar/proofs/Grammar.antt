@@ -3,7 +3,7 @@ use Prim.Native.Nat.{ℕ, zero, suc, ◌^◌, ◌<◌, ◌≤◌}
 use mathlib.Core.Path.{◌≡◌, refl, sym, ap, subst, ◌∙◌}
 use mathlib.Core.List.{List, [], ◌∷◌, ◌++◌, append-nil, append_assoc}
 use mathlib.Core.Bool.{true, false}
-use mathlib.Core.Option.{Option, some, none}
+use Rattle.std.specs.Prelude.{Option, Some, None}
 use mathlib.Core.Logic.{◌↔◌}
 use native.Mathlib.Omega.{arith}
 use borrow.Author.Tests.{ltb-true, eqb-true, eqb-false}
@@ -60,24 +60,24 @@ operator_of_lem (suc (suc (suc zero))) w j = by_or (eqb (symbol w) 60) (eqb (sym
 operator_of_lem (suc (suc (suc (suc l)))) w j = false_true j
 
 -- no token is empty
-abbrev Some : List (List ℕ) → Type 0
-Some [] = Unit {0}
-Some (w ∷ ts) = (0 < length w) × Some ts
+abbrev NoneEmpty : List (List ℕ) → Type 0
+NoneEmpty [] = Unit {0}
+NoneEmpty (w ∷ ts) = (0 < length w) × NoneEmpty ts
 
-some_behind : (ts us : List (List ℕ)) → Some (ts ++ us) → Some us
-some_behind [] us h = h
-some_behind (w ∷ ts) us h = some_behind ts us h.1
+not_empty_behind : (ts us : List (List ℕ)) → NoneEmpty (ts ++ us) → NoneEmpty us
+not_empty_behind [] us h = h
+not_empty_behind (w ∷ ts) us h = not_empty_behind ts us h.1
 
-token_some : {w : List ℕ} → IsToken w → 0 < length w
-token_some (Tokens.digits h e) = h
-token_some (Tokens.name e f) = omega arith
-token_some (Tokens.single e) = omega arith
-token_some Tokens.pair = omega arith
+not_empty : {w : List ℕ} → IsToken w → 0 < length w
+not_empty (Tokens.digits h e) = h
+not_empty (Tokens.name e f) = omega arith
+not_empty (Tokens.single e) = omega arith
+not_empty Tokens.pair = omega arith
 
-tokens_some : {s : List ℕ} {ts : List (List ℕ)} → Tokens s ts → Some ts
-tokens_some Tokens.none = tt
-tokens_some (Tokens.parted e h) = tokens_some h
-tokens_some (Tokens.token t l h) = (token_some t, tokens_some h)
+tokens_not_empty : {s : List ℕ} {ts : List (List ℕ)} → Tokens s ts → NoneEmpty ts
+tokens_not_empty Tokens.none = tt
+tokens_not_empty (Tokens.parted e h) = tokens_not_empty h
+tokens_not_empty (Tokens.token t l h) = (not_empty t, tokens_not_empty h)
 
 -- a literal is no parenthesis
 pub digits_no_parenthesis : (w : List ℕ) → all digit w ≡ true → symbol w ≡ 40 → ⊥
@@ -88,10 +88,10 @@ digits_no_parenthesis w e o =
 
 module _ (env : Env) where
   abbrev Sound : ℕ → Type 0
-  Sound f = (l d : ℕ) (ts : List (List ℕ)) (t : Tree) (rest : List (List ℕ)) → Some ts → parse_f f l env d ts ≡ is (t, rest) → Read env l d ts t rest
+  Sound f = (l d : ℕ) (ts : List (List ℕ)) (t : Tree) (rest : List (List ℕ)) → NoneEmpty ts → parse_f f l env d ts ≡ is (t, rest) → Read env l d ts t rest
 
   abbrev SoundMore : ℕ → Type 0
-  SoundMore f = (l d : ℕ) (us ts : List (List ℕ)) (t u : Tree) (rest : List (List ℕ)) → Some ts → Derives env (suc l) d us t → more_f f l env d (t, ts) ≡ is (u, rest) → Read env (suc l) d (us ++ ts) u rest
+  SoundMore f = (l d : ℕ) (us ts : List (List ℕ)) (t u : Tree) (rest : List (List ℕ)) → NoneEmpty ts → Derives env (suc l) d us t → more_f f l env d (t, ts) ≡ is (u, rest) → Read env (suc l) d (us ++ ts) u rest
 
   -- a factor of one token
   atom_derives : (d : ℕ) (w : List ℕ) (t : Tree) → 0 < length w → (symbol w ≡ 40 → ⊥) → atom env w ≡ is t → Derives env factor d (w ∷ []) t
@@ -106,8 +106,8 @@ module _ (env : Env) where
       same u p h = subst (Derives env factor d (w ∷ [])) (is_same p) h
 
       found : all digit w ≡ false → (o : Option Tree) → lookup w env ≡ o → named (lookup w env) ≡ is t → Derives env factor d (w ∷ []) t
-      found a none q p = not_tree 17 t (rw q at p)
-      found a (some u) q p = same u (rw q at p) (name (λ x. o (ap symbol x)) a q)
+      found a None q p = not_tree 17 t (rw q at p)
+      found a (Some u) q p = same u (rw q at p) (name (λ x. o (ap symbol x)) a q)
 
   atom_sound : (d : ℕ) (w : List ℕ) (ts : List (List ℕ)) (t : Tree) (rest : List (List ℕ)) → 0 < length w → (symbol w ≡ 40 → ⊥) → ◌≡◌ {A = Parse} (and_then (atom env w) (λ u. is (u, ts))) (is (t, rest)) → Read env factor d (w ∷ ts) t rest
   atom_sound d w ts t rest b o e =
@@ -127,7 +127,7 @@ module _ (env : Env) where
       (λ h. let p : ◌≡◌ {A = Parse} (is (u, ts)) (is (t, rest)) = simp h at e in (w, (eqb-true (symbol w) 41 h, ap (λ (r : Tree × List (List ℕ)). is (r.0, w ∷ r.1)) (is_same p))))
       (λ h. let p : refused (plain 15) ≡ is (t, rest) = simp h at e in not_is p)
 
-  parentheses_sound : (f d : ℕ) (w : List ℕ) (ts : List (List ℕ)) (t : Tree) (rest : List (List ℕ)) → Sound f → Some ts → symbol w ≡ 40 → nested d (λ e. parse_f f expression env e ts) ≡ is (t, rest) → Read env factor d (w ∷ ts) t rest
+  parentheses_sound : (f d : ℕ) (w : List ℕ) (ts : List (List ℕ)) (t : Tree) (rest : List (List ℕ)) → Sound f → NoneEmpty ts → symbol w ≡ 40 → nested d (λ e. parse_f f expression env e ts) ≡ is (t, rest) → Read env factor d (w ∷ ts) t rest
   parentheses_sound f zero w ts t rest ih b o e = not_is e
   parentheses_sound f (suc d) w ts t rest ih b o e =
       let c = closed_is (parse_f f expression env d ts) t rest e in
@@ -138,7 +138,7 @@ module _ (env : Env) where
         derives = parentheses r.derives;
       }
 
-  factor_sound : (f d : ℕ) (ts : List (List ℕ)) (t : Tree) (rest : List (List ℕ)) → Sound f → Some ts → parse_f (suc f) factor env d ts ≡ is (t, rest) → Read env factor d ts t rest
+  factor_sound : (f d : ℕ) (ts : List (List ℕ)) (t : Tree) (rest : List (List ℕ)) → Sound f → NoneEmpty ts → parse_f (suc f) factor env d ts ≡ is (t, rest) → Read env factor d ts t rest
   unfolding parse_f
   factor_sound f d [] t rest ih b e = not_is e
   factor_sound f d (w ∷ ts) t rest ih b e =
@@ -146,7 +146,7 @@ module _ (env : Env) where
       (λ h. let o = eqb-true (symbol w) 40 h in parentheses_sound f d w ts t rest ih b.1 o (sym (factor_opens f env w ts d o) ∙ e))
       (λ h. let o = eqb-false (symbol w) 40 h in atom_sound d w ts t rest b.0 o (sym (factor_atom f env w ts d o) ∙ e))
 
-  level_sound : (f l d : ℕ) (ts : List (List ℕ)) (t : Tree) (rest : List (List ℕ)) → Sound f → SoundMore f → Some ts → parse_f (suc f) (suc l) env d ts ≡ is (t, rest) → Read env (suc l) d ts t rest
+  level_sound : (f l d : ℕ) (ts : List (List ℕ)) (t : Tree) (rest : List (List ℕ)) → Sound f → SoundMore f → NoneEmpty ts → parse_f (suc f) (suc l) env d ts ≡ is (t, rest) → Read env (suc l) d ts t rest
   level_sound f l d ts t rest ih more b e =
       let c = then_is (parse_f f l env d ts) (more_f f l env d) (sym (level_up f l env d ts) ∙ e) in
       go c.0 c.1 c.2
@@ -154,7 +154,7 @@ module _ (env : Env) where
       go : (r : Tree × List (List ℕ)) → parse_f f l env d ts ≡ is r → more_f f l env d r ≡ is (t, rest) → Read env (suc l) d ts t rest
       go (u, us) q m =
           let r = ih l d ts u us b q in
-          let s = more l d r.used us u t rest (some_behind r.used us (subst Some r.parts b)) (alone r.derives) m in
+          let s = more l d r.used us u t rest (not_empty_behind r.used us (subst NoneEmpty r.parts b)) (alone r.derives) m in
           record { used = s.used; parts = r.parts ∙ s.parts; derives = s.derives }
 
   ends_sound : (l d : ℕ) (us ts : List (List ℕ)) (t u : Tree) (rest : List (List ℕ)) → Derives env (suc l) d us t → ◌≡◌ {A = Parse} (is (t, ts)) (is (u, rest)) → Read env (suc l) d (us ++ ts) u rest
@@ -162,7 +162,7 @@ module _ (env : Env) where
       let p = is_same e in
       record { used = us; parts = ap (λ (r : Tree × List (List ℕ)). us ++ r.1) p; derives = subst (λ (r : Tree × List (List ℕ)). Derives env (suc l) d us r.0) p h }
 
-  more_sound : (f l d : ℕ) (us ts : List (List ℕ)) (t u : Tree) (rest : List (List ℕ)) → Sound f → SoundMore f → Some ts → Derives env (suc l) d us t → more_f (suc f) l env d (t, ts) ≡ is (u, rest) → Read env (suc l) d (us ++ ts) u rest
+  more_sound : (f l d : ℕ) (us ts : List (List ℕ)) (t u : Tree) (rest : List (List ℕ)) → Sound f → SoundMore f → NoneEmpty ts → Derives env (suc l) d us t → more_f (suc f) l env d (t, ts) ≡ is (u, rest) → Read env (suc l) d (us ++ ts) u rest
   unfolding parse_f
   more_sound f l d us [] t u rest ih more b h e = ends_sound l d us [] t u rest h e
   more_sound f l d us (w ∷ ts) t u rest ih more b h e =
@@ -173,7 +173,7 @@ module _ (env : Env) where
       go : is_operator_at (suc l) (symbol w) ≡ true → (r : Tree × List (List ℕ)) → parse_f f l env d ts ≡ is r → more_f f l env d (joined (operator (symbol w)) t r) ≡ is (u, rest) → Read env (suc l) d (us ++ w ∷ ts) u rest
       go j (v, vs) q m =
           let r = ih l d ts v vs b.1 q in
-          let s = more l d (us ++ w ∷ r.used) vs (bin (operator (symbol w)) t v) u rest (some_behind r.used vs (subst Some r.parts b.1)) (join h (operator_of_lem (suc l) w j) r.derives) m in
+          let s = more l d (us ++ w ∷ r.used) vs (bin (operator (symbol w)) t v) u rest (not_empty_behind r.used vs (subst NoneEmpty r.parts b.1)) (join h (operator_of_lem (suc l) w j) r.derives) m in
           record {
             used = s.used;
             parts = ap (λ (x : List (List ℕ)). us ++ w ∷ x) r.parts ∙ sym (append_assoc us (w ∷ r.used) vs) ∙ s.parts;
@@ -223,7 +223,7 @@ module _ (env : Env) where
       (rw append_assoc (turns w j.0 (complete h (w ∷ us ++ rest) (operator_stops l w (us ++ rest) j.0)) (full l d us u (complete g) rest s)))
 
 -- the tokens of an accepted expression, and those of a derivable one
-accepted_derives : (env : Env) (ts : List (List ℕ)) (t : Tree) → Some ts → parsed env ts ≡ is (t, []) → Derives env expression depth ts t
+accepted_derives : (env : Env) (ts : List (List ℕ)) (t : Tree) → NoneEmpty ts → parsed env ts ≡ is (t, []) → Derives env expression depth ts t
 accepted_derives env ts t b e =
     let r = (both_sound env (enough expression ts)).0 expression depth ts t [] b e in
     subst (λ (x : List (List ℕ)). Derives env expression depth x t) (sym (r.parts ∙ append-nil r.used)) r.derives
@@ -251,7 +251,7 @@ meaning-not_allowed env s a = rw (a, meaning)
 pub meaning_derives : (env : Env) (s : List ℕ) (t : Tree) → meaning env s ≡ is t → (Tokens s (tokens s)) × Derives env expression depth (tokens s) t
 meaning_derives env s t e =
     by_bool (allowed s)
-    (λ a. let h = (longest_match s (tokens s)).1 (a, refl) in (h, accepted_derives env (tokens s) t (tokens_some h) (whole_is (parsed env (tokens s)) t (sym (meaning_whole env s a) ∙ e))))
+    (λ a. let h = (longest_match s (tokens s)).1 (a, refl) in (h, accepted_derives env (tokens s) t (tokens_not_empty h) (whole_is (parsed env (tokens s)) t (sym (meaning_whole env s a) ∙ e))))
     (λ a. not_tree 13 t (sym (meaning-not_allowed env s a) ∙ e))
 
 -- a text means the tree t exactly where its tokens are an expression with that tree, with at most 64 parentheses open at once

@@ -3,7 +3,7 @@ use Prim.Native.Nat.{ℕ, zero, suc, ◌+◌, ◌*◌, ◌^◌, ◌<◌, ◌≤�
 use mathlib.Core.Path.{◌≡◌, refl, sym, ap, ◌∙◌}
 use mathlib.Core.List.{List, [], ◌∷◌}
 use mathlib.Core.Bool.{true, false, cond, ◌&&◌}
-use mathlib.Core.Option.{some, none}
+use Rattle.std.specs.Prelude.{Some, None}
 use native.Mathlib.Omega.{arith}
 use borrow.Author.Tests.{lt-ltb, le-ltb, eqb-true, eq-eqb, ne_eqb}
 use lib.Dec.{eqb}
@@ -180,8 +180,8 @@ module _ (env : Env) (d : ℕ) (w : List ℕ) (us : List (List ℕ)) (o : symbol
   pub number_refused : all digit w ≡ true → 2 ^ 64 ≤ value w → Refuses env factor d (w ∷ us) (plain 16)
   number_refused e h = record { same = λ f g. one f g ∙ simp (e, le-ltb (value w) (2 ^ 64) h) }
 
-  pub name_read_lem : all digit w ≡ false → {t : Tree} → lookup w env ≡ some t → Reads env factor d (w ∷ us) t us
+  pub name_read_lem : all digit w ≡ false → {t : Tree} → lookup w env ≡ Some t → Reads env factor d (w ∷ us) t us
   name_read_lem e h = record { fewer = omega arith; same = λ f g. one f g ∙ simp (e, h) }
 
-  pub name_refused : all digit w ≡ false → lookup w env ≡ none → Refuses env factor d (w ∷ us) (plain 17)
+  pub name_refused : all digit w ≡ false → lookup w env ≡ None → Refuses env factor d (w ∷ us) (plain 17)
   name_refused e h = record { same = λ f g. one f g ∙ simp (e, h) }

@@ -1,6 +1,6 @@
 -- The bindings that an expression may name.
 use Rattle.std.specs.Prelude.{ℕ, List, [], ◌∷◌, cond}
-use Rattle.std.proofs.Math.Option.{Option, some, none}
+use Rattle.std.specs.Prelude.{Option, Some, None}
 use Rattle.base.specs.Equal.{equal}
 use Rattle.grammar.specs.Tree.{Tree}
 
@@ -14,5 +14,5 @@ Env = List Binding
 
 -- the tree of the newest binding of a name
 abbrev pub lookup : List ℕ → Env → Option Tree
-lookup w [] = none
-lookup w (b ∷ env) = let older = lookup w env in cond (equal w b.name) (some b.tree) older
+lookup w [] = None
+lookup w (b ∷ env) = let older = lookup w env in cond (equal w b.name) (Some b.tree) older

@@ -1,6 +1,6 @@
 -- The parser, by recursive descent over the list of tokens, with document 01's refusals 13 to 19 and document 02's comparisons.
 use Rattle.std.specs.Prelude.{ℕ, zero, suc, ◌+◌, ◌*◌, ◌^◌, List, [], ◌∷◌, Bool, true, false, cond, ◌&&◌, ◌||◌, eqb, ltb, length}
-use Rattle.std.proofs.Math.Option.{Option, some, none}
+use Rattle.std.specs.Prelude.{Option, Some, None}
 use Rattle.numbered.specs.Numbered.{plain}
 use Rattle.numbered.specs.declared.Numbered.{Numbered}
 use Rattle.base.specs.Outcome.{Outcome, is, refused, and_then}
@@ -49,8 +49,8 @@ nested zero inner = refused (plain 18)
 nested (suc d) inner = and_then (inner d) closed
 
 abbrev pub named : Option Tree → Outcome Numbered Tree
-named none = refused (plain 17)
-named (some t) = is t
+named None = refused (plain 17)
+named (Some t) = is t
 
 abbrev pub literal : List ℕ → Outcome Numbered Tree
 literal w = cond (ltb (value w) (2 ^ 64)) (is (num (value w))) (refused (plain 16))

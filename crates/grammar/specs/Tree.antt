@@ -1,6 +1,6 @@
 -- What an expression means: a closed tree, in which a name stands as the tree of its binding.
 use Rattle.std.specs.Prelude.{ℕ, ◌+◌, max}
-use Rattle.std.proofs.Math.Option.{Option, some, none}
+use Rattle.std.specs.Prelude.{Option, Some, None}
 use Rattle.word.specs.Apply.{Binary, apply}
 
 pub data Tree : Type 0 where
@@ -9,12 +9,12 @@ pub data Tree : Type 0 where
 
 -- an operation on none gives none
 abbrev pub applied : Binary → Option ℕ → Option ℕ → Option ℕ
-applied op none b = none
-applied op (some x) none = none
-applied op (some x) (some y) = apply op x y
+applied op None b = None
+applied op (Some x) None = None
+applied op (Some x) (Some y) = apply op x y
 
 abbrev pub value_of : Tree → Option ℕ
-value_of (num n) = some n
+value_of (num n) = Some n
 value_of (bin op l r) = applied op (value_of l) (value_of r)
 
 -- document 01's k

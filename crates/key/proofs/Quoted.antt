@@ -1,4 +1,5 @@
 -- Laws of a key in double quotes: whether it stands at a place, byte by byte.
+use Rattle.std.specs.Prelude.{Option, None}
 use Prim.Native.Nat.{ℕ, suc, ◌+◌, ◌-◌, ◌<◌, ◌≤◌}
 use mathlib.Core.Path.{◌≡◌, refl, sym, ap, ◌∙◌}
 use mathlib.Core.List.{List, [], ◌∷◌, ◌++◌, append_assoc}
@@ -6,14 +7,14 @@ use mathlib.Core.Bool.{true, false, ◌&&◌}
 use borrow.Author.Tests.{eqb-true}
 use native.Mathlib.Omega.{arith}
 use lib.Dec.{eqb}
-use lib.ListN.{length, get_or, take, drop, set, get_or-append, length-append}
-use lib.Seq.{drop-drop, get_or-append-add, take-suc, take-suc-set, take_all}
-use Rattle.base.proofs.Tests.{by_bool, by_eqb, false_true, and_left, and_right}
-use Rattle.search.specs.declared.Found.{Found}
-use Rattle.search.specs.declared.Found.TheVariants.{Nothing}
+use lib.ListN.{length, get_or, take, drop, set, length-set, get_or-append, length-append, length-drop}
+use borrow.Rule.Slice.PartMut.{put_mid}
+use Rattle.std.proofs.lemmas.Slice.{take-put_mid}
+use lib.Seq.{drop-drop, get_or-append-add, take-suc-set, length-take-le}
+use Rattle.base.proofs.Tests.{by_bool, false_true, and_left, and_right}
 use Rattle.search.specs.First.{prefix_of, first_at}
-use Rattle.search.specs.Code.Scan.{or_else}
-use Rattle.search.proofs.Prefix.{same, other, same_at, common, append, split, each, byte_yes}
+use Rattle.std.specs.Option.{option_or}
+use Rattle.search.proofs.Prefix.{same_at, common, append, split, each, byte_yes}
 use Rattle.search.proofs.Laws.{no_room, or_nothing}
 use Rattle.key.specs.Key.{quoted}
 
@@ -32,24 +33,14 @@ module _ (p q s : List ℕ) where
       false_true (sym e ∙ ap (prefix_of p) (split (p ++ q) s y ∙ append_assoc p q r) ∙ append p (q ++ r)))
       (λ n. n)
 
--- no more is read than p has
-cut : (p s : List ℕ) → prefix_of p (take (length p) s) ≡ prefix_of p s
-cut [] s = refl
-cut (a ∷ p) [] = refl
-cut (a ∷ p) (b ∷ s) =
-    by_eqb a b
-    (λ e. same a b p (take (length p) s) e ∙ cut p s ∙ sym (same a b p s e))
-    (λ n. other a b p (take (length p) s) n ∙ sym (other a b p s n))
-
 -- between two quotes
 module _ (s key : List ℕ) (at : ℕ) (h : at + length key + 1 < length s) (t : (eqb (get_or s at 0) 0x22 && eqb (get_or s (at + 1 + length key) 0) 0x22) ≡ true) where
   behind_quote : prefix_of (quoted key) (drop at s) ≡ prefix_of (key ++ 0x22 ∷ []) (drop (at + 1) s)
   behind_quote = same_at (quoted key) s 0 at (at + 1) (omega arith) (omega arith) refl (sym (eqb-true (get_or s at 0) 0x22 (and_left (eqb (get_or s at 0) 0x22) _ t)))
 
-  pub between : (n : ℕ) → n ≡ length key → prefix_of key (take n (drop (at + 1) s)) ≡ prefix_of (quoted key) (drop at s)
-  between n i =
-      ap (λ (m : ℕ). prefix_of key (take m (drop (at + 1) s))) i ∙ cut key (drop (at + 1) s)
-      ∙ by_bool (prefix_of key (drop (at + 1) s))
+  pub between : prefix_of key (drop (at + 1) s) ≡ prefix_of (quoted key) (drop at s)
+  between =
+      by_bool (prefix_of key (drop (at + 1) s))
       (λ y. y ∙ sym (
       behind_quote ∙ then key (0x22 ∷ []) (drop (at + 1) s) y
       ∙ ap (prefix_of (0x22 ∷ [])) (drop-drop (length key) (at + 1) s)
@@ -80,29 +71,36 @@ module _ (key : List ℕ) where
     pub closing_here : (k : ℕ) → k ≡ at + (length key + 1) → eqb (get_or s k 0) 0x22 ≡ true
     closing_here k i = byte_here (length key + 1) k 0x22 (omega arith) i closing_quote
 
--- a key in double quotes, written byte by byte
-module _ (pattern key : List ℕ) where
-  pub put_opening : 0 < length pattern → take 1 (set pattern 0 0x22) ≡ 0x22 ∷ take 0 key
-  put_opening h = take-suc-set pattern 0 0x22 h
+-- a key that is written between two quotes
+module _ (pattern key part : List ℕ) (n : ℕ) (e : n ≡ length key) (p : part ≡ key) (h : length key + 2 ≤ length pattern) where
+  opened : List ℕ
+  opened = set pattern 0 0x22
 
-  module _ (k : ℕ) (h : k + 1 < length pattern) (e : take (k + 1) pattern ≡ 0x22 ∷ take k key) where
-    one_more : (b n : ℕ) → n ≡ k + 1 + 1 → take n (set pattern (k + 1) b) ≡ 0x22 ∷ take k key ++ b ∷ []
-    one_more b n f =
-        let g : n ≡ suc (k + 1) = omega arith in
-        ap (λ (m : ℕ). take m (set pattern (k + 1) b)) g ∙ take-suc-set pattern (k + 1) b h ∙ ap (λ (l : List ℕ). l ++ b ∷ []) e
+  long : length (put_mid 1 n (set pattern 0 0x22) part) ≡ length pattern
+  long =
+      let l = length-set pattern 0 0x22 in
+      let t : length (take 1 (set pattern 0 0x22)) ≡ 1 = length-take-le 1 _ (omega arith) in
+      let y : length part ≡ length key = ap length p in
+      simp (length-append, length-drop) (omega arith)
 
-    pub put_byte : k < length key → take (k + 1 + 1) (set pattern (k + 1) (get_or key k 0)) ≡ 0x22 ∷ take (k + 1) key
-    put_byte l =
-        let g : suc k ≡ k + 1 = omega arith in
-        one_more (get_or key k 0) (k + 1 + 1) refl ∙ ap (λ (t : List ℕ). 0x22 ∷ t) (sym (take-suc key k 0 l)) ∙ ap (λ (m : ℕ). 0x22 ∷ take m key) g
+  pub written_size : length (set (put_mid 1 n (set pattern 0 0x22) part) (length key + 1) 0x22) ≡ length pattern
+  written_size = length-set _ _ _ ∙ long
 
-    pub put_closing : length key ≤ k → k ≤ length key → take (length key + 2) (set pattern (k + 1) 0x22) ≡ quoted key
-    put_closing l g = one_more 0x22 (length key + 2) (omega arith) ∙ ap (λ (t : List ℕ). 0x22 ∷ t ++ 0x22 ∷ []) (take_all k key l)
+  pub written : take (length key + 2) (set (put_mid 1 n (set pattern 0 0x22) part) (length key + 1) 0x22) ≡ quoted key
+  written =
+      let l = length-set pattern 0 0x22 in
+      let q = put_mid 1 n (set pattern 0 0x22) part in
+      let z : length key + 2 ≡ suc (length key + 1) = omega arith in
+      let y : length part ≡ length key = ap length p in
+      let f : take (length key + 1) q ≡ take 1 (set pattern 0 0x22) ++ part = take-put_mid 1 n (set pattern 0 0x22) part (length key + 1) (omega arith) (omega arith) in
+      let g = long in
+      ap (λ (m : ℕ). take m (set q (length key + 1) 0x22)) z ∙ take-suc-set q (length key + 1) 0x22 (omega arith)
+      ∙ ap (λ (t : List ℕ). t ++ 0x22 ∷ []) (f ∙ ap (λ (t : List ℕ). t ++ part) (take-suc-set pattern 0 0x22 (omega arith)) ∙ ap (λ (t : List ℕ). 0x22 ∷ t) p)
 
 -- from `stop` on there is no room
 module _ (s key : List ℕ) (at stop : ℕ) (h : stop + length key + 1 ≡ length s) where
-  pub none_behind : first_at (quoted key) s stop ≡ Nothing
+  pub none_behind : first_at (quoted key) s stop ≡ None
   none_behind = no_room (quoted key) s stop (omega (arith, quoted-length key))
 
-  pub nowhere_else : (r : Found) → first_at (quoted key) s at ≡ or_else r (first_at (quoted key) s stop) → r ≡ first_at (quoted key) s at
-  nowhere_else r e = sym (e ∙ ap (or_else r) none_behind ∙ or_nothing r)
+  pub nowhere_else : (r : Option ℕ) → first_at (quoted key) s at ≡ option_or r (first_at (quoted key) s stop) → r ≡ first_at (quoted key) s at
+  nowhere_else r e = sym (e ∙ ap (option_or r) none_behind ∙ or_nothing r)

@@ -4,13 +4,13 @@
 #![tactic(auto)]
 
 ghost use Rattle.std.specs.Prelude.{◌≡◌, true, false, ◌+◌, ◌<◌, ◌≤◌, length, drop};
+ghost use Rattle.std.specs.List.{suffix_len};
 ghost use Rattle.base.specs.Code.Skips.{Skips};
 ghost use Rattle.search.specs.First.{prefix_of, first_at};
 ghost use Rattle.key.specs.Key.{quoted};
-ghost use Rattle.key.specs.Code.Marked.{Quotes, Marks, Room, FirstBefore, Other, Holds};
+ghost use Rattle.key.specs.Code.Marked.{Quotes, Marks, FirstBefore, Other, Holds, of_quotes};
 
-use base::{both, either};
-use search::Found;
+use search::any_at;
 
 // How many offsets a block has.
 const BLOCK: usize = 16;
@@ -21,136 +21,184 @@ const NEAR: usize = 32;
 // A longer key doesn't fit the pattern's array.
 const MOST: usize = 65534;
 
-// A byte of the key in double quotes, and its place there.
+// A key that is sought in double quotes, and the offset from which on there is no room for it.
+#[derive(Clone, Copy)]
+struct Sought<'a> {
+    s: &'a [u8],
+    key: &'a [u8],
+    stop: usize,
+    ghost room: { stop + length key.now + 1 ≡ length s.now },
+}
+
+// A byte of the key in double quotes, and its place there. It is no part of `Sought`, since a key that is found near needs none.
 #[derive(Clone, Copy)]
 pub struct Mark {
     pub place: usize,
     pub byte: u8,
 }
 
-pub fn find_quoted(s: &[u8], key: &[u8]) -> Found
+pub fn find_quoted(s: &[u8], key: &[u8]) -> Option<usize>
     ensures { result ≡ first_at (quoted key.now) s.now 0 }
 {
-    if s.len() <= key.len() {
-        return Found::Nothing;
-    }
-    let stop = s.len() - key.len() - 1;
+    let stop = s.len().checked_sub(key.len() + 1)?;
+    let sought = Sought { s, key, stop };
     if NEAR < key.len() {
-        return find_by_blocks(s, key, 0, stop);
+        return sought.find_by_blocks(0);
     }
-    let near = near_end(0, stop);
-    let found = quoted_before(s, key, 0, near);
-    match found {
-        Found::At(i) => Found::At(i),
-        Found::Nothing => find_by_blocks(s, key, near, stop),
+    let near = NEAR.min(stop);
+    if let Some(i) = sought.find_before(0, near) {
+        return Some(i);
     }
+    sought.find_by_blocks(near)
 }
 
-// Where the offsets end that are tried one by one starting at an offset.
-fn near_end(at: usize, stop: usize) -> usize
-    requires { at ≤ stop }
-    ensures { (at ≤ result) × (result ≤ stop) × (at < stop → at < result) }
-{
-    if stop - at < NEAR { stop } else { at + NEAR }
-}
-
-// To try the near places of a block costs at most 32 comparisons for each byte of the key. It is done as often as makes 4 comparisons for
-// each byte of s, and some.
-fn find_by_blocks(s: &[u8], key: &[u8], at: usize, stop: usize) -> Found
-    requires { (at ≤ stop) × (stop + length key.now + 1 ≡ length s.now) }
-    ensures { result ≡ first_at (quoted key.now) s.now at }
-{
-    let mark = mark_of(key);
-    let mut left = s.len() / 8 + 128;
-    let mut i = at;
-    while BLOCK <= stop - i {
-        if any_agrees(s, key, mark, i, BLOCK) {
-            if mark.place == 0 {
-                return find_quotes(s, key, i, stop);
+impl<'a> Sought<'a> {
+    // To try the near places of a block costs at most 32 comparisons for each byte of the key. It is done as often as makes 4 comparisons
+    // for each byte of s, and some. The step varies, so the loop is a `while`.
+    fn find_by_blocks(self, at: usize) -> Option<usize>
+        requires { at ≤ self.stop }
+        ensures { result ≡ first_at (quoted self.entry.key.now) self.entry.s.now at }
+    {
+        let mark = mark_of(self.key);
+        let mut left = self.s.len() / 8 + 128;
+        let mut i = at;
+        while BLOCK <= self.stop - i {
+            if self.any_agrees(mark, i, BLOCK) {
+                if mark.place == 0 {
+                    return self.find_quotes(i);
+                }
+                if left < self.key.len() {
+                    return self.find_far(i);
+                }
+                left -= self.key.len();
+                let end = i + NEAR.min(self.stop - i);
+                if let Some(j) = self.find_before(i, end) {
+                    return Some(j);
+                }
+                i = end;
+            } else {
+                i += BLOCK;
             }
-            if left < key.len() {
-                return find_far(s, key, i, stop);
-            }
-            left -= key.len();
-            let end = near_end(i, stop);
-            let found = quoted_before(s, key, i, end);
-            if let Found::At(j) = found {
-                return Found::At(j);
-            }
-            i = end;
-        } else {
-            i += BLOCK;
         }
+        self.find_last(mark, left, i)
     }
-    find_last(s, key, mark, left, i, stop)
-}
 
-// The offsets behind the last whole block.
-fn find_last(s: &[u8], key: &[u8], mark: Mark, left: usize, at: usize, stop: usize) -> Found
-    requires { (at ≤ stop) × (stop + length key.now + 1 ≡ length s.now) × Marks key.now mark }
-    ensures { result ≡ first_at (quoted key.now) s.now at }
-{
-    if !any_agrees(s, key, mark, at, stop - at) {
-        return Found::Nothing;
+    // The offsets behind the last whole block.
+    fn find_last(self, mark: Mark, left: usize, at: usize) -> Option<usize>
+        requires { (at ≤ self.stop) × Marks self.key.now mark }
+        ensures { result ≡ first_at (quoted self.entry.key.now) self.entry.s.now at }
+    {
+        if !self.any_agrees(mark, at, self.stop - at) {
+            return None;
+        }
+        if mark.place == 0 {
+            return self.find_quotes(at);
+        }
+        if left < self.key.len() {
+            return self.find_far(at);
+        }
+        self.find_before(at, self.stop)
     }
-    if mark.place == 0 {
-        return find_quotes(s, key, at, stop);
+
+    // The first place of a key of quotes alone. It stands at no place whose window, as long as the key in double quotes, has another byte.
+    // No byte is read more than twice. The step varies, so the loop is a `while`.
+    fn find_quotes(self, at: usize) -> Option<usize>
+        requires { (at ≤ self.stop) × Quotes (quoted self.key.now) 0 (length self.key.now + 2) }
+        ensures { result ≡ first_at (quoted self.entry.key.now) self.entry.s.now at }
+    {
+        let mut i = at;
+        while i < self.stop {
+            let end = i + self.key.len() + 2;
+            match last_other(self.s, i, end) {
+                Some(j) => i = j + 1,
+                None => return Some(i),
+            }
+        }
+        None
     }
-    if left < key.len() {
-        return find_far(s, key, at, stop);
+
+    // Whether the key agrees at one of the n places from a place on.
+    fn any_agrees(self, mark: Mark, at: usize, n: usize) -> bool
+        requires { (at + n ≤ self.stop) × Marks self.key.now mark }
+        ensures { result ≡ false → Skips (first_at (quoted self.entry.key.now) self.entry.s.now) at (at + n) }
+    {
+        any_at(at, n, |i| self.agrees(mark, i))
     }
-    quoted_before(s, key, at, stop)
+
+    // Whether both quotes and the mark stand where they do if the key stands in double quotes at a place.
+    fn agrees(self, mark: Mark, at: usize) -> bool
+        requires { (at < self.stop) × Marks self.key.now mark }
+        ensures { prefix_of (quoted self.entry.key.now) (drop at self.entry.s.now) ≡ true → result ≡ true }
+    {
+        let s = self.s;
+        let closing = at + (self.key.len() + 1);
+        (s[at] == b'"') & (s[closing] == b'"') & (s[at + mark.place] == mark.byte)
+    }
+
+    // The first place before end at which the key stands in double quotes. `find` over the range was measured slower.
+    fn find_before(self, at: usize, end: usize) -> Option<usize>
+        requires { (at ≤ end) × (end ≤ self.stop) }
+        ensures { FirstBefore self.entry.s.now self.entry.key.now at end result }
+    {
+        for i in at..end {
+            if self.stands(i) {
+                return Some(i);
+            }
+        }
+        None
+    }
+
+    // Whether the key stands in double quotes at a place. Keys are short: `==` calls a function, and was measured slower.
+    fn stands(self, at: usize) -> bool
+        requires { at < self.stop }
+        ensures { result ≡ prefix_of (quoted self.entry.key.now) (drop at self.entry.s.now) }
+    {
+        let (s, key) = (self.s, self.key);
+        let start = at + 1;
+        let closing = start + key.len();
+        (s[at] == b'"') & (s[closing] == b'"') && key.iter().eq(&s[start..closing])
+    }
+
+    // The pattern and the table of its shifts take 192 KiB of stack. A key that doesn't fit is tried at each place: no vector of an
+    // assembly has room for one.
+    fn find_far(self, at: usize) -> Option<usize>
+        requires { at ≤ self.stop }
+        ensures { result ≡ first_at (quoted self.entry.key.now) self.entry.s.now at }
+    {
+        let (s, key) = (self.s, self.key);
+        if MOST < key.len() {
+            return self.find_before(at, self.stop);
+        }
+        let mut pattern = [0u8; 65536];
+        put_quoted(&mut pattern, key);
+        kmp::find(s, &pattern[..key.len() + 2], at)
+    }
 }
 
 // The last byte of the key that is no quote, or the quote before the key.
 fn mark_of(key: &[u8]) -> Mark
     ensures { Marks key.now result }
 {
-    let other = last_other(key, 0, key.len());
-    match other {
-        Found::At(k) => Mark {
+    match last_other(key, 0, key.len()) {
+        Some(k) => Mark {
             place: k + 1,
             byte: key[k],
         },
-        Found::Nothing => Mark {
+        None => Mark {
             place: 0,
             byte: b'"',
         },
     }
 }
 
-// The first place of a key of quotes alone. It stands at no place whose window, as long as the key in double quotes, has another byte. No
-// byte is read more than twice.
-fn find_quotes(s: &[u8], key: &[u8], at: usize, stop: usize) -> Found
-    requires { (at ≤ stop) × (stop + length key.now + 1 ≡ length s.now)
-        × Quotes (quoted key.now) 0 (length key.now + 2) }
-    ensures { result ≡ first_at (quoted key.now) s.now at }
-{
-    let mut i = at;
-    while i < stop {
-        let end = i + key.len() + 2;
-        let other = last_other(s, i, end);
-        match other {
-            Found::At(j) => i = j + 1,
-            Found::Nothing => return Found::At(i),
-        }
-    }
-    Found::Nothing
-}
-
 // The last offset starting at an offset and before end at which no quote stands.
-fn last_other(s: &[u8], from: usize, end: usize) -> Found
+fn last_other(s: &[u8], from: usize, end: usize) -> Option<usize>
     requires { (from ≤ end) × (end ≤ length s.now) }
     ensures { Other s.now from end result }
 {
-    let mut k = quotes_start(s, from, end);
-    while from < k {
-        k -= 1;
-        if s[k] != b'"' {
-            return Found::At(k);
-        }
-    }
-    Found::Nothing
+    let quotes = quotes_start(s, from, end);
+    let k = s[from..quotes].iter().rposition(|c| *c != b'"')?;
+    Some(from + k)
 }
 
 // Quotes alone stand there and up to end: whole blocks of them are passed.
@@ -158,94 +206,20 @@ fn quotes_start(s: &[u8], from: usize, end: usize) -> usize
     requires { (from ≤ end) × (end ≤ length s.now) }
     ensures { (from ≤ result) × (result ≤ end) × Quotes s.now result end }
 {
-    let mut k = end;
-    while BLOCK <= k - from {
-        if has_other(s, k - BLOCK) {
-            return k;
-        }
-        k -= BLOCK;
-    }
-    k
+    let (_, blocks) = s[from..end].as_rchunks::<BLOCK>();
+    end - BLOCK * last_quotes(blocks)
 }
 
-// Whether a byte of a block is no quote. It has no branch.
-fn has_other(s: &[u8], at: usize) -> bool
-    requires { at + 16 ≤ length s.now }
-    ensures { result ≡ false → Quotes s.now at (at + 16) }
+// How many of the last blocks are of quotes alone.
+fn last_quotes(blocks: &[[u8; BLOCK]]) -> usize
+    ensures few { result ≤ length blocks.now }
+    ensures quotes { result ≡ suffix_len of_quotes blocks.now }
 {
-    let mut any = false;
-    let mut i: usize = 0;
-    while i < BLOCK {
-        any = either(any, s[at + i] != b'"');
-        i += 1;
-    }
-    any
-}
-
-// Whether the key agrees at one of the n places from a place on.
-fn any_agrees(s: &[u8], key: &[u8], mark: Mark, at: usize, n: usize) -> bool
-    requires { Room s.now key.now at (at + n) × Marks key.now mark }
-    ensures { result ≡ false → Skips (first_at (quoted key.now) s.now) at (at + n) }
-{
-    let mut hit = false;
-    let mut k: usize = 0;
-    while k < n {
-        hit = either(hit, agrees(s, key, mark, at + k));
-        k += 1;
-    }
-    hit
-}
-
-// Whether both quotes and the mark stand where they do if the key stands in double quotes at a place.
-fn agrees(s: &[u8], key: &[u8], mark: Mark, at: usize) -> bool
-    requires { Room s.now key.now at (at + 1) × Marks key.now mark }
-    ensures { prefix_of (quoted key.now) (drop at s.now) ≡ true → result ≡ true }
-{
-    let closing = at + (key.len() + 1);
-    let marked = at + mark.place;
-    let quotes = both(s[at] == b'"', s[closing] == b'"');
-    both(quotes, s[marked] == mark.byte)
-}
-
-// The first place before end at which the key stands in double quotes.
-fn quoted_before(s: &[u8], key: &[u8], at: usize, end: usize) -> Found
-    requires { Room s.now key.now at end }
-    ensures { FirstBefore s.now key.now at end result }
-{
-    for i in at..end {
-        if is_quoted_at(s, key, i) {
-            return Found::At(i);
-        }
-    }
-    Found::Nothing
-}
-
-// Whether a key stands in double quotes at a place that has room for it.
-fn is_quoted_at(s: &[u8], key: &[u8], at: usize) -> bool
-    requires { at + length key.now + 1 < length s.now }
-    ensures { result ≡ prefix_of (quoted key.now) (drop at s.now) }
-{
-    let start = at + 1;
-    let closing = start + key.len();
-    if both(s[at] == b'"', s[closing] == b'"') {
-        return search::starts_with(&s[start..closing], key, 0);
-    }
-    false
-}
-
-// The pattern and the table of its shifts take 192 KiB of stack. A key that doesn't fit is tried at each place: no vector of an assembly
-// has room for one.
-fn find_far(s: &[u8], key: &[u8], at: usize, stop: usize) -> Found
-    requires { (at ≤ stop) × (stop + length key.now + 1 ≡ length s.now) }
-    ensures { result ≡ first_at (quoted key.now) s.now at }
-{
-    if MOST < key.len() {
-        return quoted_before(s, key, at, stop);
-    }
-    let mut pattern = [0u8; 65536];
-    put_quoted(&mut pattern, key);
-    let n = key.len() + 2;
-    kmp::find(s, &pattern[..n], at)
+    blocks
+        .iter()
+        .rev()
+        .take_while(|block| **block == [b'"'; BLOCK])
+        .count()
 }
 
 // Writes a key in double quotes.
@@ -253,11 +227,8 @@ fn put_quoted(pattern: &mut [u8; 65536], key: &[u8])
     requires { (length key.now ≤ 65534) × (length pattern.old ≡ 65536) }
     ensures { Holds pattern.new key.now }
 {
+    let n = key.len();
     pattern[0] = b'"';
-    let mut k: usize = 0;
-    while k < key.len() {
-        pattern[k + 1] = key[k];
-        k += 1;
-    }
-    pattern[k + 1] = b'"';
+    pattern[1..n + 1].copy_from_slice(key);
+    pattern[n + 1] = b'"';
 }

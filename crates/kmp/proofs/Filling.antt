@@ -30,16 +30,6 @@ put p t n i e a f h s = record {
 up_to : (p t : List ℕ) (n m : ℕ) → n ≡ m → Table p t n → Table p t m
 up_to p t n m e a = rw e at a
 
-pub started : (p t : List ℕ) → length t ≡ 65536 → 0 < length p → Filling p (set t 1 1) 1 0
-started p t e h = record {
-  some = omega arith;
-  inside = omega arith;
-  here = empty p p 1 (1 + 0) (omega arith);
-  first = λ d l g. absurd (omega arith);
-  table = put p t 0 1 1 (record { size = e; shift = λ j l g. absurd (omega arith) }) refl (omega arith)
-      (record { some = omega arith; most = omega arith; agrees = empty p p 1 1 (omega arith); least = λ d l g. absurd (omega arith) });
-}
-
 module _ (p t : List ℕ) (c j : ℕ) (f : Filling p t c j) (in_p : c + j < length p) (short : length p < 65536) where
   pub matched : (i : ℕ) → i ≡ j + 1 → get_or p (c + j) 0 ≡ get_or p j 0 → Filling p (set t (c + i) c) c i
   matched i e q =

@@ -1,4 +1,5 @@
 -- The search while p walks over s.
+use Rattle.std.specs.Prelude.{Some, None}
 use Prim.Native.Nat.{ℕ, zero, suc, ◌+◌, ◌-◌, ◌<◌, ◌≤◌}
 use mathlib.Core.Path.{◌≡◌, refl, sym, ap, ◌∙◌}
 use mathlib.Core.List.{List}
@@ -7,7 +8,6 @@ use borrow.Author.Tests.{eqb-true}
 use native.Mathlib.Omega.{arith}
 use lib.ListN.{length, get_or, drop, drop_of_length-le}
 use Rattle.base.proofs.Tests.{by_bool, by_eqb}
-use Rattle.search.specs.declared.Found.TheVariants.{At, Nothing}
 use Rattle.search.specs.First.{prefix_of, first_at}
 use Rattle.search.proofs.Prefix.{same_at, each}
 use Rattle.search.proofs.Laws.{hit, miss, no_room}
@@ -48,26 +48,17 @@ module _ (p s : List ℕ) where
       let z : c + e + 1 ≡ c + suc e = omega arith in
       pass c e (λ d l. h d (omega arith)) ∙ miss p s (c + e) (h e (omega arith)) ∙ ap (first_at p s) z
 
-  pub started : (at : ℕ) → 0 < length p → at ≤ length s → Walking p s at at 0
-  started at h l = record { short = h; inside = omega arith; here = empty p s at (at + 0) (omega arith); same = refl }
-
   module _ (at c j : ℕ) (w : Walking p s at c j) where
     module _ (q : get_or s (c + j) 0 ≡ get_or p j 0) (in-s : c + j < length s) where
       one_more : (i : ℕ) → i ≡ j + 1 → Agrees p s c (c + i)
       one_more i e = longer p s c j (c + j) (c + i) refl (omega arith) q w.here
 
-      pub found : j + 1 ≡ length p → first_at p s at ≡ At c
+      pub found : j + 1 ≡ length p → first_at p s at ≡ Some c
       found e = w.same ∙ hit p s c (omega arith) (stands c (omega arith) (one_more (length p) (sym e)))
-
-      pub matched : (j + 1 ≡ length p → ⊥) → Walking p s at c (j + 1)
-      matched n = record { short = omega arith; inside = omega arith; here = one_more (j + 1) refl; same = w.same }
 
     module _ (q : get_or s (c + j) 0 ≡ get_or p j 0 → ⊥) (in-s : c + j < length s) where
       not_here : prefix_of p (drop c s) ≡ false
       not_here = nowhere c (c + j + 1) (omega arith) (differs p s c j (c + j) (c + j + 1) refl refl q)
-
-      pub moved : j ≡ 0 → Walking p s at (c + 1) j
-      moved e = record { short = w.short; inside = omega arith; here = empty p s (c + 1) (c + 1 + j) (omega arith); same = w.same ∙ miss p s c not_here }
 
       pub slid : (e : ℕ) → Shift p j e → Walking p s at (c + e) (j - e)
       slid e f =
@@ -82,5 +73,5 @@ module _ (p s : List ℕ) where
                 (λ z. nowhere (c + d) (c + j) (omega arith) (between p s c j e w.here f d (omega arith) l)));
           }
 
-    pub ended : length s ≤ c + j → first_at p s at ≡ Nothing
+    pub ended : length s ≤ c + j → first_at p s at ≡ None
     ended h = w.same ∙ no_room p s c (omega arith)

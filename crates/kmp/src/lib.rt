@@ -5,20 +5,17 @@ ghost use Rattle.std.specs.Prelude.{◌≡◌, ◌+◌, ◌<◌, ◌≤◌, leng
 ghost use Rattle.search.specs.First.{first_at};
 ghost use Rattle.kmp.specs.Code.Shift.{Table};
 
-use base::wide;
-use search::Found;
-
 // A longer pattern has no table.
 const MOST: usize = 65535;
 
-pub fn find(s: &[u8], p: &[u8], at: usize) -> Found
+pub fn find(s: &[u8], p: &[u8], at: usize) -> Option<usize>
     ensures { result ≡ first_at p.now s.now at }
 {
     if s.len() < at {
-        return Found::Nothing;
+        return None;
     }
-    if p.len() == 0 {
-        return Found::At(at);
+    if p.is_empty() {
+        return Some(at);
     }
     if MOST < p.len() {
         return search::find(s, p, at);
@@ -28,7 +25,7 @@ pub fn find(s: &[u8], p: &[u8], at: usize) -> Found
     walk(s, p, &shifts, at)
 }
 
-// The shift for each number of bytes from 1 up to the length of p: p walks over itself.
+// The shift for each number of bytes from 1 up to the length of p: p walks over itself. The steps vary, so the loop is a `while`.
 fn fill(p: &[u8], shifts: &mut [u16; 65536])
     requires { (0 < length p.now) × (length p.now < 65536) × (length shifts.old ≡ 65536) }
     ensures { Table p.now shifts.new (length p.now) }
@@ -44,15 +41,16 @@ fn fill(p: &[u8], shifts: &mut [u16; 65536])
             c += 1;
             shifts[c] = c as u16;
         } else {
-            let e = wide(shifts[j]);
+            let e = usize::from(shifts[j]);
             c += e;
             j -= e;
         }
     }
 }
 
-// At the place c the first j bytes of p stand. Where the next differs, p is shifted to the next place at which it may stand.
-fn walk(s: &[u8], p: &[u8], shifts: &[u16; 65536], at: usize) -> Found
+// At the place c the first j bytes of p stand. Where the next differs, p is shifted to the next place at which it may stand. The steps
+// vary, so the loop is a `while`.
+fn walk(s: &[u8], p: &[u8], shifts: &[u16; 65536], at: usize) -> Option<usize>
     requires p_nonzero { (0 < length p.now) × (length p.now < 65536) × (at ≤ length s.now) }
     requires table { Table p.now shifts.now (length p.now) }
     ensures { result ≡ first_at p.now s.now at }
@@ -63,15 +61,15 @@ fn walk(s: &[u8], p: &[u8], shifts: &[u16; 65536], at: usize) -> Found
         if s[c + j] == p[j] {
             j += 1;
             if j == p.len() {
-                return Found::At(c);
+                return Some(c);
             }
         } else if j == 0 {
             c += 1;
         } else {
-            let shift = wide(shifts[j]);
+            let shift = usize::from(shifts[j]);
             c += shift;
             j -= shift;
         }
     }
-    Found::Nothing
+    None
 }

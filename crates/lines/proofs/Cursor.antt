@@ -1,4 +1,5 @@
 -- Laws of the cursor: where a line ends, and that the lines are visited in order.
+use Rattle.std.specs.Prelude.{Option, Some, None, unwrap_or}
 use Prim.Native.Nat.{ℕ, zero, suc, ◌+◌, ◌-◌, ◌<◌, ◌≤◌}
 use mathlib.Core.Path.{◌≡◌, refl, sym, ap, ◌∙◌}
 use mathlib.Core.List.{List, [], ◌∷◌, ◌++◌}
@@ -11,16 +12,13 @@ use lib.Seq.{drop-drop, get_or-drop}
 use Rattle.base.specs.Code.Cursor.{visited, IsVisit}
 use Rattle.base.proofs.Cursor as cursor
 use Rattle.base.proofs.Tests.{choice, by_eqb, by_leb}
-use Rattle.search.specs.declared.Found.TheVariants.{At, Nothing}
 use Rattle.search.specs.First.{first_from}
 use Rattle.search.proofs.Prefix.{other}
 use Rattle.search.proofs.Laws.{from_miss, within}
 use Rattle.lines.specs.Lines.{front, feed_next, lines, feed_free}
 use Rattle.lines.specs.Cursor.{span, first_line, line_from, line_at}
-use Rattle.lines.specs.Code.Visits.{feed_from, place_or, head_of, visit_of_line, visit_line, IsLine}
+use Rattle.lines.specs.Code.Visits.{feed_from, head_of, visit_of_line, visit_line, IsLine}
 use Rattle.lines.specs.declared.Line.{Line}
-use Rattle.lines.specs.declared.Step.{Step}
-use Rattle.lines.specs.declared.Step.TheVariants.{Next, Done}
 use Rattle.lines.proofs.Laws.{lines_other, no_return, no_feed, by_start}
 use Rattle.lines.proofs.Written.{free_cons}
 
@@ -144,15 +142,15 @@ ends (a ∷ b ∷ s) (suc k) h n =
 search_other : (n a : ℕ) (s : List ℕ) → (a ≡ 10 → ⊥) → first_from n (10 ∷ []) (a ∷ s) ≡ first_from (n + 1) (10 ∷ []) s
 search_other n a s h = from_miss (10 ∷ []) n a s (other 10 a [] s (λ e. h (sym e)))
 
-search_hit : (n : ℕ) (s : List ℕ) → feed_at s < length s → first_from n (10 ∷ []) s ≡ At (n + feed_at s)
+search_hit : (n : ℕ) (s : List ℕ) → feed_at s < length s → first_from n (10 ∷ []) s ≡ Some (n + feed_at s)
 search_hit n [] h = absurd (omega arith)
 search_hit n (a ∷ s) h =
-    by_eqb a 10 (λ e. rw e (let z : n ≡ n + 0 = omega arith in ap At z))
+    by_eqb a 10 (λ e. rw e (let z : n ≡ n + 0 = omega arith in ap Some z))
     (λ g. let y = feed_other a s g in
     let z : n + 1 + feed_at s ≡ n + feed_at (a ∷ s) = omega arith in
-    search_other n a s g ∙ search_hit (n + 1) s (omega arith) ∙ ap At z)
+    search_other n a s g ∙ search_hit (n + 1) s (omega arith) ∙ ap Some z)
 
-search_miss : (n : ℕ) (s : List ℕ) → feed_at s ≡ length s → first_from n (10 ∷ []) s ≡ Nothing
+search_miss : (n : ℕ) (s : List ℕ) → feed_at s ≡ length s → first_from n (10 ∷ []) s ≡ None
 search_miss n [] h = refl
 search_miss n (a ∷ s) h =
     by_eqb a 10 (λ e. absurd (let z : feed_at (a ∷ s) ≡ 0 = rw e refl in omega arith))
@@ -163,8 +161,8 @@ feed_from_lem s at h =
     let n = length-drop at s in
     let m = feed_le (drop at s) in
     by_leb (suc (feed_at (drop at s))) (length (drop at s))
-    (λ g. ap (place_or (length s)) (within (10 ∷ []) s at h ∙ search_hit at (drop at s) g))
-    (λ g. ap (place_or (length s)) (within (10 ∷ []) s at h ∙ search_miss at (drop at s) (omega arith)) ∙ omega arith)
+    (λ g. ap (λ (r : Option ℕ). unwrap_or r (length s)) (within (10 ∷ []) s at h ∙ search_hit at (drop at s) g))
+    (λ g. ap (λ (r : Option ℕ). unwrap_or r (length s)) (within (10 ∷ []) s at h ∙ search_miss at (drop at s) (omega arith)) ∙ omega arith)
 
 pub feed_bounds : (s : List ℕ) (at : ℕ) → at ≤ length s → (at ≤ feed_from s at) × (feed_from s at ≤ length s)
 feed_bounds s at h =
@@ -233,11 +231,11 @@ module _ (s : List ℕ) (at : ℕ) (h : at < length s) where
 
 -- the line at a place
 module _ (s : List ℕ) (at : ℕ) where
-  pub line_here : at < length s → line_at s at ≡ Next (line_from s at)
-  line_here h = choice (ltb at (length s)) (Next (line_from s at)) Done ∙ ap (λ (b : Bool). cond b (Next (line_from s at)) Done) (lt-ltb at (length s) h)
+  pub line_here : at < length s → line_at s at ≡ Some (line_from s at)
+  line_here h = choice (ltb at (length s)) (Some (line_from s at)) None ∙ ap (λ (b : Bool). cond b (Some (line_from s at)) None) (lt-ltb at (length s) h)
 
-  pub line_done : length s ≤ at → line_at s at ≡ Done
-  line_done h = choice (ltb at (length s)) (Next (line_from s at)) Done ∙ ap (λ (b : Bool). cond b (Next (line_from s at)) Done) (le-ltb at (length s) h)
+  pub line_done : length s ≤ at → line_at s at ≡ None
+  line_done h = choice (ltb at (length s)) (Some (line_from s at)) None ∙ ap (λ (b : Bool). cond b (Some (line_from s at)) None) (le-ltb at (length s) h)
 
   here_is : at < length s → IsLine s at (line_from s at)
   here_is h =
@@ -258,28 +256,28 @@ module _ (s : List ℕ) (at : ℕ) where
             ∙ ap (λ (l : List ℕ). take (at + length (first_line (drop at s)) - at) (drop at s) ∷ lines l) (drop-drop (span (drop at s)) at s);
       }
 
-  pub step_line : (l : Line) → line_at s at ≡ Next l → IsLine s at l
+  pub step_line : (l : Line) → line_at s at ≡ Some l → IsLine s at l
   step_line l e = by_leb (suc at) (length s) (λ h. let z : l ≡ line_from s at = same (line_here h) in rw z (here_is h)) (λ h. absurd (none (line_done (omega arith))))
     where
-      same : line_at s at ≡ Next (line_from s at) → l ≡ line_from s at
+      same : line_at s at ≡ Some (line_from s at) → l ≡ line_from s at
       same p = cc
 
-      none : line_at s at ≡ Done → ⊥
+      none : line_at s at ≡ None → ⊥
       none p = let z : ◌≡◌ {A = ℕ} 0 1 = cc in omega arith
 
-  pub step_done : line_at s at ≡ Done → lines (drop at s) ≡ []
+  pub step_done : line_at s at ≡ None → lines (drop at s) ≡ []
   step_done e = by_leb (suc at) (length s) (λ h. absurd (some (line_here h))) (λ h. ap lines (drop_of_length-le s {i = at} (omega arith)))
     where
-      some : line_at s at ≡ Next (line_from s at) → ⊥
+      some : line_at s at ≡ Some (line_from s at) → ⊥
       some p = let z : ◌≡◌ {A = ℕ} 0 1 = cc in omega arith
 
 -- a cursor visits the lines in order
 is_visit : (s : List ℕ) (at : ℕ) → IsVisit (λ i. lines (drop i s)) at (visit_line s at)
 is_visit s at = go (line_at s at) refl
   where
-    go : (x : Step) → line_at s at ≡ x → IsVisit (λ i. lines (drop i s)) at (visit_of_line s x)
-    go (Next l) e = let i = step_line s at l e in (i.on, rw i.starts i.is)
-    go Done e = step_done s at e
+    go : (x : Option Line) → line_at s at ≡ x → IsVisit (λ i. lines (drop i s)) at (visit_of_line s x)
+    go (Some l) e = let i = step_line s at l e in (i.on, rw i.starts i.is)
+    go None e = step_done s at e
 
 pub in_order : (s : List ℕ) → visited (visit_line s) (length s) 0 ≡ lines s
 in_order s = cursor.in_order (visit_line s) (λ i. lines (drop i s)) (length s) (is_visit s) (λ at h. ap lines (drop_of_length-le s {i = at} h))

@@ -1,9 +1,9 @@
 -- The documentation of `str::lines`, its examples and its corners.
+use Rattle.std.specs.Prelude.{Some, None}
 use mathlib.Core.Path.{◌≡◌, refl}
 use mathlib.Core.List.{[], ◌∷◌}
 use Rattle.lines.specs.Lines.{lines}
 use Rattle.lines.specs.Cursor.{line_at}
-use Rattle.lines.specs.declared.Step.TheVariants.{Next, Done}
 
 -- "foo\r\nbar\n\nbaz\r"
 foo : lines (102 ∷ 111 ∷ 111 ∷ 13 ∷ 10 ∷ 98 ∷ 97 ∷ 114 ∷ 10 ∷ 10 ∷ 98 ∷ 97 ∷ 122 ∷ 13 ∷ []) ≡ (102 ∷ 111 ∷ 111 ∷ []) ∷ (98 ∷ 97 ∷ 114 ∷ []) ∷ [] ∷ (98 ∷ 97 ∷ 122 ∷ 13 ∷ []) ∷ []
@@ -24,11 +24,11 @@ alone : lines (13 ∷ 97 ∷ []) ≡ (13 ∷ 97 ∷ []) ∷ []
 alone = refl
 
 -- "a\r\nb" from its start, from its second line and from its end
-first : line_at (97 ∷ 13 ∷ 10 ∷ 98 ∷ []) 0 ≡ Next (record { start = 0; end = 1; next = 3 })
+first : line_at (97 ∷ 13 ∷ 10 ∷ 98 ∷ []) 0 ≡ Some (record { start = 0; end = 1; next = 3 })
 first = refl
 
-second : line_at (97 ∷ 13 ∷ 10 ∷ 98 ∷ []) 3 ≡ Next (record { start = 3; end = 4; next = 4 })
+second : line_at (97 ∷ 13 ∷ 10 ∷ 98 ∷ []) 3 ≡ Some (record { start = 3; end = 4; next = 4 })
 second = refl
 
-done : line_at (97 ∷ 13 ∷ 10 ∷ 98 ∷ []) 4 ≡ Done
+done : line_at (97 ∷ 13 ∷ 10 ∷ 98 ∷ []) 4 ≡ None
 done = refl

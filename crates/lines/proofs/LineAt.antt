@@ -1,4 +1,5 @@
 -- Laws of the line at an offset: what it is, and that there is none behind the text.
+use Rattle.std.specs.Prelude.{Some, None}
 use Prim.Native.Nat.{ℕ, suc, ◌+◌, ◌-◌, ◌<◌, ◌≤◌}
 use mathlib.Core.Path.{◌≡◌, sym, ap, ◌∙◌}
 use mathlib.Core.List.{List, [], ◌∷◌}
@@ -9,29 +10,28 @@ use Rattle.lines.specs.Lines.{lines}
 use Rattle.lines.specs.Cursor.{span, first_line, line_from, line_at}
 use Rattle.lines.specs.Code.Visits.{head_of}
 use Rattle.lines.specs.declared.Line.{Line}
-use Rattle.lines.specs.declared.Step.TheVariants.{Next, Done}
 use Rattle.lines.proofs.Cursor.{line_here, line_done, step_line}
 
 module _ (text : List ℕ) (at : ℕ) where
-  pub is_from : (l : Line) → line_at text at ≡ Next l → l ≡ line_from text at
+  pub is_from : (l : Line) → line_at text at ≡ Some l → l ≡ line_from text at
   is_from l e = by_leb (suc at) (length text) (λ h. here (line_here text at h)) (λ h. absurd (none (line_done text at (omega arith))))
     where
-      here : line_at text at ≡ Next (line_from text at) → l ≡ line_from text at
+      here : line_at text at ≡ Some (line_from text at) → l ≡ line_from text at
       here p = cc
 
-      none : line_at text at ≡ Done → ⊥
+      none : line_at text at ≡ None → ⊥
       none p = let z : ◌≡◌ {A = ℕ} 0 1 = cc in omega arith
 
-  pub is_past : line_at text at ≡ Done → length text ≤ at
+  pub is_past : line_at text at ≡ None → length text ≤ at
   is_past e = by_leb (length text) at (λ h. h) (λ h. absurd (some (line_here text at h)))
     where
-      some : line_at text at ≡ Next (line_from text at) → ⊥
+      some : line_at text at ≡ Some (line_from text at) → ⊥
       some p = let z : ◌≡◌ {A = ℕ} 0 1 = cc in omega arith
 
   pub past : length text ≤ at → drop at text ≡ []
   past h = drop_of_length-le text {i = at} h
 
-  pub first_is : (l : Line) → line_at text at ≡ Next l → first_line (drop at text) ≡ take (l.end - at) (drop at text)
+  pub first_is : (l : Line) → line_at text at ≡ Some l → first_line (drop at text) ≡ take (l.end - at) (drop at text)
   first_is l e = ap head_of (step_line text at l e).is
 
 -- the lines from a place within the text on

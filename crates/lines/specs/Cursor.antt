@@ -1,9 +1,8 @@
 -- Where the line that starts at an offset ends, and where the next one starts.
+use Rattle.std.specs.Prelude.{Option, Some, None}
 use Rattle.std.specs.Prelude.{ℕ, suc, ◌+◌, List, [], ◌∷◌, true, false, eqb, ltb, length, get_or, drop}
 use Rattle.lines.specs.Lines.{lines}
 use Rattle.lines.specs.declared.Line.{Line}
-use Rattle.lines.specs.declared.Step.{Step}
-use Rattle.lines.specs.declared.Step.TheVariants.{Next, Done}
 
 -- how many bytes the first line takes with its ending
 abbrev pub span : List ℕ → ℕ
@@ -18,5 +17,5 @@ abbrev pub line_from : List ℕ → ℕ → Line
 line_from s at = record { start = at; end = at + length (first_line (drop at s)); next = at + span (drop at s) }
 
 -- the line that starts at an offset; at the end of the text and past it there is none
-abbrev pub line_at : List ℕ → ℕ → Step
-line_at s at = elim (ltb at (length s)) [ true ↦ Next (line_from s at) | false ↦ Done ]
+abbrev pub line_at : List ℕ → ℕ → Option Line
+line_at s at = elim (ltb at (length s)) [ true ↦ Some (line_from s at) | false ↦ None ]

@@ -5,8 +5,6 @@ ghost use Rattle.std.specs.Prelude.{◌≡◌, ◌+◌, ◌<◌, ◌≤◌, leng
 ghost use Rattle.lines.specs.Cursor.{line_at, first_line};
 ghost use Rattle.lines.specs.Code.Visits.{feed_from};
 
-use search::Found;
-
 // A line's text stands from start to end; the line after it starts at next.
 #[derive(Clone, Copy)]
 pub struct Line {
@@ -15,31 +13,24 @@ pub struct Line {
     pub next: usize,
 }
 
-#[derive(Clone, Copy)]
-pub enum Step {
-    Next(Line),
-    Done,
-}
-
 // The line that starts at an offset. The first one starts at 0, each other where the one before says.
-pub fn line_at(s: &[u8], at: usize) -> Step
+pub fn line_at(s: &[u8], at: usize) -> Option<Line>
     ensures { result ≡ line_at s.now at }
 {
     if s.len() <= at {
-        return Step::Done;
+        return None;
     }
     let feed = line_feed(s, at);
     if feed == s.len() {
-        return Step::Next(Line {
+        return Some(Line {
             start: at,
             end: feed,
             next: feed,
         });
     }
-    let end = before_return(s, at, feed);
-    Step::Next(Line {
+    Some(Line {
         start: at,
-        end,
+        end: before_return(s, at, feed),
         next: feed + 1,
     })
 }
@@ -48,11 +39,7 @@ pub fn line_at(s: &[u8], at: usize) -> Step
 pub fn line_feed(s: &[u8], at: usize) -> usize
     ensures { result ≡ feed_from s.now at }
 {
-    let found = search::find_far_byte(s, b'\n', at);
-    match found {
-        Found::At(i) => i,
-        Found::Nothing => s.len(),
-    }
+    search::find_far_byte(s, b'\n', at).unwrap_or(s.len())
 }
 
 // Where the line ends that a line feed ends: a carriage return right before that is left out.
@@ -60,11 +47,9 @@ fn before_return(s: &[u8], at: usize, feed: usize) -> usize
     requires { (at ≤ feed) × ((feed < length s.now) × (feed ≡ feed_from s.now at)) }
     ensures { result ≡ at + length (first_line (drop at s.now)) }
 {
-    if feed == at {
-        return feed;
+    if at < feed && s[feed - 1] == b'\r' {
+        feed - 1
+    } else {
+        feed
     }
-    if s[feed - 1] == b'\r' {
-        return feed - 1;
-    }
-    feed
 }

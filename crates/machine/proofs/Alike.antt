@@ -1,7 +1,7 @@
 -- Runs from related storages go alike, where every operation of the program respects the relation.
 use Rattle.std.proofs.Common.{◌≡◌, ℕ, zero, suc, ◌+◌, ◌-◌, ◌<◌, ◌≤◌, Bool, true, false, cond, ltb, List, [], ◌∷◌, length, get_or, refl, subst, arith}
 use native.Mathlib.Decide.{dec_lt}
-use mathlib.Core.Option.{Option, some, none}
+use Rattle.std.specs.Prelude.{Option, Some, None}
 use Rattle.word.specs.Apply.{Binary, add, sub, mul, div, eq, lt, apply}
 use Rattle.kinds.specs.Kinds.{Operation, operation}
 use Rattle.kinds.proofs.ByKind.{Span, end, ◌&◌, span}
@@ -32,8 +32,8 @@ module _ (R : List ℕ → List ℕ → Type 0) where
     same_push v s = same_cond (ltb (length s) 4096) (moves (v ∷ s) m) (fails stack_limit_exceeded) (moves (v ∷ s) m') (fails stack_limit_exceeded) (m', refl, r) refl
 
     same_value : (o : Option ℕ) (s : List ℕ) → SameEffect (result_of o s m) (result_of o s m')
-    same_value none s = refl
-    same_value (some v) s = (m', refl, r)
+    same_value None s = refl
+    same_value (Some v) s = (m', refl, r)
 
     same_two : (o : Binary) (s : List ℕ) → SameEffect (binop_of o s m) (binop_of o s m')
     same_two o [] = refl

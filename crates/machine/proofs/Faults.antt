@@ -1,7 +1,7 @@
 -- How a run is refused: with 46 only where the gas that is left is less than the price.
 use Rattle.std.proofs.Common.{ℕ, zero, suc, ◌+◌, ◌-◌, ◌<◌, ◌≤◌, Bool, true, false, cond, ltb, List, [], ◌∷◌, length, get_or, arith}
 use native.Mathlib.Decide.{dec_lt}
-use mathlib.Core.Option.{Option, some, none}
+use Rattle.std.specs.Prelude.{Option, Some, None}
 use Rattle.word.specs.Apply.{Binary, add, sub, mul, div, eq, lt, apply}
 use Rattle.kinds.specs.Kinds.{Operation, operation}
 use Rattle.kinds.proofs.ByKind.{Span, end, ◌&◌, span}
@@ -29,8 +29,8 @@ other_push : (v : ℕ) (s m : List ℕ) → Other (push_of v s m)
 other_push v s m = other_cond (ltb (length s) 4096) (moves (v ∷ s) m) (fails stack_limit_exceeded) tt tt
 
 other_value : (o : Option ℕ) (s m : List ℕ) → Other (result_of o s m)
-other_value none s m = tt
-other_value (some v) s m = tt
+other_value None s m = tt
+other_value (Some v) s m = tt
 
 other_two : (o : Binary) (s m : List ℕ) → Other (binop_of o s m)
 other_two o [] m = tt

@@ -2,10 +2,8 @@
 use Rattle.std.proofs.Common.{◌≡◌, ℕ, zero, suc, ◌<◌, ◌≤◌, List, [], ◌∷◌, length, get_or, refl, ap, subst, arith}
 use native.Mathlib.Decide.{ℕ_discrete}
 use lib.ListN.{get_or-eq_default}
-use Rattle.word.specs.Apply.{lt}
 use Rattle.kinds.specs.Kinds.{operation}
 use Rattle.machine.specs.Machine.{effects, Effect, ends, effect_of, halt, decode}
-use Rattle.machine.specs.Code.Registers.{binop_of_kind}
 
 abbrev pub halt_of : List ℕ → List ℕ → Effect
 halt_of s m = ends
@@ -17,20 +15,6 @@ effect_high c room k v h = go (ℕ_discrete 15 k)
     go : Dec (15 ≡ k) → effect_of c room (operation k v) ≡ halt_of
     go (yes e) = subst (λ (j : ℕ). effect_of c room (operation j v) ≡ halt_of) e refl
     go (no ne) = get_or-eq_default (effects c room v) halt_of {n = k} (omega arith)
-
--- a kind that is none of the five is taken for Lt
-pub other_lt : (k : ℕ) → (k ≡ 1 → ⊥) → (k ≡ 2 → ⊥) → (k ≡ 3 → ⊥) → (k ≡ 4 → ⊥) → (k ≡ 9 → ⊥) → binop_of_kind k ≡ lt
-other_lt zero a b c d e = refl
-other_lt (suc zero) a b c d e = absurd (a refl)
-other_lt (suc (suc zero)) a b c d e = absurd (b refl)
-other_lt (suc (suc (suc zero))) a b c d e = absurd (c refl)
-other_lt (suc (suc (suc (suc zero)))) a b c d e = absurd (d refl)
-other_lt (suc (suc (suc (suc (suc zero))))) a b c d e = refl
-other_lt (suc (suc (suc (suc (suc (suc zero)))))) a b c d e = refl
-other_lt (suc (suc (suc (suc (suc (suc (suc zero))))))) a b c d e = refl
-other_lt (suc (suc (suc (suc (suc (suc (suc (suc zero)))))))) a b c d e = refl
-other_lt (suc (suc (suc (suc (suc (suc (suc (suc (suc zero))))))))) a b c d e = absurd (e refl)
-other_lt (suc (suc (suc (suc (suc (suc (suc (suc (suc (suc k)))))))))) a b c d e = refl
 
 -- the decoded program, place by place
 pub decode-length : (ks vs : List ℕ) → length ks ≡ length vs → length (decode ks vs) ≡ length ks

@@ -1,27 +1,13 @@
 -- The storage in the work buffer: zeros from a place on, and a store at a slot.
-use Rattle.std.proofs.Common.{◌≡◌, ℕ, suc, ◌+◌, ◌-◌, ◌<◌, ◌≤◌, true, false, ltb, List, [], ◌∷◌, ◌++◌, length, get_or, take, drop, set, replicate, sym, refl, ap, append_assoc, add-one, arith, length-append, take-append-drop, length-take, length-take-le, drop-cons, le-ltb, lt-ltb}
-use lib.ListN.{length-replicate, replicate-append-replicate}
+use Rattle.std.proofs.Common.{◌≡◌, ℕ, suc, ◌+◌, ◌-◌, ◌<◌, ◌≤◌, true, false, ltb, List, [], ◌∷◌, ◌++◌, length, get_or, take, drop, set, replicate, refl, ap, append_assoc, add-one, arith, length-append, length-take-le, drop-cons, le-ltb, lt-ltb}
+use lib.ListN.{length-replicate}
+use borrow.Rule.Slice.PartMut.{put_mid, Post-is}
 use lib.Seq.{set_at, take-set-lt}
 use Rattle.machine.specs.Machine.{store_at}
 
--- a loop that writes zeros from a on
-pub fill_none : (a : ℕ) (l : List ℕ) → l ≡ take a l ++ (replicate (a - a) 0 ++ drop a l)
-fill_none a l = let e : a - a ≡ 0 = omega arith in rw e (sym (take-append-drop a l))
-
-pub fill_one : (a i : ℕ) (l : List ℕ) → a ≤ i → i < length l → set (take a l ++ (replicate (i - a) 0 ++ drop i l)) i 0 ≡ take a l ++ (replicate (i + 1 - a) 0 ++ drop (i + 1) l)
-fill_one a i l h k =
-    let n : length (take a l ++ replicate (i - a) 0) ≡ i = simp (length-append, length-replicate, length-take) (omega arith) in
-    let e : i + 1 - a ≡ (i - a) + 1 = omega arith in
-    rw (
-      e,
-      drop-cons l i 0 k,
-      ← append_assoc,
-      set_at (take a l ++ replicate (i - a) 0) (get_or l i 0) (drop (suc i) l) 0 i n,
-      ← replicate-append-replicate {A = ℕ} (i - a) 1 0,
-      add-one,
-      append_assoc,
-      append_assoc,
-    )
+-- a buffer that is filled with zeros from a up to e
+pub filled : (a e : ℕ) (l z : List ℕ) → a ≤ e → z ≡ replicate (e - a) 0 → put_mid a (e - a) l z ≡ take a l ++ (replicate (e - a) 0 ++ drop e l)
+filled a e l z h q = rw (q, Post-is a e l h)
 
 take_snoc : (xs ys : List ℕ) (v n : ℕ) → length xs ≡ n → take (suc n) (xs ++ (v ∷ ys)) ≡ xs ++ (v ∷ [])
 take_snoc xs ys v n e = rw (← e) (go xs)

@@ -1,7 +1,7 @@
 -- The machine: what an operation does, what it costs, and a run of at most n operations.
 -- Gas stands beside the frame, so that nothing an operation does can look at it.
 use Rattle.std.specs.Prelude.{ℕ, zero, suc, ◌+◌, ◌-◌, ◌^◌, min, Bool, cond, not, List, [], ◌∷◌, ◌++◌, length, replicate, ◌==◌, nat_eq, nat_lt, slice_index, slice_index_or, slice_set}
-use Rattle.std.proofs.Math.Option.{Option, some, none}
+use Rattle.std.specs.Prelude.{Option, Some, None}
 use Rattle.word.specs.Apply.{Binary, add, sub, mul, div, eq, lt, apply}
 use Rattle.kinds.specs.Kinds.{Operation, operation, kind_of}
 
@@ -54,8 +54,8 @@ abbrev pub push_of : ℕ → List ℕ → List ℕ → Effect
 push_of v s m = cond (nat_lt (length s) 4096) (moves (v ∷ s) m) (fails stack_limit_exceeded)
 
 abbrev pub result_of : Option ℕ → List ℕ → List ℕ → Effect
-result_of none s m = fails division_by_zero
-result_of (some v) s m = moves (v ∷ s) m
+result_of None s m = fails division_by_zero
+result_of (Some v) s m = moves (v ∷ s) m
 
 abbrev pub binop_of : Binary → List ℕ → List ℕ → Effect
 binop_of o [] m = fails stack_underflow

@@ -5,8 +5,25 @@ pub mod operations;
 pub mod price;
 pub mod registers;
 
-// Code 0 runs on, 1 has ended well, and 46 to 51 are document 01's refusals. The note is the price
-// of 46 and what 50 carries.
+// Why a run is refused: refusals 46 to 51 of document 01, with what each carries.
+#[derive(Clone, Copy, Debug, PartialEq, Eq)]
+pub enum Refusal {
+    OutOfGas { price: u64, left: u64 },
+    StackUnderflow,
+    StackLimitExceeded,
+    DivisionByZero,
+    StorageLimitExceeded(u64),
+    OutsideStorage,
+}
+
+// Three states, each with a name: an Option of a Result is no plainer.
+#[derive(Clone, Copy, Debug, PartialEq, Eq)]
+pub enum Status {
+    Going,
+    Ended,
+    Refused(Refusal),
+}
+
 #[derive(Clone, Copy)]
 pub struct Regs {
     pub pos: usize,
@@ -14,6 +31,5 @@ pub struct Regs {
     pub items: usize,
     pub used: usize,
     pub ops: u64,
-    pub code: u64,
-    pub note: u64,
+    pub status: Status,
 }

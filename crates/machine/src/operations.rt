@@ -1,13 +1,14 @@
 // What each operation does once its price is taken. The loop of crate `metered` calls these, and its registers
-// are always ready for one operation more. What a contract leaves free is named at `RefinesEffect`.
-ghost use Rattle.std.specs.Prelude.{◌≡◌, ℕ, ◌+◌, ◌-◌, ◌^◌, ◌<◌, ◌≤◌, min, not, List, ◌++◌, length, take, drop, replicate, ◌==◌, nat_eq};
-ghost use Rattle.std.proofs.Math.Option.{some};
-ghost use Rattle.word.specs.Apply.{apply as applyOf};
+// are always ready for one operation more, which `CanStep` says of them and of the stack buffer: C lends that, so no struct holds both.
+// What a contract leaves free is named at `RefinesEffect`.
+ghost use Rattle.std.specs.Prelude.{◌≡◌, ℕ, ◌+◌, ◌-◌, ◌^◌, ◌<◌, ◌≤◌, min, not, Bool, List, length, ◌==◌, nat_eq};
+ghost use Rattle.word.specs.Operator.{binary_of};
 ghost use Rattle.machine.specs.Machine.{jumps, push_of, binop_of, dup_of, swap_of, jump_if_of, load_of, store_of};
-ghost use Rattle.machine.specs.Code.Registers.{CanStep, RefinesEffect, RefinesOnStack, binop_of_kind, gone_on};
+ghost use Rattle.machine.specs.Code.Registers.{CanStep, RefinesEffect, RefinesOnStack, gone_on};
 
-use super::{Regs, registers};
+use super::{Refusal, Regs, Status, registers};
 use kinds::{MAX_STACK_ITEMS, MAX_STORAGE_SLOTS};
+use word::Operator;
 
 pub fn push(stack: &mut [u64], r: Regs, v: u64) -> Regs
     requires { CanStep r (length stack.old) }
@@ -15,44 +16,30 @@ pub fn push(stack: &mut [u64], r: Regs, v: u64) -> Regs
 {
     let n = r.items;
     if n >= MAX_STACK_ITEMS {
-        return registers::stop(r, 48, 0);
+        return registers::stop(r, Refusal::StackLimitExceeded);
     }
     stack[n] = v;
     go_on(r, r.pos + 1, n + 1, r.used)
 }
 
-// The two-sided operation of a kind: the Rust's closures, as a choice.
-fn apply(kind: u8, a: u64, b: u64) -> u64
-    requires { kind ≡ 4 → 1 ≤ b }
-    ensures { some result ≡ applyOf (binop_of_kind kind) a b }
-{
-    match kind {
-        1 => std::num::wrapping_add_u64(a, b),
-        2 => std::num::wrapping_sub_u64(a, b),
-        3 => word::wrapping_mul(a, b),
-        4 => a / b,
-        9 => { if a == b { 1 } else { 0 } }
-        _ => { if a < b { 1 } else { 0 } }
-    }
-}
-
-pub fn binop(stack: &mut [u64], r: Regs, kind: u8) -> Regs
+// An operator stands for the Rust's closures. Its type has the six operations once, for the assembler's expressions too.
+pub fn binop(stack: &mut [u64], r: Regs, operator: Operator) -> Regs
     requires { CanStep r (length stack.old) }
-    ensures { RefinesOnStack (r.pos + 1) (binop_of (binop_of_kind kind)) r result stack.old stack.new }
+    ensures { RefinesOnStack (r.pos + 1) (binop_of (binary_of operator)) r result stack.old stack.new }
 {
     let n = r.items;
     if n < 2 {
-        return registers::stop(r, 47, 0);
+        return registers::stop(r, Refusal::StackUnderflow);
     }
     let b = stack[n - 1];
     let a = stack[n - 2];
-    if kind == 4 {
-        if b == 0 {
-            return registers::stop(r, 49, 0);
+    match operator.apply(a, b) {
+        None => registers::stop(r, Refusal::DivisionByZero),
+        Some(value) => {
+            stack[n - 2] = value;
+            go_on(r, r.pos + 1, n - 1, r.used)
         }
     }
-    stack[n - 2] = apply(kind, a, b);
-    go_on(r, r.pos + 1, n - 1, r.used)
 }
 
 pub fn dup(stack: &mut [u64], r: Regs) -> Regs
@@ -61,7 +48,7 @@ pub fn dup(stack: &mut [u64], r: Regs) -> Regs
 {
     let n = r.items;
     if n < 1 {
-        return registers::stop(r, 47, 0);
+        return registers::stop(r, Refusal::StackUnderflow);
     }
     let v = stack[n - 1];
     push(stack, r, v)
@@ -73,7 +60,7 @@ pub fn swap(stack: &mut [u64], r: Regs) -> Regs
 {
     let n = r.items;
     if n < 2 {
-        return registers::stop(r, 47, 0);
+        return registers::stop(r, Refusal::StackUnderflow);
     }
     let b = stack[n - 1];
     let a = stack[n - 2];
@@ -94,28 +81,31 @@ pub fn jump_if_zero(stack: &[u64], r: Regs, t: u64) -> Regs
     requires { CanStep r (length stack.now) }
     ensures { RefinesOnStack 0 (jump_if_of (λ x. nat_eq x 0) t) r result stack.now stack.now }
 {
-    let n = r.items;
-    if n < 1 {
-        return registers::stop(r, 47, 0);
-    }
-    if stack[n - 1] == 0 {
-        return go_on(r, t as usize, n - 1, r.used);
-    }
-    go_on(r, r.pos + 1, n - 1, r.used)
+    jump_if(stack, r, t, |item| item == 0)
 }
 
 pub fn jump_if_not_zero(stack: &[u64], r: Regs, t: u64) -> Regs
     requires { CanStep r (length stack.now) }
     ensures { RefinesOnStack 0 (jump_if_of (λ x. not (x == 0)) t) r result stack.now stack.now }
 {
+    jump_if(stack, r, t, |item| item != 0)
+}
+
+// A jump where a test of the popped item holds.
+fn jump_if<F: Fn(u64) -> bool>(stack: &[u64], r: Regs, t: u64, test: F) -> Regs
+    requires can_step { CanStep r (length stack.now) }
+    requires callable { F.IsAlwaysCallable test }
+    ensures { (p : ℕ → Bool) → ((x : ℕ) (b : Bool) → F.post test x b → b ≡ p x)
+        → RefinesOnStack 0 (jump_if_of p t) r result stack.now stack.now }
+{
     let n = r.items;
     if n < 1 {
-        return registers::stop(r, 47, 0);
+        return registers::stop(r, Refusal::StackUnderflow);
     }
-    if stack[n - 1] == 0 {
-        return go_on(r, r.pos + 1, n - 1, r.used);
+    if test(stack[n - 1]) {
+        return go_on(r, t as usize, n - 1, r.used);
     }
-    go_on(r, t as usize, n - 1, r.used)
+    go_on(r, r.pos + 1, n - 1, r.used)
 }
 
 pub fn load(stack: &mut [u64], work: &[u64], r: Regs, slot: u64) -> Regs
@@ -140,22 +130,22 @@ pub fn store(stack: &[u64], work: &mut [u64], r: Regs, slot: u64) -> Regs
 {
     let n = r.items;
     if n < 1 {
-        return registers::stop(r, 47, 0);
+        return registers::stop(r, Refusal::StackUnderflow);
     }
     let v = stack[n - 1];
     if slot >= MAX_STORAGE_SLOTS as u64 {
-        return registers::stop(r, 50, requested(slot));
+        return registers::stop(r, Refusal::StorageLimitExceeded(requested(slot)));
     }
     let at = slot as usize;
     let used = r.used;
     if at >= work.len() {
-        return registers::stop(r, 51, 0);
+        return registers::stop(r, Refusal::OutsideStorage);
     }
     if at < used {
         work[at] = v;
         return go_on(r, r.pos + 1, n - 1, used);
     }
-    zero_out(work, used, at);
+    work[used..at].fill(0);
     work[at] = v;
     go_on(r, r.pos + 1, n - 1, at + 1)
 }
@@ -167,12 +157,11 @@ fn go_on(r: Regs, pos: usize, items: usize, used: usize) -> Regs
 {
     Regs {
         pos,
-        gas: r.gas,
         items,
         used,
         ops: r.ops + 1,
-        code: 0,
-        note: 0,
+        status: Status::Going,
+        ..r
     }
 }
 
@@ -180,20 +169,5 @@ fn go_on(r: Regs, pos: usize, items: usize, used: usize) -> Regs
 fn requested(slot: u64) -> u64
     ensures { result ≡ min (slot + 1) (2 ^ 64 - 1) }
 {
-    if slot < 18446744073709551615 {
-        return slot + 1;
-    }
-    slot
-}
-
-// Zeros from `a` up to `e`.
-pub fn zero_out(s: &mut [u64], a: usize, e: usize)
-    requires { (a ≤ e) × (e ≤ length s.old) }
-    ensures { s.new ≡ take a s.old ++ (replicate (e - a) 0 ++ drop e s.old) }
-{
-    let mut i = a;
-    while i < e {
-        s[i] = 0;
-        i += 1;
-    }
+    slot.saturating_add(1)
 }

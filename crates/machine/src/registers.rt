@@ -3,20 +3,15 @@
 ghost use Rattle.std.specs.Prelude.{◌≡◌, ◌≤◌};
 ghost use Rattle.machine.specs.Code.Registers.{ended, stopped, paid};
 
-use super::Regs;
+use super::{Refusal, Regs, Status};
 
 pub fn pay(r: Regs, price: u64) -> Regs
     requires { price ≤ r.gas }
     ensures { result ≡ paid r price }
 {
     Regs {
-        pos: r.pos,
         gas: r.gas - price,
-        items: r.items,
-        used: r.used,
-        ops: r.ops,
-        code: r.code,
-        note: r.note,
+        ..r
     }
 }
 
@@ -24,26 +19,17 @@ pub fn end(r: Regs, ops: u64) -> Regs
     ensures { result ≡ ended r ops }
 {
     Regs {
-        pos: r.pos,
-        gas: r.gas,
-        items: r.items,
-        used: r.used,
         ops,
-        code: 1,
-        note: 0,
+        status: Status::Ended,
+        ..r
     }
 }
 
-pub fn stop(r: Regs, code: u64, note: u64) -> Regs
-    ensures { result ≡ stopped r code note }
+pub fn stop(r: Regs, why: Refusal) -> Regs
+    ensures { result ≡ stopped r why }
 {
     Regs {
-        pos: r.pos,
-        gas: r.gas,
-        items: r.items,
-        used: r.used,
-        ops: r.ops,
-        code,
-        note,
+        status: Status::Refused(why),
+        ..r
     }
 }

@@ -1,14 +1,16 @@
 -- The turns of the loop against the definition of a run.
 use Prim.Native.Nat.{ℕ, zero, suc, ◌≤◌, ◌<◌}
 use native.Mathlib.Omega.{arith}
-use mathlib.Core.Path.{◌≡◌, sym, ap, ◌∙◌}
+use mathlib.Core.Path.{◌≡◌, refl, sym, ap, ◌∙◌}
 use mathlib.Core.List.{List}
 use lib.ListN.{length, get_or}
 use borrow.Author.Tests.{lt-ltb, le-ltb}
 use Rattle.kinds.specs.Kinds.{operation}
 use Rattle.machine.specs.Machine.{decode, Frame, Act, over, Progress, next, pay, act_of, machine, run_of}
 use Rattle.machine.specs.declared.Regs.{Regs}
-use Rattle.machine.specs.Code.Registers.{frame_of, by_code, progress_of, RefinesStep}
+use Rattle.machine.specs.declared.Status.{Status}
+use Rattle.machine.specs.declared.Status.TheVariants.{Going, Ended, Refused}
+use Rattle.machine.specs.Code.Registers.{frame_of, by_status, over_of, progress_of, RefinesStep}
 use Rattle.machine.proofs.Program.{decode-length, decode_at}
 
 module _ (ks vs : List ℕ) (c room : ℕ) (fr : Frame) (same : length ks ≡ length vs) where
@@ -31,13 +33,19 @@ unfolding run_of
 goes_on_lem act g g' fr fr' e l o k zero h = absurd (omega arith)
 goes_on_lem act g g' fr fr' e l o k (suc n) h = rw e (k n (omega arith))
 
--- a code that is not 0 ends the run
-pub ends_with : (act : Frame → Act) (g code note g' : ℕ) (fr fr' : Frame) → pay g fr (act fr) ≡ by_code code note g' fr' → 1 ≤ code → ComesTo act g fr (by_code code note g' fr')
+pub is_over : (status : Status) → (status ≡ Going → ⊥) → 1 ≤ over_of status
+is_over Going ne = absurd (ne refl)
+is_over Ended ne = omega arith
+is_over (Refused why) ne = omega arith
+
+-- a status that does not go on ends the run
+pub ends_with : (act : Frame → Act) (g : ℕ) (status : Status) (g' : ℕ) (fr fr' : Frame) → pay g fr (act fr) ≡ by_status status g' fr' → 1 ≤ over_of status
+    → ComesTo act g fr (by_status status g' fr')
 unfolding run_of
-ends_with act g code note g' fr fr' e l zero h = absurd (omega arith)
-ends_with act g zero note g' fr fr' e l (suc n) h = absurd (omega arith)
-ends_with act g (suc zero) note g' fr fr' e l (suc n) h = rw e
-ends_with act g (suc (suc code)) note g' fr fr' e l (suc n) h = rw e
+ends_with act g status g' fr fr' e l zero h = absurd (omega arith)
+ends_with act g Going g' fr fr' e l (suc n) h = absurd (omega arith)
+ends_with act g Ended g' fr fr' e l (suc n) h = rw e
+ends_with act g (Refused why) g' fr fr' e l (suc n) h = rw e
 
 -- one step of the code is one step of the machine
 pub turn : (ks vs : List ℕ) (c room : ℕ) (r q : Regs) (s w s' w' : List ℕ) → length ks ≡ length vs → r.pos < length ks → length w ≡ room

@@ -7,17 +7,18 @@ use mathlib.Core.Logic.{◌⊎◌, inl, inr}
 use lib.ListN.{length}
 use borrow.Author.Tests.{lt-ltb, le-ltb}
 use Rattle.machine.specs.declared.Regs.{Regs}
+use Rattle.machine.specs.declared.Refusal.TheVariants.{OutOfGas}
 use Rattle.kinds.specs.Kinds.{Operation, operation, kind_of}
 use Rattle.kinds.proofs.ByKind.{unpriced}
 use Rattle.machine.specs.Machine.{effect_of}
 use Rattle.machine.proofs.Program.{effect_high}
-use Rattle.machine.specs.Code.Registers.{Bounds, CanStep, Running, KeepsBounds, RefinesEffect, RefinesStep, paid, ended, stopped}
+use Rattle.machine.specs.Code.Registers.{Bounds, CanStep, Running, KeepsBounds, RefinesEffect, RefinesStep, over_of, paid, ended, stopped}
 
 -- the registers after the payment are ready for the operation
 pub ready : (price : ℕ) {n room : ℕ} {r p : Regs} → p ≡ paid r price → Running r n room → r.pos < 2 ^ 63 → CanStep p n
 ready price e h k = rw e (omega arith)
 
-held_by : (room lo price : ℕ) (r q : Regs) → Bounds room r → r.code ≡ 0 → price ≤ r.gas → 1 ≤ price → (r.pos + 1 ≤ lo) ⊎ (2 ≤ price)
+held_by : (room lo price : ℕ) (r q : Regs) → Bounds room r → over_of r.status ≡ 0 → price ≤ r.gas → 1 ≤ price → (r.pos + 1 ≤ lo) ⊎ (2 ≤ price)
     → KeepsBounds lo room (paid r price) q → Bounds room q
 held_by room lo price r q h z le one (inl a) k = omega arith
 held_by room lo price r q h z le one (inr a) k = omega arith
@@ -32,12 +33,12 @@ arm k lo price caller kind v {r = r} {p = p} {q = q} {w = w} e pe c le one side 
     let kept : KeepsBounds lo (length w) (paid r price) q = rw pe at did.kept in
     record {
       progress = rw (e, ← c', le-ltb r.gas price le) (rw pe at did.progress);
-      held = held_by (length w) lo price r q run.held run.code le (rw c' one) side' kept;
+      held = held_by (length w) lo price r q run.held run.status le (rw c' one) side' kept;
       gas = omega arith;
       falls = omega (arith, rw (← c') at one);
     }
 
-pub out_of_gas_lem : {caller price n : ℕ} {op : Operation} {r q : Regs} {s w : List ℕ} → q ≡ stopped r 46 price → price ≡ (kind_of op.kind).price → r.gas < price
+pub out_of_gas_lem : {caller price n : ℕ} {op : Operation} {r q : Regs} {s w : List ℕ} → q ≡ stopped r (OutOfGas price r.gas) → price ≡ (kind_of op.kind).price → r.gas < price
     → Running r n (length w) → RefinesStep caller op r q s w s w
 out_of_gas_lem {price = price} {r = r} e c lt run = rw e (record { progress = rw (← c, lt-ltb r.gas price lt); held = omega arith; gas = omega arith; falls = omega arith })
 

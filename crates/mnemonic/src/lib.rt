@@ -3,14 +3,16 @@
 
 pub mod word;
 
-ghost use Rattle.std.specs.Prelude.{◌≡◌, cond};
+ghost use Rattle.std.specs.Prelude.{◌≡◌, ◌==◌, ◌+◌, ◌&&◌, drop, length};
+ghost use Rattle.search.specs.First.{prefix_of};
 ghost use Rattle.mnemonic.specs.Code.FirstByte.{FirstIs};
 ghost use Rattle.mnemonic.specs.Kinds.{head_of};
 
-use base::both;
-use word::{four, one, two};
+use base::pick;
+use word::stands_at;
 
-// A kind that stands alone; a kind, and the offset of what follows its word and the space; no operation.
+// A kind that stands alone; a kind, and the offset of what follows its word and the space; no operation. Three cases, so no `Option` is
+// plainer. A kind is the byte that C's buffer holds.
 #[derive(Clone, Copy)]
 pub enum Head {
     Alone(u8),
@@ -22,39 +24,20 @@ pub enum Head {
 pub fn classify(t: &[u8]) -> Head
     ensures { result ≡ head_of t.now }
 {
-    if t.len() == 0 {
+    if t.is_empty() {
         return Head::Unknown;
     }
-    let first = t[0];
-    match first {
-        b'P' => {
-            let push = four(t, 1, b'u', b's', b'h', b' ');
-            choose(push, Head::Before(0, 5), Head::Unknown)
-        }
-        b'A' => {
-            let add = both(two(t, 1, b'd', b'd'), t.len() == 3);
-            choose(add, Head::Alone(1), Head::Unknown)
-        }
+    match t[0] {
+        b'P' => pick(stands_at(t, 1, b"ush "), Head::Before(0, 5), Head::Unknown),
+        b'A' => pick(ends(t, b"dd"), Head::Alone(1), Head::Unknown),
         b'S' => sub_swap_store(t),
-        b'M' => {
-            let mul = both(two(t, 1, b'u', b'l'), t.len() == 3);
-            choose(mul, Head::Alone(3), Head::Unknown)
-        }
+        b'M' => pick(ends(t, b"ul"), Head::Alone(3), Head::Unknown),
         b'D' => div_dup(t),
         b'J' => jumps(t),
-        b'E' => {
-            let eq = both(one(t, 1, b'q'), t.len() == 2);
-            choose(eq, Head::Alone(9), Head::Unknown)
-        }
+        b'E' => pick(ends(t, b"q"), Head::Alone(9), Head::Unknown),
         b'L' => lt_load(t),
-        b'C' => {
-            let rest = both(four(t, 1, b'a', b'l', b'l', b'e'), one(t, 5, b'r'));
-            choose(both(rest, t.len() == 6), Head::Alone(13), Head::Unknown)
-        }
-        b'H' => {
-            let rest = both(two(t, 1, b'a', b'l'), one(t, 3, b't'));
-            choose(both(rest, t.len() == 4), Head::Alone(15), Head::Unknown)
-        }
+        b'C' => pick(ends(t, b"aller"), Head::Alone(13), Head::Unknown),
+        b'H' => pick(ends(t, b"alt"), Head::Alone(15), Head::Unknown),
         _ => Head::Unknown,
     }
 }
@@ -63,57 +46,45 @@ fn sub_swap_store(t: &[u8]) -> Head
     requires { FirstIs 83 t.now }
     ensures { result ≡ head_of t.now }
 {
-    let sub = both(two(t, 1, b'u', b'b'), t.len() == 3);
-    let swap = both(both(two(t, 1, b'w', b'a'), one(t, 3, b'p')), t.len() == 4);
-    let store = both(four(t, 1, b't', b'o', b'r', b'e'), one(t, 5, b' '));
-    let others = choose(store, Head::Before(12, 6), Head::Unknown);
-    choose(sub, Head::Alone(2), choose(swap, Head::Alone(6), others))
+    let store = pick(
+        stands_at(t, 1, b"tore "),
+        Head::Before(12, 6),
+        Head::Unknown,
+    );
+    let swap = pick(ends(t, b"wap"), Head::Alone(6), store);
+    pick(ends(t, b"ub"), Head::Alone(2), swap)
 }
 
 fn div_dup(t: &[u8]) -> Head
     requires { FirstIs 68 t.now }
     ensures { result ≡ head_of t.now }
 {
-    let div = both(two(t, 1, b'i', b'v'), t.len() == 3);
-    let dup = both(two(t, 1, b'u', b'p'), t.len() == 3);
-    choose(
-        div,
-        Head::Alone(4),
-        choose(dup, Head::Alone(5), Head::Unknown),
-    )
+    let dup = pick(ends(t, b"up"), Head::Alone(5), Head::Unknown);
+    pick(ends(t, b"iv"), Head::Alone(4), dup)
 }
 
 fn jumps(t: &[u8]) -> Head
     requires { FirstIs 74 t.now }
     ensures { result ≡ head_of t.now }
 {
-    let jump = four(t, 1, b'u', b'm', b'p', b' ');
-    let jump_if = both(four(t, 1, b'u', b'm', b'p', b'I'), one(t, 5, b'f'));
-    let not_zero = both(
-        four(t, 6, b'N', b'o', b't', b'Z'),
-        four(t, 10, b'e', b'r', b'o', b' '),
-    );
-    let zero = both(four(t, 6, b'Z', b'e', b'r', b'o'), one(t, 10, b' '));
-    let if_zero = choose(both(jump_if, zero), Head::Before(14, 11), Head::Unknown);
-    let conditional = choose(both(jump_if, not_zero), Head::Before(8, 14), if_zero);
-    choose(jump, Head::Before(7, 5), conditional)
+    let zero = stands_at(t, 1, b"umpIfZero ");
+    let if_zero = pick(zero, Head::Before(14, 11), Head::Unknown);
+    let not_zero = stands_at(t, 1, b"umpIfNotZero ");
+    let conditional = pick(not_zero, Head::Before(8, 14), if_zero);
+    pick(stands_at(t, 1, b"ump "), Head::Before(7, 5), conditional)
 }
 
 fn lt_load(t: &[u8]) -> Head
     requires { FirstIs 76 t.now }
     ensures { result ≡ head_of t.now }
 {
-    let lt = both(one(t, 1, b't'), t.len() == 2);
-    let load = four(t, 1, b'o', b'a', b'd', b' ');
-    choose(
-        lt,
-        Head::Alone(10),
-        choose(load, Head::Before(11, 5), Head::Unknown),
-    )
+    let load = pick(stands_at(t, 1, b"oad "), Head::Before(11, 5), Head::Unknown);
+    pick(ends(t, b"t"), Head::Alone(10), load)
 }
 
-fn choose(fits: bool, this: Head, other: Head) -> Head
-    ensures { result ≡ cond fits this other }
+// Whether a text is its first byte and this.
+fn ends<const N: usize>(t: &[u8], word: &[u8; N]) -> bool
+    ensures { result ≡ (prefix_of word.now (drop 1 t.now) && length t.now == N + 1) }
 {
-    if fits { this } else { other }
+    stands_at(t, 1, word) & (t.len() == N + 1)
 }

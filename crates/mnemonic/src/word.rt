@@ -1,38 +1,23 @@
-// Whether one, two or four bytes stand at an offset of a text. The callers' offsets lie few bytes behind one in the text, so sums fit a
-// word.
-ghost use Rattle.std.specs.Prelude.{◌≡◌, [], ◌∷◌, ◌+◌, ◌^◌, ◌<◌, drop};
+// Whether a word stands at an offset of a text.
+ghost use Rattle.std.specs.Prelude.{◌≡◌, true, drop};
+ghost use Rattle.std.specs.List.{fold, zip};
 ghost use Rattle.search.specs.First.{prefix_of};
+ghost use Rattle.mnemonic.specs.Code.Agree.{and_same};
 
-use base::both;
-
-pub fn one(t: &[u8], at: usize, a: u8) -> bool
-    ensures { result ≡ prefix_of (a ∷ []) (drop at t.now) }
+// After a test of the room that is left, a word is compared with no branch, so LLVM compares it by machine words.
+pub fn stands_at<const N: usize>(t: &[u8], at: usize, word: &[u8; N]) -> bool
+    ensures { result ≡ prefix_of word.now (drop at t.now) }
 {
-    if t.len() <= at {
-        return false;
+    if t.len() < at || t.len() - at < N {
+        return N == 0;
     }
-    t[at] == a
+    agree(&t[at..at + N], word)
 }
 
-pub fn two(t: &[u8], at: usize, a: u8, b: u8) -> bool
-    requires { at + 16 < 2 ^ 64 }
-    ensures { result ≡ prefix_of (a ∷ b ∷ []) (drop at t.now) }
+fn agree<const N: usize>(part: &[u8], word: &[u8; N]) -> bool
+    ensures { result ≡ fold and_same true (zip part.now word.now) }
 {
-    if t.len() < at + 2 {
-        return false;
-    }
-    both(t[at] == a, t[at + 1] == b)
-}
-
-pub fn four(t: &[u8], at: usize, a: u8, b: u8, c: u8, d: u8) -> bool
-    requires { at + 16 < 2 ^ 64 }
-    ensures { result ≡ prefix_of (a ∷ b ∷ c ∷ d ∷ []) (drop at t.now) }
-{
-    if t.len() < at + 4 {
-        return false;
-    }
-    both(
-        both(t[at] == a, t[at + 1] == b),
-        both(t[at + 2] == c, t[at + 3] == d),
-    )
+    part.iter()
+        .zip(word)
+        .fold(true, |same, (a, b)| same & (*a == *b))
 }

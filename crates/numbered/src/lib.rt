@@ -1,8 +1,9 @@
 // Document 01's number of an answer, with the values that its entry names.
 #![tactic(auto)]
 
-ghost use Rattle.std.specs.Prelude.{◌≡◌, [], ◌∷◌};
-ghost use Rattle.numbered.specs.Numbered.{plain, carrying, located};
+ghost use Rattle.std.specs.Prelude.{◌≡◌, ◌≤◌, [], ◌∷◌};
+ghost use Rattle.numbered.specs.declared.Numbered.{Numbered};
+ghost use Rattle.numbered.specs.Numbered.{plain, carrying, located, unit_numbered, size_numbered, result_numbered};
 
 // The values stand first among the eight words, and the others are 0.
 #[derive(Clone, Copy)]
@@ -11,54 +12,67 @@ pub struct Numbered {
     pub words: [u64; 8],
 }
 
-pub fn plain(number: u64) -> Numbered
-    ensures { result ≡ plain number }
-{
-    Numbered {
-        number,
-        words: [0, 0, 0, 0, 0, 0, 0, 0],
+// An answer, or a part of one, that document 01 numbers.
+pub trait Answer {
+    ghost numbered_as: { Self → Numbered };
+
+    fn numbered(self) -> Numbered
+        ensures { result ≡ numbered_as self };
+}
+
+impl Answer for () {
+    ghost numbered_as = { unit_numbered };
+
+    fn numbered(self) -> Numbered {
+        plain(0)
     }
 }
 
-pub fn carrying_one(number: u64, first: u64) -> Numbered
-    ensures { result ≡ carrying number (first ∷ []) }
-{
-    Numbered {
-        number,
-        words: [first, 0, 0, 0, 0, 0, 0, 0],
+impl Answer for u64 {
+    ghost numbered_as = { size_numbered };
+
+    fn numbered(self) -> Numbered {
+        carrying(0, [self])
     }
+}
+
+impl Answer for usize {
+    ghost numbered_as = { size_numbered };
+
+    fn numbered(self) -> Numbered {
+        carrying(0, [self as u64])
+    }
+}
+
+impl<T: Answer, E: Answer> Answer for Result<T, E> {
+    ghost numbered_as = { result_numbered T.numbered_as E.numbered_as };
+
+    fn numbered(self) -> Numbered {
+        match self {
+            Ok(value) => value.numbered(),
+            Err(refusal) => refusal.numbered(),
+        }
+    }
+}
+
+pub fn plain(number: u64) -> Numbered
+    ensures { result ≡ plain number }
+{
+    carrying(number, [])
+}
+
+pub fn carrying<const N: usize>(number: u64, values: [u64; N]) -> Numbered
+    requires { N ≤ 8 }
+    ensures { result ≡ carrying number values.entry }
+{
+    let mut words = [0; 8];
+    words[..N].copy_from_slice(&values);
+    Numbered { number, words }
 }
 
 // With the place of a key, or the number of a line.
 pub fn located(n: Numbered, place: u64) -> Numbered
     ensures { result ≡ located n place }
 {
-    carrying_one(n.number, place)
-}
-
-pub fn carrying_two(number: u64, first: u64, second: u64) -> Numbered
-    ensures { result ≡ carrying number (first ∷ second ∷ []) }
-{
-    Numbered {
-        number,
-        words: [first, second, 0, 0, 0, 0, 0, 0],
-    }
-}
-
-pub fn carrying_three(number: u64, first: u64, second: u64, third: u64) -> Numbered
-    ensures { result ≡ carrying number (first ∷ second ∷ third ∷ []) }
-{
-    Numbered {
-        number,
-        words: [first, second, third, 0, 0, 0, 0, 0],
-    }
-}
-
-pub fn carrying_four(number: u64, first: u64, second: u64, third: u64, fourth: u64) -> Numbered
-    ensures { result ≡ carrying number (first ∷ second ∷ third ∷ fourth ∷ []) }
-{
-    Numbered {
-        number,
-        words: [first, second, third, fourth, 0, 0, 0, 0],
-    }
+    carrying(n.number, [place])
 }

@@ -1,4 +1,5 @@
 -- Lines that stand as they are: a word, or a word, a space and digits.
+use Rattle.std.specs.Prelude.{Some}
 use Prim.Native.Nat.{ℕ, suc, ◌+◌, ◌-◌, ◌<◌}
 use mathlib.Core.Path.{◌≡◌, refl, sym, ap, subst, ◌∙◌}
 use mathlib.Core.List.{List, [], ◌∷◌, ◌++◌, append_assoc, append-nil}
@@ -19,7 +20,6 @@ use Rattle.lines.proofs.Written.{free_cons, free_append, line_then}
 use Rattle.trim.specs.Trim.{white1, start_trimmed, trimmed}
 use Rattle.trim.proofs.Laws.{trimmed_kept}
 use Rattle.decimal.specs.Decimal.{digit}
-use Rattle.decimal.specs.declared.Number.TheVariants.{Is}
 use Rattle.kinds.specs.Kinds.{kind_of}
 use Rattle.kinds.proofs.ByKind.{span, ◌&◌, end}
 use Rattle.mnemonic.specs.Kinds.{follows, line_with, head_with, head_of}
@@ -120,7 +120,7 @@ pub record Reads (rule : Rule) (k : ℕ) (d : List ℕ) (v : ℕ) : Type 0 where
   pub letter : within 65 90 (get_or (line_with k d) 0 0) ≡ true
   pub is : (line start : ℕ) (l : List ℕ) → trimmed l ≡ line_with k d → line_of rule line start l ≡ Op k (cond (follows (kind_of k).operand) v 0)
 
-module _ (rule : Rule) (k : ℕ) (d : List ℕ) (v : ℕ) (g : all graphic d ≡ true) (h : 0 < length d) (e : rule (kind_of k).operand d ≡ Is v) where
+module _ (rule : Rule) (k : ℕ) (d : List ℕ) (v : ℕ) (g : all graphic d ≡ true) (h : 0 < length d) (e : rule (kind_of k).operand d ≡ Some v) where
   record Line (l : List ℕ) : Type 0 where
     plain : Plain l
     letter : within 65 90 (get_or l 0 0) ≡ true

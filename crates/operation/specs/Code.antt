@@ -1,2 +1,1 @@
 pub mod Fast
-pub mod Rules

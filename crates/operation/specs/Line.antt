@@ -1,10 +1,9 @@
 -- What one line says.
+use Rattle.std.specs.Prelude.{Option, Some, None}
 use Rattle.std.specs.Prelude.{ℕ, ◌+◌, ◌^◌, ◌<◌, ◌≡◌, List, [], ◌∷◌, Bool, true, cond, eqb, length, drop}
 use Rattle.trim.specs.Trim.{trimmed, leading_blanks}
 use Rattle.base.specs.Lists.{all}
 use Rattle.decimal.specs.Decimal.{digit, number_of}
-use Rattle.decimal.specs.declared.Number.{Number}
-use Rattle.decimal.specs.declared.Number.TheVariants.{Is, Invalid}
 use Rattle.kinds.specs.Kinds.{Operand, none, value, slot, target, kind_of}
 use Rattle.mnemonic.specs.Kinds.{head_of}
 use Rattle.mnemonic.specs.declared.Head.{Head}
@@ -16,7 +15,7 @@ use Rattle.operation.specs.declared.line.LineRead.TheVariants.{Skip, Op, Bad}
 
 -- a rule for operands: the number that the trimmed text behind a kind's word says, by what the operand is
 abbrev pub Rule : Type 0
-Rule = Operand → List ℕ → Number
+Rule = Operand → List ℕ → Option ℕ
 
 -- document 01's: Rust's `u64::from_str`, whatever the operand is
 abbrev pub from_str : Rule
@@ -28,7 +27,7 @@ ReadsDigits rule = (operand : Operand) (d : List ℕ) → all digit d ≡ true �
 
 -- a rule whose numbers fit 64 bits
 abbrev pub ReadsWords : Rule → Type 0
-ReadsWords rule = (operand : Operand) (t : List ℕ) (v : ℕ) → rule operand t ≡ Is v → v < 2 ^ 64
+ReadsWords rule = (operand : Operand) (t : List ℕ) (v : ℕ) → rule operand t ≡ Some v → v < 2 ^ 64
 
 -- the refusal where that text says no number; no text stands behind the word of a kind without an operand
 abbrev pub bad_number : Operand → ℕ → ℕ → ℕ → OpsError
@@ -37,9 +36,9 @@ bad_number slot line place len = BadSlot line place len
 bad_number target line place len = BadTarget line place len
 bad_number none line place len = BadTarget line place len
 
-abbrev pub of_number : ℕ → ℕ → ℕ → ℕ → Number → LineRead
-of_number k line place len (Is v) = Op k v
-of_number k line place len Invalid = Bad (bad_number (kind_of k).operand line place len)
+abbrev pub of_number : ℕ → ℕ → ℕ → ℕ → Option ℕ → LineRead
+of_number k line place len (Some v) = Op k v
+of_number k line place len None = Bad (bad_number (kind_of k).operand line place len)
 
 -- a kind and what follows its word, which starts at an offset
 abbrev pub operand_of : Rule → ℕ → ℕ → ℕ → List ℕ → LineRead

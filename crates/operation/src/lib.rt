@@ -6,9 +6,10 @@ pub mod line;
 ghost use Rattle.std.specs.Prelude.{◌≡◌};
 ghost use Rattle.operation.specs.Errors.{ops_error_numbered};
 
-use numbered::{Numbered, carrying_one, carrying_three, plain};
+use numbered::{Answer, Numbered, carrying, plain};
 
 // Lines are counted from 1. Offsets count bytes from 0 in the whole text. The first one and the last two are given by crate ops alone.
+// `line`, `place` and `len` stand in each case, as the Rust's enum has its fields.
 #[derive(Clone, Copy)]
 pub enum OpsError {
     NotUtf8,
@@ -38,25 +39,25 @@ pub enum OpsError {
     Empty,
 }
 
-impl OpsError {
-    pub fn numbered(self) -> Numbered
-        ensures { result ≡ ops_error_numbered self }
-    {
+impl Answer for OpsError {
+    ghost numbered_as = { ops_error_numbered };
+
+    fn numbered(self) -> Numbered {
         match self {
             OpsError::NotUtf8 => plain(27),
             OpsError::BadPush { line, place, len } => {
-                carrying_three(28, line as u64, place as u64, len as u64)
+                carrying(28, [line as u64, place as u64, len as u64])
             }
             OpsError::BadSlot { line, place, len } => {
-                carrying_three(29, line as u64, place as u64, len as u64)
+                carrying(29, [line as u64, place as u64, len as u64])
             }
             OpsError::UnknownOp { line, place, len } => {
-                carrying_three(30, line as u64, place as u64, len as u64)
+                carrying(30, [line as u64, place as u64, len as u64])
             }
             OpsError::BadTarget { line, place, len } => {
-                carrying_three(31, line as u64, place as u64, len as u64)
+                carrying(31, [line as u64, place as u64, len as u64])
             }
-            OpsError::Full { line } => carrying_one(32, line as u64),
+            OpsError::Full { line } => carrying(32, [line as u64]),
             OpsError::Empty => plain(33),
         }
     }

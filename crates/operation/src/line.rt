@@ -1,24 +1,16 @@
 // What one line of a text says.
 ghost use Rattle.std.specs.Prelude.{◌≡◌, ◌+◌, ◌-◌, ◌^◌, ◌<◌, ◌≤◌, length, take, drop};
 ghost use Rattle.kinds.specs.Kinds.{kind_of};
-ghost use Rattle.operation.specs.Code.Rules.{rule_of};
 ghost use Rattle.operation.specs.Line.{from_str, bad_number, operand_of, skipped, line_of};
 ghost use Rattle.operation.specs.Code.Fast.{line_read_at, FastRead, Indented};
 
 use super::OpsError;
-use base::{either, in_range};
-use decimal::Number;
-use lines::Step;
-use mnemonic::word::one;
+use base::in_range;
+use mnemonic::word::stands_at;
 use mnemonic::{Head, classify};
-use plain_op::{Plain, plain_at};
+use plain_op::{PlainOp, plain_at};
 
-// The rules for operands.
-#[derive(Clone, Copy)]
-pub enum OperandRule {
-    FromStr,
-}
-
+// Three cases, each with a name: `Result<Option<..>, OpsError>` is no plainer. A kind is the byte that C's buffer holds.
 #[derive(Clone, Copy)]
 pub enum LineRead {
     Skip,
@@ -33,12 +25,12 @@ pub struct ReadLine {
     pub next: usize,
 }
 
-// What a line says and where the next one starts, as far as it is known from the line's start on.
+// A line that the fast path knows: an operation, or one that is skipped; and where the next line starts. A `ReadLine` has room for a
+// refusal too, and with it in the fast path reading took a sixth more time.
 #[derive(Clone, Copy)]
-pub enum FastLine {
-    Op { kind: u8, operand: u64, next: usize },
-    Skip(usize),
-    Unknown,
+struct KnownLine {
+    op: Option<PlainOp>,
+    next: usize,
 }
 
 // The line that starts at a place, its number being line. `general_line_at` is called at two places, so that LLVM leaves it a function
@@ -49,25 +41,23 @@ pub fn line_read_at(text: &[u8], at: usize, line: usize) -> ReadLine
     if text.len() <= at {
         return general_line_at(text, at, line);
     }
-    let known = fast_line_at(text, at);
-    match known {
-        FastLine::Op {
-            kind,
-            operand,
-            next,
-        } => ReadLine {
-            read: LineRead::Op { kind, operand },
-            next,
+    let Some(known) = fast_line_at(text, at) else {
+        return general_line_at(text, at, line);
+    };
+    let read = match known.op {
+        Some(op) => LineRead::Op {
+            kind: op.kind,
+            operand: op.operand,
         },
-        FastLine::Skip(next) => ReadLine {
-            read: LineRead::Skip,
-            next,
-        },
-        FastLine::Unknown => general_line_at(text, at, line),
+        None => LineRead::Skip,
+    };
+    ReadLine {
+        read,
+        next: known.next,
     }
 }
 
-fn fast_line_at(text: &[u8], at: usize) -> FastLine
+fn fast_line_at(text: &[u8], at: usize) -> Option<KnownLine>
     requires { at < length text.now }
     ensures { FastRead text.now at result }
 {
@@ -87,71 +77,70 @@ fn first_at(text: &[u8], at: usize) -> usize
 }
 
 // An operation with White_Space before it, from at to first, and behind it; or a line that is skipped.
-fn operation_line_at(text: &[u8], at: usize, first: usize) -> FastLine
+fn operation_line_at(text: &[u8], at: usize, first: usize) -> Option<KnownLine>
     requires { Indented text.now at first }
     ensures { FastRead text.now at result }
 {
-    let plain = plain_at(text, first);
-    let Plain::Op { kind, operand, end } = plain else {
+    let Some(op) = plain_at(text, first) else {
         return skipped_line_at(text, at, first);
     };
-    if one(text, end, b'\n') {
-        return FastLine::Op {
-            kind,
-            operand,
-            next: end + 1,
-        };
+    if stands_at(text, op.end, b"\n") {
+        return Some(KnownLine {
+            op: Some(op),
+            next: op.end + 1,
+        });
     }
-    let feed = trim::blanks_end(text, end);
-    if !one(text, feed, b'\n') {
-        return FastLine::Unknown;
+    let feed = trim::blanks_end(text, op.end);
+    if stands_at(text, feed, b"\n") {
+        return Some(KnownLine {
+            op: Some(op),
+            next: feed + 1,
+        });
     }
-    FastLine::Op {
-        kind,
-        operand,
-        next: feed + 1,
-    }
+    None
 }
 
 // White_Space alone, or a remark with White_Space before it, from at to first.
-fn skipped_line_at(text: &[u8], at: usize, first: usize) -> FastLine
+fn skipped_line_at(text: &[u8], at: usize, first: usize) -> Option<KnownLine>
     requires { Indented text.now at first }
     ensures { FastRead text.now at result }
 {
-    if one(text, first, b'\n') {
-        return FastLine::Skip(first + 1);
+    if stands_at(text, first, b"\n") {
+        return Some(KnownLine {
+            op: None,
+            next: first + 1,
+        });
     }
-    if !one(text, first, b'#') {
-        return FastLine::Unknown;
+    if !stands_at(text, first, b"#") {
+        return None;
     }
     let feed = lines::line_feed(text, first);
     if feed < text.len() {
-        return FastLine::Skip(feed + 1);
+        return Some(KnownLine {
+            op: None,
+            next: feed + 1,
+        });
     }
-    FastLine::Unknown
+    None
 }
 
 fn general_line_at(text: &[u8], at: usize, line: usize) -> ReadLine
     ensures { result ≡ line_read_at from_str text.now at line }
 {
-    let step = lines::line_at(text, at);
-    match step {
-        Step::Next(l) => {
-            let end = l.end;
-            let read = read_line(text, at, end, line, OperandRule::FromStr);
-            ReadLine { read, next: l.next }
-        }
-        Step::Done => ReadLine {
+    let Some(l) = lines::line_at(text, at) else {
+        return ReadLine {
             read: LineRead::Skip,
             next: at,
-        },
-    }
+        };
+    };
+    let read = read_line(text, at, l.end, line);
+    ReadLine { read, next: l.next }
 }
 
 // The line that stands from start to end, its number being line.
-fn read_line(text: &[u8], start: usize, end: usize, line: usize, rule: OperandRule) -> LineRead
+fn read_line(text: &[u8], start: usize, end: usize, line: usize) -> LineRead
     requires { (start ≤ end) × (end ≤ length text.now) }
-    ensures { result ≡ line_of (rule_of rule) line start (take (end - start) (drop start text.now)) }
+    ensures { result ≡ line_of from_str line start (take (end - start) (drop start text.now)) }
 {
     let raw = &text[start..end];
     let from_first = trim::trim_start(raw);
@@ -160,10 +149,9 @@ fn read_line(text: &[u8], start: usize, end: usize, line: usize, rule: OperandRu
         return LineRead::Skip;
     }
     let place = start + (raw.len() - from_first.len());
-    let p = classify(t);
-    match p {
+    match classify(t) {
         Head::Alone(kind) => LineRead::Op { kind, operand: 0 },
-        Head::Before(kind, n) => read_operand(t, n, kind, line, place + n, rule),
+        Head::Before(kind, n) => read_operand(t, n, kind, line, place + n),
         Head::Unknown => {
             let len = t.len();
             LineRead::Bad(OpsError::UnknownOp { line, place, len })
@@ -172,56 +160,34 @@ fn read_line(text: &[u8], start: usize, end: usize, line: usize, rule: OperandRu
 }
 
 // What follows a kind's word in a trimmed line: it starts at n there, and at place in the text.
-fn read_operand(
-    t: &[u8],
-    n: usize,
-    kind: u8,
-    line: usize,
-    place: usize,
-    rule: OperandRule,
-) -> LineRead
+fn read_operand(t: &[u8], n: usize, kind: u8, line: usize, place: usize) -> LineRead
     requires { (n ≤ length t.now) × (place + (length t.now - n) < 2 ^ 64) }
-    ensures { result ≡ operand_of (rule_of rule) kind line place (drop n t.now) }
+    ensures { result ≡ operand_of from_str kind line place (drop n t.now) }
 {
     let rest = &t[n..];
     let from_first = trim::trim_start(rest);
     let digits = trim::trim_end(from_first);
-    let v = number_by(rule, kind, digits);
-    match v {
-        Number::Is(operand) => LineRead::Op { kind, operand },
-        Number::Invalid => {
+    match decimal::from_str(digits) {
+        Some(operand) => LineRead::Op { kind, operand },
+        None => {
             let start = place + (rest.len() - from_first.len());
             LineRead::Bad(bad_number(kind, line, start, digits.len()))
         }
     }
 }
 
-// The number that the text behind a kind's word says.
-fn number_by(rule: OperandRule, kind: u8, text: &[u8]) -> Number
-    ensures { result ≡ rule_of rule (kind_of kind).operand text.now }
-{
-    match rule {
-        OperandRule::FromStr => decimal::from_str(text),
-    }
-}
-
 fn bad_number(kind: u8, line: usize, place: usize, len: usize) -> OpsError
     ensures { result ≡ bad_number (kind_of kind).operand line place len }
 {
-    if kind == 0 {
-        return OpsError::BadPush { line, place, len };
+    match kind {
+        0 => OpsError::BadPush { line, place, len },
+        11 | 12 => OpsError::BadSlot { line, place, len },
+        _ => OpsError::BadTarget { line, place, len },
     }
-    if either(kind == 11, kind == 12) {
-        return OpsError::BadSlot { line, place, len };
-    }
-    OpsError::BadTarget { line, place, len }
 }
 
 fn is_skipped(t: &[u8]) -> bool
     ensures { result ≡ skipped t.now }
 {
-    if t.len() == 0 {
-        return true;
-    }
-    t[0] == b'#'
+    t.is_empty() || t[0] == b'#'
 }

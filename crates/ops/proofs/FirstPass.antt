@@ -1,4 +1,5 @@
 -- One line more of the first pass.
+use Rattle.std.specs.Prelude.{Result, Ok, Err}
 use Prim.Native.Nat.{ℕ, suc, ◌+◌, ◌-◌, ◌<◌, ◌≤◌}
 use mathlib.Core.Path.{◌≡◌, refl, sym, ap, ◌∙◌}
 use mathlib.Core.List.{List, [], ◌∷◌}
@@ -17,8 +18,6 @@ use Rattle.ops.specs.Ops.{Reading, start_of, then_read, read_lines, not_empty, a
 use Rattle.operation.specs.Code.Fast.{line_read_at}
 use Rattle.operation.specs.declared.OpsError.{OpsError}
 use Rattle.operation.specs.declared.OpsError.TheVariants.{Full, Empty}
-use Rattle.ops.specs.declared.ParsedOps.{ParsedOps}
-use Rattle.ops.specs.declared.ParsedOps.TheVariants.{Read, Refused}
 use Rattle.operation.specs.declared.line.LineRead.{LineRead}
 use Rattle.operation.specs.declared.line.LineRead.TheVariants.{Skip, Op, Bad}
 use Rattle.operation.specs.declared.line.ReadLine.{ReadLine}
@@ -64,19 +63,19 @@ module _ {text : List ℕ} {at line : ℕ} (p : Stands text at line) where
         ∙ ap (λ (r : ReadLine). then_read (line + 1) room (more r.next) r.read) (sym e)
 
 -- the answer, n operations having been read before
-abbrev answer_after : ℕ → Reading → ParsedOps
-answer_after n (is os) = cond (eqb (n + length os) 0) (Refused Empty) (Read (n + length os))
-answer_after n (refused e) = Refused e
+abbrev answer_after : ℕ → Reading → Result ℕ OpsError
+answer_after n (is os) = cond (eqb (n + length os) 0) (Err Empty) (Ok (n + length os))
+answer_after n (refused e) = Err e
 
 after_none : (x : Reading) → answer_of (and_then x not_empty) ≡ answer_after 0 x
 after_none (is []) = refl
 after_none (is (o ∷ os)) =
     let z : 0 + suc (length os) ≡ suc (length os) = omega arith in
-    sym (ap (λ (n : ℕ). cond (eqb n 0) (Refused Empty) (Read n)) z ∙ simp (ne_eqb (suc (length os)) 0 (λ e. omega arith)))
+    sym (ap (λ (n : ℕ). cond (eqb n 0) (Err Empty) (Ok n)) z ∙ simp (ne_eqb (suc (length os)) 0 (λ e. omega arith)))
 after_none (refused e) = refl
 
 after_one : (n : ℕ) (o : Operation) (x : Reading) → answer_after n (and_then x (λ os. is (o ∷ os))) ≡ answer_after (n + 1) x
-after_one n o (is os) = let z : n + suc (length os) ≡ n + 1 + length os = omega arith in ap (λ (n : ℕ). cond (eqb n 0) (Refused Empty) (Read n)) z
+after_one n o (is os) = let z : n + suc (length os) ≡ n + 1 + length os = omega arith in ap (λ (n : ℕ). cond (eqb n 0) (Err Empty) (Ok n)) z
 after_one n o (refused e) = refl
 
 -- what is left to read, n operations having been counted
@@ -97,14 +96,14 @@ scan_first rule text room =
 module _ {rule : Rule} {text : List ℕ} {room at line n : ℕ} (p : Scanned rule text room at line n) where
   -- at the end
   module _ (h : length text ≤ at) where
-    all : answer_of (and_then (read_lines rule text 0 (lines text) room) not_empty) ≡ cond (eqb (n + 0) 0) (Refused Empty) (Read (n + 0))
+    all : answer_of (and_then (read_lines rule text 0 (lines text) room) not_empty) ≡ cond (eqb (n + 0) 0) (Err Empty) (Ok (n + 0))
     all = p.is ∙ ap (answer_after n) (ended p.stands rule (room - n) h)
 
-    pub scan_empty : n ≡ 0 → Refused Empty ≡ answer_of (and_then (read_lines rule text 0 (lines text) room) not_empty)
+    pub scan_empty : n ≡ 0 → Err Empty ≡ answer_of (and_then (read_lines rule text 0 (lines text) room) not_empty)
     scan_empty e = sym (all ∙ simp (eq-eqb (n + 0) 0 (omega arith)))
 
-    pub scan_some : (n ≡ 0 → ⊥) → Read n ≡ answer_of (and_then (read_lines rule text 0 (lines text) room) not_empty)
-    scan_some e = let z : n + 0 ≡ n = omega arith in sym (all ∙ ap (λ (n : ℕ). cond (eqb n 0) (Refused Empty) (Read n)) z ∙ simp (ne_eqb n 0 e))
+    pub scan_some : (n ≡ 0 → ⊥) → Ok n ≡ answer_of (and_then (read_lines rule text 0 (lines text) room) not_empty)
+    scan_some e = let z : n + 0 ≡ n = omega arith in sym (all ∙ ap (λ (n : ℕ). cond (eqb n 0) (Err Empty) (Ok n)) z ∙ simp (ne_eqb n 0 e))
 
   -- at a line
   module _ (h : at < length text) (r : ReadLine) (e : r ≡ line_read_at rule text at (line + 1)) where
@@ -118,11 +117,11 @@ module _ {rule : Rule} {text : List ℕ} {room at line n : ℕ} (p : Scanned rul
     pub scan_skip : r.read ≡ Skip → Scanned rule text room r.next (line + 1) n
     scan_skip q = record { stands = moved p.stands rule h r e; fits = p.fits; is = says Skip q }
 
-    pub scan_bad : (x : OpsError) → r.read ≡ Bad x → Refused x ≡ answer_of (and_then (read_lines rule text 0 (lines text) room) not_empty)
+    pub scan_bad : (x : OpsError) → r.read ≡ Bad x → Err x ≡ answer_of (and_then (read_lines rule text 0 (lines text) room) not_empty)
     scan_bad x q = sym (says (Bad x) q)
 
     module _ (k v : ℕ) (q : r.read ≡ Op k v) where
-      pub scan_full : n ≡ room → Refused (Full (line + 1)) ≡ answer_of (and_then (read_lines rule text 0 (lines text) room) not_empty)
+      pub scan_full : n ≡ room → Err (Full (line + 1)) ≡ answer_of (and_then (read_lines rule text 0 (lines text) room) not_empty)
       scan_full z =
           let m : room - n ≡ 0 = omega arith in
           sym (says (Op k v) q ∙ ap (λ (m : ℕ). answer_after n (then_read (line + 1) m (read_lines rule text (line + 1) (lines (drop r.next text))) (Op k v))) m)

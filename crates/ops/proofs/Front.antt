@@ -1,4 +1,6 @@
 -- The operations that were read stand at the front of both buffers.
+use Rattle.std.specs.Prelude.{Result, Ok}
+use Rattle.operation.specs.declared.OpsError.{OpsError}
 use Prim.Native.Nat.{ℕ, suc, ◌≤◌, min}
 use mathlib.Core.Path.{◌≡◌, refl, sym, ap, ◌∙◌}
 use mathlib.Core.List.{List, [], ◌∷◌, map}
@@ -9,8 +11,6 @@ use Rattle.base.specs.Overwrite.{overwrite}
 use Rattle.base.specs.Outcome.{is, refused}
 use Rattle.kinds.specs.Kinds.{Operation}
 use Rattle.ops.specs.Ops.{Reading, read_text, answer_of, ops_of, kinds_of, operands_of, ReadsOps}
-use Rattle.ops.specs.declared.ParsedOps.{ParsedOps}
-use Rattle.ops.specs.declared.ParsedOps.TheVariants.{Read}
 
 -- operations are the first n entries of two buffers
 pub record Front (os : List Operation) (n : ℕ) (ks vs : List ℕ) : Type 0 where
@@ -32,12 +32,12 @@ module _ (f : Operation → ℕ) (os : List Operation) (buffer after : List ℕ)
   is_front = ap (take n) e ∙ take_at (map f os) (drop (length (map f os)) buffer) n (length_each f os ∙ sym k)
 
 -- the number of operations is that of the answer
-pub count : (x : Reading) (n : ℕ) → Read n ≡ answer_of x → n ≡ length (ops_of x)
+pub count : (x : Reading) (n : ℕ) → Ok n ≡ answer_of x → n ≡ length (ops_of x)
 count (is os) n e = cc
 count (refused x) n e = absurd (let z : ◌≡◌ {A = ℕ} 0 1 = cc in omega arith)
 
 -- after reading, n being that number, or 0 where it was refused
-pub front : (text ks vs ks' vs' : List ℕ) (r : ParsedOps) (n : ℕ) → ReadsOps text ks vs ks' vs' r → n ≡ length (ops_of (read_text text (min (length ks) (length vs))))
+pub front : (text ks vs ks' vs' : List ℕ) (r : Result ℕ OpsError) (n : ℕ) → ReadsOps text ks vs ks' vs' r → n ≡ length (ops_of (read_text text (min (length ks) (length vs))))
     → Front (ops_of (read_text text (min (length ks) (length vs)))) n ks' vs'
 front text ks vs ks' vs' r n p k =
     let os = ops_of (read_text text (min (length ks) (length vs))) in
@@ -48,6 +48,6 @@ front text ks vs ks' vs' r n p k =
       operands = is_front (λ o. o.operand) os vs vs' n p.operands_written k;
     }
 
-pub read_front : (text ks vs ks' vs' : List ℕ) (r : ParsedOps) (n : ℕ) → ReadsOps text ks vs ks' vs' r → r ≡ Read n
+pub read_front : (text ks vs ks' vs' : List ℕ) (r : Result ℕ OpsError) (n : ℕ) → ReadsOps text ks vs ks' vs' r → r ≡ Ok n
     → Front (ops_of (read_text text (min (length ks) (length vs)))) n ks' vs'
 read_front text ks vs ks' vs' r n p e = front text ks vs ks' vs' r n p (count (read_text text (min (length ks) (length vs))) n (sym e ∙ p.answer))

@@ -1,4 +1,5 @@
 -- Where the lines of a text start, and the line of a number.
+use Rattle.std.specs.Prelude.{Some, None, Option}
 use Prim.Native.Nat.{ℕ, zero, suc, ◌+◌, ◌-◌, ◌<◌, ◌≤◌}
 use mathlib.Core.Path.{◌≡◌, refl, sym, ap, ap₂, subst, ◌∙◌}
 use mathlib.Core.List.{List, [], ◌∷◌}
@@ -14,7 +15,6 @@ use Rattle.lines.specs.Lines.{lines}
 use Rattle.lines.specs.Cursor.{span, first_line, line_at}
 use Rattle.lines.specs.Code.Visits.{head_of, IsLine}
 use Rattle.lines.specs.declared.Line.{Line}
-use Rattle.lines.specs.declared.Step.TheVariants.{Next, Done}
 use Rattle.lines.proofs.Cursor.{step_line}
 use Rattle.lines.proofs.LineAt.{past, is_past, first_is, onward}
 use Rattle.trim.specs.Trim.{trimmed, leading_blanks}
@@ -72,10 +72,10 @@ module _ (text : List ℕ) (at n : ℕ) where
   one_further = omega (arith, ap (start_of n) (drop-drop (span (drop at text)) at text))
 
 -- the line of a number
-pub no_number : (text : List ℕ) (n : ℕ) → n ≡ 0 → line_numbered text n ≡ Done
+pub no_number : (text : List ℕ) (n : ℕ) → n ≡ 0 → line_numbered text n ≡ None
 no_number text n e = ap (line_numbered text) e ∙ go (utf8 text)
   where
-    go : (b : Bool) → cond b Done Done ≡ Done
+    go : (b : Bool) → ◌≡◌ {A = Option Line} (cond b None None) None
     go true = refl
     go false = refl
 
@@ -83,7 +83,7 @@ pub numbered : (text : List ℕ) (n : ℕ) → utf8 text ≡ true → (n ≡ 0 �
 numbered text n u h =
     let e : n ≡ suc (n - 1) = omega arith in
     let z : start_of (n - 1) text ≡ 0 + start_of (n - 1) text = omega arith in
-    ap (λ (b : Bool). cond b (nth_step n text) Done) u ∙ ap (λ (m : ℕ). nth_step m text) e ∙ ap (line_at text) z
+    ap (λ (b : Bool). cond b (nth_step n text) None) u ∙ ap (λ (m : ℕ). nth_step m text) e ∙ ap (line_at text) z
 
 -- where the trimmed text of the line of a number starts, by whether the text is UTF-8; and of a line with k before it
 module _ (text : List ℕ) where
@@ -94,7 +94,7 @@ module _ (text : List ℕ) where
   placed k = cond (leb (suc k) (length (lines text))) (start_of k text + leading_blanks (get_or (lines text) k [])) 0
 
 -- what the line of a number says, by where it stands
-by_number : {P : Type 0} (text : List ℕ) (n : ℕ) → (line_numbered text n ≡ Done → trimmed_line text n ≡ [] → trimmed_place text n ≡ 0 → P)
+by_number : {P : Type 0} (text : List ℕ) (n : ℕ) → (line_numbered text n ≡ None → trimmed_line text n ≡ [] → trimmed_place text n ≡ 0 → P)
     → ((k : ℕ) → line_numbered text n ≡ line_at text (start_of k text) → trimmed_line text n ≡ trimmed (get_or (lines text) k []) → trimmed_place text n ≡ placed text k → P)
     → P
 by_number {P = P} text n none some = go (utf8 text) n refl refl
@@ -105,7 +105,7 @@ by_number {P = P} text n none some = go (utf8 text) n refl refl
         none (no_number text n e) (ap (λ (b : Bool). cond b (trimmed (nth_line n (lines text))) []) u ∙ ap (λ (m : ℕ). trimmed (nth_line m (lines text))) e)
         (ap₂ (place_by text) u e ∙ ap (λ (b : Bool). cond b 0 0) (le-leb 0 (length (lines text)) (omega arith)))
     go true (suc k) u e =
-        some k (ap (λ (b : Bool). cond b (nth_step n text) Done) u ∙ ap (λ (m : ℕ). nth_step m text) e)
+        some k (ap (λ (b : Bool). cond b (nth_step n text) None) u ∙ ap (λ (m : ℕ). nth_step m text) e)
         (ap (λ (b : Bool). cond b (trimmed (nth_line n (lines text))) []) u ∙ ap (λ (m : ℕ). trimmed (nth_line m (lines text))) e)
         (let z : suc k - 1 ≡ k = omega arith in
         ap₂ (place_by text) u e ∙ ap (λ (i : ℕ). cond (leb (suc k) (length (lines text))) (start_of i text + leading_blanks (get_or (lines text) k [])) 0) z)
@@ -121,16 +121,16 @@ module _ (text : List ℕ) (k : ℕ) where
   placed_none h = ap (λ (b : Bool). cond b (start_of k text + leading_blanks (get_or (lines text) k [])) 0) (lt-leb (suc k) (length (lines text)) (omega (arith, no_line k text h)))
 
 module _ (text : List ℕ) (n : ℕ) where
-  pub numbered_none : line_numbered text n ≡ Done → trimmed_line text n ≡ []
+  pub numbered_none : line_numbered text n ≡ None → trimmed_line text n ≡ []
   numbered_none e =
       by_number text n (λ _ t _. t)
       (λ k p t _. t ∙ ap trimmed (sym (starts_at k text) ∙ ap first_line (past text (start_of k text) (is_past text (start_of k text) (sym p ∙ e)))))
 
-  pub none_place : line_numbered text n ≡ Done → trimmed_place text n ≡ 0
+  pub none_place : line_numbered text n ≡ None → trimmed_place text n ≡ 0
   none_place e = by_number text n (λ _ _ w. w) (λ k p _ w. w ∙ placed_none text k (is_past text (start_of k text) (sym p ∙ e)))
 
-  module _ (l : Line) (e : line_numbered text n ≡ Next l) where
-    some_line : line_numbered text n ≡ Done → ⊥
+  module _ (l : Line) (e : line_numbered text n ≡ Some l) where
+    some_line : line_numbered text n ≡ None → ⊥
     some_line p = let z : ◌≡◌ {A = ℕ} 0 1 = cc in omega arith
 
     pub numbered_line : IsLine text l.start l

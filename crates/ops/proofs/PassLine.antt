@@ -1,6 +1,7 @@
 -- One line more of a pass, whether it writes or not.
-use Prim.Native.Nat.{ℕ, ◌+◌, ◌<◌, ◌≤◌, min}
-use mathlib.Core.Path.{◌≡◌, refl, sym, ap, ◌∙◌}
+use Rattle.std.specs.Prelude.{Result, Err}
+use Prim.Native.Nat.{ℕ, ◌+◌, ◌<◌, min}
+use mathlib.Core.Path.{◌≡◌, sym, ap, ◌∙◌}
 use mathlib.Core.List.{List}
 use mathlib.Core.Bool.{Bool, true, false}
 use native.Mathlib.Omega.{arith}
@@ -11,15 +12,13 @@ use Rattle.lines.specs.Lines.{lines}
 use Rattle.operation.specs.Line.{Rule}
 use Rattle.ops.specs.Ops.{read_lines, not_empty, answer_of}
 use Rattle.operation.specs.Code.Fast.{line_read_at}
-use Rattle.ops.specs.Code.Passes.{NoneRefused, Filled, PassOver}
+use Rattle.ops.specs.Code.Passes.{Filled, PassOver}
 use Rattle.operation.specs.declared.OpsError.{OpsError}
-use Rattle.operation.specs.declared.OpsError.TheVariants.{Full, Empty}
-use Rattle.ops.specs.declared.ParsedOps.{ParsedOps}
-use Rattle.ops.specs.declared.ParsedOps.TheVariants.{Read, Refused}
-use Rattle.operation.specs.declared.line.LineRead.TheVariants.{Skip, Op, Bad}
+use Rattle.operation.specs.declared.OpsError.TheVariants.{Full}
+use Rattle.operation.specs.declared.line.LineRead.TheVariants.{Skip, Op}
 use Rattle.operation.specs.declared.line.ReadLine.{ReadLine}
-use Rattle.ops.proofs.FirstPass.{Scanned, scan_first, scan_empty, scan_some, scan_skip, scan_bad, scan_full, scan_op}
-use Rattle.ops.proofs.SecondPass.{Filling, fill_first, filled, fill_skip, fill_bad, fill_room, fill_op}
+use Rattle.ops.proofs.FirstPass.{Scanned, scan_skip, scan_full, scan_op}
+use Rattle.ops.proofs.SecondPass.{Filling, fill_skip, fill_room, fill_op}
 
 pub record Passing (rule : Rule) (text kinds₀ operands₀ : List ℕ) (writing : Bool) (room : ℕ) (kinds operands : List ℕ) (at line n : ℕ) : Type 0 where
   pub room_is : room ≡ min (length kinds₀) (length operands₀)
@@ -30,21 +29,8 @@ pub record Passing (rule : Rule) (text kinds₀ operands₀ : List ℕ) (writing
   pub kept_operands : writing ≡ false → operands ≡ operands₀
   pub filling : writing ≡ true → Filling rule text kinds₀ operands₀ kinds operands at line n
 
-pub pass_first : (rule : Rule) (text kinds operands : List ℕ) (writing : Bool) (room : ℕ) → room ≡ min (length kinds) (length operands) → (writing ≡ true → NoneRefused rule text kinds operands)
-    → Passing rule text kinds operands writing room kinds operands 0 0 0
-pass_first rule text kinds operands writing room m g =
-    record {
-      room_is = m;
-      scanned = scan_first rule text room;
-      same_kinds = refl;
-      same_operands = refl;
-      kept_kinds = λ _. refl;
-      kept_operands = λ _. refl;
-      filling = λ w. fill_first rule text kinds operands (g w);
-    }
-
 module _ {rule : Rule} {text kinds₀ operands₀ kinds operands : List ℕ} {writing : Bool} {room at line n : ℕ} (p : Passing rule text kinds₀ operands₀ writing room kinds operands at line n) where
-  ends : (r : ParsedOps) → r ≡ answer_of (and_then (read_lines rule text 0 (lines text) room) not_empty) → (writing ≡ true → Filled rule text kinds₀ operands₀ kinds operands)
+  ends : (r : Result ℕ OpsError) → r ≡ answer_of (and_then (read_lines rule text 0 (lines text) room) not_empty) → (writing ≡ true → Filled rule text kinds₀ operands₀ kinds operands)
       → PassOver rule text kinds₀ operands₀ kinds operands writing r
   ends r e f =
       record {
@@ -53,14 +39,6 @@ module _ {rule : Rule} {text kinds₀ operands₀ kinds operands : List ℕ} {wr
         kept_operands = p.kept_operands;
         filled = f;
       }
-
-  -- at the end
-  module _ (h : length text ≤ at) where
-    pub pass_empty : n ≡ 0 → PassOver rule text kinds₀ operands₀ kinds operands writing (Refused Empty)
-    pass_empty e = ends (Refused Empty) (scan_empty p.scanned h e) (λ w. filled (p.filling w) h)
-
-    pub pass_some : (n ≡ 0 → ⊥) → PassOver rule text kinds₀ operands₀ kinds operands writing (Read n)
-    pass_some e = ends (Read n) (scan_some p.scanned h e) (λ w. filled (p.filling w) h)
 
   -- at a line
   module _ (h : at < length text) (r : ReadLine) (e : r ≡ line_read_at rule text at (line + 1)) where
@@ -76,13 +54,10 @@ module _ {rule : Rule} {text kinds₀ operands₀ kinds operands : List ℕ} {wr
           filling = λ w. fill_skip (p.filling w) h r e q;
         }
 
-    pub pass_bad : (x : OpsError) → r.read ≡ Bad x → PassOver rule text kinds₀ operands₀ kinds operands writing (Refused x)
-    pass_bad x q = ends (Refused x) (scan_bad p.scanned h r e x q) (λ w. fill_bad (p.filling w) h r e x q)
-
     module _ (k v : ℕ) (q : r.read ≡ Op k v) where
-      pub pass_full : n ≡ room → PassOver rule text kinds₀ operands₀ kinds operands writing (Refused (Full (line + 1)))
+      pub pass_full : n ≡ room → PassOver rule text kinds₀ operands₀ kinds operands writing (Err (Full (line + 1)))
       pass_full z =
-          ends (Refused (Full (line + 1))) (scan_full p.scanned h r e k v q z)
+          ends (Err (Full (line + 1))) (scan_full p.scanned h r e k v q z)
           (λ w. absurd (let f = fill_room (p.filling w) h r e k v q in let m = p.room_is in omega arith))
 
       module _ (z : n ≡ room → ⊥) where

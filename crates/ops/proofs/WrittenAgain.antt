@@ -1,4 +1,5 @@
 -- What is read can be written, and reading that gives it again.
+use Rattle.std.specs.Prelude.{Option, Some, None}
 use Prim.Native.Nat.{ℕ, zero, suc, ◌+◌, ◌^◌, ◌<◌, ◌≤◌}
 use mathlib.Core.Path.{◌≡◌, refl, sym, ap, ap₂, subst, ◌∙◌}
 use mathlib.Core.List.{List, [], ◌∷◌, map}
@@ -15,8 +16,6 @@ use Rattle.utf8.specs.Utf8.{utf8}
 use Rattle.lines.specs.Lines.{lines}
 use Rattle.trim.specs.Trim.{start_trimmed, trimmed}
 use Rattle.decimal.specs.Decimal.{digit, value, without_plus}
-use Rattle.decimal.specs.declared.Number.{Number}
-use Rattle.decimal.specs.declared.Number.TheVariants.{Is, Invalid}
 use Rattle.kinds.specs.Kinds.{kind_of, Operation, operation}
 use Rattle.mnemonic.specs.Kinds.{follows, head_of}
 use Rattle.operation.specs.Line.{Rule, from_str, ReadsDigits, ReadsWords, of_number, head_read, skipped, line_of}
@@ -39,33 +38,33 @@ from_str_words operand t v e = go (ltb 0 (length s)) (all digit s) e
     s : List ℕ
     s = without_plus t
 
-    same : Is (value s) ≡ Is v → value s ≡ v
+    same : Some (value s) ≡ Some v → value s ≡ v
     same e = cc
 
-    large : Invalid ≡ Is v → ⊥
+    large : None ≡ Some v → ⊥
     large e = let z : ◌≡◌ {A = ℕ} 0 1 = cc in omega arith
 
-    fits : cond (ltb (value s) (2 ^ 64)) (Is (value s)) Invalid ≡ Is v → v < 2 ^ 64
+    fits : cond (ltb (value s) (2 ^ 64)) (Some (value s)) None ≡ Some v → v < 2 ^ 64
     fits e =
         by_bool (ltb (value s) (2 ^ 64))
-        (λ b. omega (arith, ltb-true (value s) (2 ^ 64) b, same (sym (ap (λ (b : Bool). cond b (Is (value s)) Invalid) b) ∙ e)))
-        (λ b. absurd (large (sym (ap (λ (b : Bool). cond b (Is (value s)) Invalid) b) ∙ e)))
+        (λ b. omega (arith, ltb-true (value s) (2 ^ 64) b, same (sym (ap (λ (b : Bool). cond b (Some (value s)) None) b) ∙ e)))
+        (λ b. absurd (large (sym (ap (λ (b : Bool). cond b (Some (value s)) None) b) ∙ e)))
 
-    go : (a b : Bool) → cond (a && b && ltb (value s) (2 ^ 64)) (Is (value s)) Invalid ≡ Is v → v < 2 ^ 64
+    go : (a b : Bool) → cond (a && b && ltb (value s) (2 ^ 64)) (Some (value s)) None ≡ Some v → v < 2 ^ 64
     go true true e = fits e
     go true false e = absurd (large e)
     go false b e = absurd (large e)
 
 -- by a rule whose numbers fit 64 bits
 module _ (rule : Rule) (words : ReadsWords rule) where
-  number_read : (k line place len : ℕ) (x : Number) → k < 16 → follows (kind_of k).operand ≡ true → ((n : ℕ) → x ≡ Is n → n < 2 ^ 64)
+  number_read : (k line place len : ℕ) (x : Option ℕ) → k < 16 → follows (kind_of k).operand ≡ true → ((n : ℕ) → x ≡ Some n → n < 2 ^ 64)
       → (j v : ℕ) → of_number k line place len x ≡ Op j v → IsRead (operation j v)
-  number_read k line place len (Is n) h f w j v e =
+  number_read k line place len (Some n) h f w j v e =
       let p : k ≡ j = cc in
       let q : n ≡ v = cc in
       subst IsRead (ap₂ operation p q)
       (record { is = record { kind = h; operand = w n refl }; unused = cleared_same (operation k n) (λ g. false_true (sym g ∙ f)) })
-  number_read k line place len Invalid h f w j v e = absurd (let z : ◌≡◌ {A = ℕ} 0 1 = cc in omega arith)
+  number_read k line place len None h f w j v e = absurd (let z : ◌≡◌ {A = ℕ} 0 1 = cc in omega arith)
 
   alone_read : (k : ℕ) → k < 16 → (j v : ℕ) → Op k 0 ≡ Op j v → IsRead (operation j v)
   alone_read k h j v e =

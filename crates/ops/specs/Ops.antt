@@ -1,4 +1,5 @@
 -- The operations of a text, and the refusals by document 01's numbers.
+use Rattle.std.specs.Prelude.{Result, Ok, Err}
 use Rattle.std.specs.Prelude.{ℕ, zero, suc, ◌+◌, ◌-◌, min, ◌≡◌, List, [], ◌∷◌, map, cond, ◌&&◌, leb, length, get_or, drop}
 pub use Rattle.kinds.specs.Kinds.{Operation}
 use Rattle.base.specs.Overwrite.{overwrite}
@@ -12,8 +13,6 @@ use Rattle.operation.specs.Line.{Rule, from_str, line_of}
 use Rattle.ops.specs.Numbers.{parsed_ops_numbered}
 use Rattle.operation.specs.declared.OpsError.{OpsError}
 use Rattle.operation.specs.declared.OpsError.TheVariants.{NotUtf8, Full, Empty}
-use Rattle.ops.specs.declared.ParsedOps.{ParsedOps}
-use Rattle.ops.specs.declared.ParsedOps.TheVariants.{Read, Refused}
 use Rattle.operation.specs.declared.line.LineRead.{LineRead}
 use Rattle.operation.specs.declared.line.LineRead.TheVariants.{Skip, Op, Bad}
 
@@ -55,9 +54,9 @@ abbrev pub read_text : List ℕ → ℕ → Reading
 read_text text room = read_by from_str text room
 
 -- the answer, and the operations where there is no refusal
-abbrev pub answer_of : Reading → ParsedOps
-answer_of (is os) = Read (length os)
-answer_of (refused e) = Refused e
+abbrev pub answer_of : Reading → Result ℕ OpsError
+answer_of (is os) = Ok (length os)
+answer_of (refused e) = Err e
 
 abbrev pub ops_of : Reading → List Operation
 ops_of (is os) = os
@@ -70,7 +69,7 @@ abbrev pub operands_of : List Operation → List ℕ
 operands_of os = map (λ o. o.operand) os
 
 -- what reading gives: the answer, document 01's number and values of it, and the buffers
-pub record ReadsOps (text kinds operands kinds_after operands_after : List ℕ) (r : ParsedOps) : Type 0 where
+pub record ReadsOps (text kinds operands kinds_after operands_after : List ℕ) (r : Result ℕ OpsError) : Type 0 where
   pub answer : r ≡ answer_of (read_text text (min (length kinds) (length operands)))
   pub says : parsed_ops_numbered r ≡ parsed_ops_numbered (answer_of (read_text text (min (length kinds) (length operands))))
   pub kinds_written : kinds_after ≡ overwrite 0 (kinds_of (ops_of (read_text text (min (length kinds) (length operands))))) kinds

@@ -9,44 +9,22 @@ ghost use Rattle.ops.specs.Ops.{ReadsOps, trimmed_line, trimmed_place};
 ghost use Rattle.ops.specs.Code.Numbered.{line_numbered};
 ghost use Rattle.ops.specs.Code.Passes.{NoneRefused, PassOver};
 
-use base::min;
-use lines::Step;
-use numbered::{Numbered, carrying_one};
+use lines::Line;
 use operation::OpsError;
 use operation::line::{LineRead, line_read_at};
-
-#[derive(Clone, Copy)]
-pub enum ParsedOps {
-    Read(usize),
-    Refused(OpsError),
-}
-
-impl ParsedOps {
-    pub fn numbered(self) -> Numbered
-        ensures { result ≡ parsed_ops_numbered self }
-    {
-        match self {
-            ParsedOps::Read(n) => carrying_one(0, n as u64),
-            ParsedOps::Refused(e) => e.numbered(),
-        }
-    }
-}
 
 // Reads the operations of a text, one to a line, into the start of both buffers. It refuses with 27 to 33 of document 01, as they are met
 // line by line, and then leaves both buffers unchanged; a success leaves unchanged what lies behind the operations. The text is read
 // twice: first for the answer, then, unless that is a refusal, to write.
-pub fn parse_ops(text: &[u8], kinds: &mut [u8], operands: &mut [u64]) -> ParsedOps
+pub fn parse_ops(text: &[u8], kinds: &mut [u8], operands: &mut [u64]) -> Result<usize, OpsError>
     ensures { ReadsOps text.now kinds.old operands.old kinds.new
         operands.new result }
 {
     if !utf8::is_utf8(text) {
-        return ParsedOps::Refused(OpsError::NotUtf8);
+        return Err(OpsError::NotUtf8);
     }
-    let answer = pass(text, kinds, operands, false);
-    match answer {
-        ParsedOps::Read(_) => pass(text, kinds, operands, true),
-        ParsedOps::Refused(_) => answer,
-    }
+    pass(text, kinds, operands, false)?;
+    pass(text, kinds, operands, true)
 }
 
 // The trimmed text of a line by its number from 1, as a part of the caller's text. It refuses nothing: the part is empty where the text
@@ -54,75 +32,64 @@ pub fn parse_ops(text: &[u8], kinds: &mut [u8], operands: &mut [u64]) -> ParsedO
 pub fn trimmed_line<'a>(text: &'a [u8], line: usize) -> &'a [u8]
     ensures { Part text.entry result (trimmed_place text.now line) (trimmed_line text.now line) }
 {
-    let step = nth_line(text, line);
-    match step {
-        Step::Next(l) => {
-            let start = l.start;
-            let end = l.end;
-            trim::trim(&text[start..end])
-        }
-        Step::Done => &text[..0],
+    match nth_line(text, line) {
+        Some(l) => trim::trim(&text[l.start..l.end]),
+        None => &text[..0],
     }
 }
 
 // Where the line of a number from 1 stands.
-pub fn nth_line(text: &[u8], line: usize) -> Step
+pub fn nth_line(text: &[u8], line: usize) -> Option<Line>
     ensures { result ≡ line_numbered text.now line }
 {
-    if line == 0 {
-        return Step::Done;
-    }
-    if !utf8::is_utf8(text) {
-        return Step::Done;
+    if line == 0 || !utf8::is_utf8(text) {
+        return None;
     }
     let mut at: usize = 0;
-    let mut left = line - 1;
-    while 0 < left {
-        let step = lines::line_at(text, at);
-        let Step::Next(l) = step else {
-            return Step::Done;
-        };
-        at = l.next;
-        left -= 1;
+    for _ in 1..line {
+        at = lines::line_at(text, at)?.next;
     }
     lines::line_at(text, at)
 }
 
-// One pass over a text that is UTF-8. It gives the answer, and writes the operations only where it is told to.
-fn pass(text: &[u8], kinds: &mut [u8], operands: &mut [u64], writing: bool) -> ParsedOps
+// One pass over a text that is UTF-8. It gives the answer, and writes the operations only where it is told to. Two functions are two copies
+// of the line reader (docs/DECISIONS.md); a closure that writes is no plainer, as its steps alone would say what the buffers hold.
+fn pass(
+    text: &[u8],
+    kinds: &mut [u8],
+    operands: &mut [u64],
+    writing: bool,
+) -> Result<usize, OpsError>
     requires { writing ≡ true → NoneRefused from_str text.now kinds.old operands.old }
     ensures { PassOver from_str text.now kinds.old operands.old kinds.new
         operands.new writing result }
 {
-    let room = min(kinds.len(), operands.len());
+    let room = kinds.len().min(operands.len());
     let mut at: usize = 0;
     let mut line: usize = 0;
     let mut n: usize = 0;
+    // Each line says where the next one starts: no iterator has that step.
     while at < text.len() {
         line += 1;
         let reached = line_read_at(text, at, line);
-        let read = reached.read;
         at = reached.next;
-        match read {
+        match reached.read {
             LineRead::Skip => {}
             LineRead::Op { kind, operand } => {
                 if n == room {
-                    return ParsedOps::Refused(OpsError::Full { line });
+                    return Err(OpsError::Full { line });
                 }
-                let here = n;
-                n += 1;
                 if writing {
-                    kinds[here] = kind;
-                    operands[here] = operand;
+                    kinds[n] = kind;
+                    operands[n] = operand;
                 }
+                n += 1;
             }
-            LineRead::Bad(e) => {
-                return ParsedOps::Refused(e);
-            }
+            LineRead::Bad(e) => return Err(e),
         }
     }
     if n == 0 {
-        return ParsedOps::Refused(OpsError::Empty);
+        return Err(OpsError::Empty);
     }
-    ParsedOps::Read(n)
+    Ok(n)
 }

@@ -1,17 +1,18 @@
 -- Laws of components and stems.
+use Rattle.std.specs.Prelude.{Option, Some, None, MatchOption}
 use Prim.Native.Nat.{ℕ, suc, ◌+◌, ◌-◌, ◌<◌, ◌≤◌}
 use mathlib.Core.Path.{◌≡◌, refl, sym, ap, subst, ◌∙◌}
 use mathlib.Core.List.{List, [], ◌∷◌, ◌++◌, append-nil, append_assoc}
-use mathlib.Core.Bool.{true, false, cond, ◌&&◌, or-true}
+use mathlib.Core.Bool.{true, false, cond, or-true}
 use borrow.Author.Tests.{eq-eqb, ne_eqb}
 use native.Mathlib.Omega.{arith}
 use lib.Dec.{eqb}
 use lib.ListN.{length, get_or, take, drop, length-drop}
-use lib.Seq.{split_at, take-take, length-take-le}
-use Rattle.base.proofs.Parts.{drop_cons_at, take-length-drop, take-drop_slice}
+use lib.Seq.{split_at, take-take, length-take-le, get_or-drop}
+use Rattle.base.proofs.Parts.{take-length-drop, take-drop_slice}
 use Rattle.base.proofs.Tests.{false_true, by_eqb}
-use Rattle.path.specs.Stem.{parts_from, ignored, last_of, component, parent, has, before_last, stem_of}
-use Rattle.path.specs.Code.Scan.{Last, StartsPart}
+use Rattle.path.specs.Stem.{parts_from, ignored, last_of, component, has, before_last, stem_of}
+use Rattle.path.specs.Code.Scan.{Last, LastAt, StartsPart}
 
 -- a byte that a text has not
 module _ (b a : ℕ) (s : List ℕ) (h : has b (a ∷ s) ≡ false) where
@@ -67,10 +68,10 @@ split_last b s i l =
 
 -- where the last part of the text before a place starts
 module _ (s : List ℕ) (end : ℕ) (k : end ≤ length s) where
-  pub starts_first : has 0x2F (take end s) ≡ false → StartsPart s end 0
+  starts_first : has 0x2F (take end s) ≡ false → StartsPart s end 0
   starts_first h = let z : end - 0 ≡ end = omega arith in record { ordered = omega arith; last = rw z (component_one (take end s) h) }
 
-  pub starts_behind : (i : ℕ) → Last 0x2F (take end s) i → StartsPart s end (i + 1)
+  starts_behind : (i : ℕ) → Last 0x2F (take end s) i → StartsPart s end (i + 1)
   starts_behind i l =
       let t = take end s in
       let n = length-take-le end s k in
@@ -88,27 +89,10 @@ module _ (s : List ℕ) (end : ℕ) (k : end ≤ length s) where
             ∙ ap (λ (u : List ℕ). cond (ignored (take (end - (i + 1)) (drop (i + 1) s))) (component u) (take (end - (i + 1)) (drop (i + 1) s))) y;
       }
 
--- the tests of a part, by its length
-pub ignored_empty : (s : List ℕ) → length s ≡ 0 → ignored s ≡ true
-ignored_empty [] e = refl
-ignored_empty (a ∷ s) e = absurd (omega arith)
-
-pub ignored_some : (s : List ℕ) → (length s ≡ 0 → ⊥) → (eqb (length s) 1 && eqb (get_or s 0 0) 0x2E) ≡ ignored s
-ignored_some [] n = absurd (n refl)
-ignored_some (a ∷ []) n = refl
-ignored_some (a ∷ b ∷ s) n = rw (ne_eqb (suc (suc (length s))) 1 (λ e. omega arith))
-
-pub parent_two : (s : List ℕ) → length s ≡ 2 → (eqb (get_or s 0 0) 0x2E && eqb (get_or s 1 0) 0x2E) ≡ parent s
-parent_two [] e = absurd (omega arith)
-parent_two (a ∷ []) e = absurd (omega arith)
-parent_two (a ∷ b ∷ []) e = refl
-parent_two (a ∷ b ∷ c ∷ s) e = absurd (omega arith)
-
-pub parent_none : (s : List ℕ) → (length s ≡ 2 → ⊥) → parent s ≡ false
-parent_none [] n = refl
-parent_none (a ∷ []) n = refl
-parent_none (a ∷ b ∷ []) n = absurd (n refl)
-parent_none (a ∷ b ∷ c ∷ s) n = refl
+-- by the last slash before it
+pub starts_part : (s : List ℕ) (end : ℕ) → end ≤ length s → (r : Option ℕ) (v : ℕ) → LastAt 0x2F (take end s) r → MatchOption r (v ≡ 0) (λ i. v ≡ i + 1) → StartsPart s end v
+starts_part s end k None v l e = rw e (starts_first s end k l)
+starts_part s end k (Some i) v l e = rw e (starts_behind s end k i l)
 
 -- what stands before the last of a byte
 before_none : (b : ℕ) (s : List ℕ) → has b s ≡ false → before_last b s ≡ s
@@ -129,14 +113,6 @@ tail_length s = ap length (take-length-drop s 1) ∙ length-drop 1 s
 tail_cons : (a : ℕ) (s : List ℕ) → tail (a ∷ s) ≡ s
 tail_cons a s = take-length-drop (a ∷ s) 1
 
-pub stem_empty : (s : List ℕ) → length s ≡ 0 → stem_of s ≡ s
-stem_empty [] e = refl
-stem_empty (a ∷ s) e = absurd (omega arith)
-
-pub stem_whole : (s : List ℕ) → has 0x2E (tail s) ≡ false → stem_of s ≡ s
-stem_whole [] h = refl
-stem_whole (a ∷ s) h = ap (λ (u : List ℕ). a ∷ u) (before_none 0x2E s (sym (ap (has 0x2E) (tail_cons a s)) ∙ h))
-
 pub stem_cut : (s : List ℕ) (i : ℕ) → Last 0x2E (tail s) i → stem_of s ≡ take (i + 1) s
 stem_cut [] i l = let m = l.inside in absurd (omega (arith, tail_length []))
 stem_cut (a ∷ s) i l =
@@ -146,13 +122,22 @@ stem_cut (a ∷ s) i l =
     ∙ ap (λ (u : List ℕ). a ∷ u) (before_last_lem 0x2E (take i s) (drop (i + 1) s) k.behind)
     ∙ ap (λ (j : ℕ). take j (a ∷ s)) e
 
--- a scan from the end that came to i
-module _ (b : ℕ) (s : List ℕ) (i : ℕ) (p : 0 < i) (k : i ≤ length s) (h : has b (drop i s) ≡ false) where
-  pub scan_hit : get_or s (i - 1) 0 ≡ b → Last b s (i - 1)
-  scan_hit e = let z : i - 1 + 1 ≡ i = omega arith in record { inside = omega arith; here = e; behind = rw z h }
+-- a list without a byte
+has_none : (b : ℕ) (s : List ℕ) → ((k : ℕ) → k < length s → get_or s k 0 ≡ b → ⊥) → has b s ≡ false
+has_none b [] f = refl
+has_none b (a ∷ s) f = none_front b a s (f 0 (omega arith)) (has_none b s (λ k h. f (suc k) (omega arith)))
 
-  pub scan_miss : (get_or s (i - 1) 0 ≡ b → ⊥) → has b (drop (i - 1) s) ≡ false
-  scan_miss n = rw (drop_cons_at s (i - 1) i (omega arith) (omega arith)) (none_front b (get_or s (i - 1) 0) (drop i s) n h)
+-- the last place of a byte
+pub last_found : (b : ℕ) (s : List ℕ) (r : Option ℕ)
+    → MatchOption r ((k : ℕ) → k < length s → get_or s k 0 ≡ b → ⊥) (λ i. (i < length s) × (get_or s i 0 ≡ b) × ((k : ℕ) → i < k → k < length s → get_or s k 0 ≡ b → ⊥))
+    → LastAt b s r
+last_found b s None f = has_none b s f
+last_found b s (Some i) f =
+    record {
+      inside = f.0;
+      here = f.1;
+      behind = has_none b (drop (i + 1) s) (λ k h e. f.2 (i + 1 + k) (omega arith) (omega (arith, length-drop (i + 1) s)) (sym (get_or-drop (i + 1) s k 0) ∙ e));
+    }
 
 -- the last component by the last part
 module _ (s : List ℕ) (end start : ℕ) (e : component s ≡ component (take end s)) (p : StartsPart s end start) where

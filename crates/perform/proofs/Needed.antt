@@ -4,16 +4,18 @@ use native.Mathlib.Omega.{arith}
 use native.Mathlib.Decide.{dec_lt}
 use native.Mathlib.Numerals.{add-one}
 use mathlib.Core.Path.{◌≡◌, refl, sym, ap, ◌∙◌}
-use mathlib.Core.Bool.{Bool, true, false, cond, ◌&&◌, ◌||◌, or-false, and-false}
+use mathlib.Core.Bool.{Bool, true, false, cond, ◌&&◌, ◌||◌, and-false}
 use mathlib.Core.List.{List, [], ◌∷◌, ◌++◌}
-use lib.ListN.{length, get_or, set, take, drop, length-set, length-append, length-drop, drop_of_length-le, get_or-append, get_or-eq_default}
-use lib.Seq.{get_or-set_same, get_or-set_other, get_or-take, get_or-drop, get_or-append-add, length-take-le, ext_get_or}
+use lib.ListN.{length, get_or, take, drop, length-append, length-drop, get_or-append, get_or-eq_default}
+use lib.Seq.{get_or-take, get_or-drop, get_or-append-add, length-take-le, ext_get_or}
 use lib.Dec.{eqb, leb, ltb}
-use borrow.Author.Tests.{eq-eqb, ne_eqb, le-leb, lt-leb, lt-ltb, le-ltb}
+use borrow.Rule.Slice.PartMut.{put_mid}
+use Rattle.std.proofs.Common.{rules}
+use Rattle.std.proofs.lemmas.List.{places}
+use Rattle.std.specs.List.{list_any}
+use borrow.Author.Tests.{eq-eqb, le-leb, lt-leb, lt-ltb, le-ltb}
 use Rattle.base.proofs.Tests.{false_true, and_right, and_both, by_bool, by_eqb}
-use Rattle.base.proofs.Parts.{drop_cons_at}
 use Rattle.kinds.specs.Kinds.{Operation, operation}
-use Rattle.kinds.proofs.ByKind.{takes_slot}
 use Rattle.machine.specs.Machine.{store_at, price_of, halt, decode, run_to_end}
 use Rattle.machine.specs.Code.Alike.{AlikeBut}
 use Rattle.machine.proofs.Alike.{Respects, same_whole}
@@ -27,13 +29,16 @@ copied_none c s d e = record { long = refl; each = λ j h. rw (e j) }
 pub copied_as : (c c' : ℕ → Bool) {s d x : List ℕ} → ((j : ℕ) → c j ≡ c' j) → Copied c s d x → Copied c' s d x
 copied_as c c' e p = record { long = p.long; each = λ j h. rw (← e j) (p.each j h) }
 
--- one slot
-pub copied_set : (i : ℕ) (s d : List ℕ) → i < length d → Copied (λ j. eqb i j) s d (set d i (get_or s i 0))
-copied_set i s d h =
-    record {
-      long = length-set d i (get_or s i 0);
-      each = λ j l. by_eqb i j (λ e. rw (eq-eqb i j e, ← e) (get_or-set_same d i (get_or s i 0) 0 h)) (λ n. rw (ne_eqb i j n) (get_or-set_other d i j (get_or s i 0) 0 (λ e. n (sym e))));
-    }
+-- a part
+pub part_copied : (a e : ℕ) (s d q : List ℕ) → a ≤ e → e ≤ length d → e ≤ length s → q ≡ take (e - a) (drop a s) → Copied (λ j. leb a j && ltb j e) s d (put_mid a (e - a) d q)
+part_copied a e s d q h k l f =
+    rw f (record { long = search (rules, places); each = λ j b. go j b (dec_lt j a) (dec_lt j e) })
+  where
+    go : (j : ℕ) → j < length d → Dec (j < a) → Dec (j < e)
+        → get_or (put_mid a (e - a) d (take (e - a) (drop a s))) j 0 ≡ cond (leb a j && ltb j e) (get_or s j 0) (get_or d j 0)
+    go j b (yes x) y = rw (lt-leb a j x) (grind (arith, places))
+    go j b (no x) (yes y) = rw (le-leb a j (omega arith), lt-ltb j e y) (grind (arith, places))
+    go j b (no x) (no y) = rw (le-leb a j (omega arith), le-ltb j e (omega arith)) (grind (arith, places))
 
 -- a copy, and then another from the same source
 pub copied_both : (c c' : ℕ → Bool) {s d x y : List ℕ} → Copied c s d x → Copied c' s x y → Copied (λ j. c j || c' j) s d y
@@ -45,20 +50,6 @@ copied_both c c' {s = s} {d = d} {x = x} p q = record { long = q.long ∙ p.long
     go false true n u v e = refl
     go false false n u v e = e
 
--- the part up to i, and the slot i
-part_next : (a i j : ℕ) → a ≤ i → ((leb a j && ltb j i) || eqb i j) ≡ (leb a j && ltb j (i + 1))
-part_next a i j h = by_eqb i j (λ e. here e) (λ n. other n)
-  where
-    here : i ≡ j → ((leb a j && ltb j i) || eqb i j) ≡ (leb a j && ltb j (i + 1))
-    here e = rw (← e, le-leb a i h, le-ltb i i (omega arith), eq-eqb i i refl, lt-ltb i (i + 1) (omega arith))
-
-    other : (i ≡ j → ⊥) → ((leb a j && ltb j i) || eqb i j) ≡ (leb a j && ltb j (i + 1))
-    other n = go (dec_lt j i)
-      where
-        go : Dec (j < i) → ((leb a j && ltb j i) || eqb i j) ≡ (leb a j && ltb j (i + 1))
-        go (yes l) = rw (ne_eqb i j n, lt-ltb j i l, lt-ltb j (i + 1) (omega arith)) (or-false (leb a j && true))
-        go (no l) = let g : i ≤ j = omega arith in let g' : i + 1 ≤ j = omega arith in rw (ne_eqb i j n, le-ltb j i g, le-ltb j (i + 1) g') (or-false (leb a j && false))
-
 part_none : (a j : ℕ) → (leb a j && ltb j a) ≡ false
 part_none a j = go (dec_lt j a)
   where
@@ -69,10 +60,6 @@ part_none a j = go (dec_lt j a)
     go : Dec (j < a) → (leb a j && ltb j a) ≡ false
     go (yes l) = rw (lt-leb a j l)
     go (no l) = let g : a ≤ j = omega arith in rw (le-ltb j a g) (none (leb a j))
-
-pub part_more : (a i : ℕ) {s d x : List ℕ} → a ≤ i → i < length d → Copied (λ j. leb a j && ltb j i) s d x → Copied (λ j. leb a j && ltb j (i + 1)) s d (set x i (get_or s i 0))
-part_more a i {s = s} {x = x} h l p =
-    copied_as (λ j. (leb a j && ltb j i) || eqb i j) (λ j. leb a j && ltb j (i + 1)) (λ j. part_next a i j h) (copied_both (λ j. leb a j && ltb j i) (λ j. eqb i j) p (copied_set i s x (omega (arith, p.long))))
 
 -- a part that is not made longer by an end before its start
 part_end : (a e i j : ℕ) → a ≤ i → e ≤ i → i ≤ max a e → (leb a j && ltb j i) ≡ (leb a j && ltb j e)
@@ -86,33 +73,8 @@ part_end a e i j h k l = go (dec_lt e a)
     go (yes g) = let q : i ≡ a = omega arith in rw q (part_none a j ∙ sym (none g (dec_lt j a)))
     go (no g) = let q : i ≡ e = omega arith in rw q
 
-pub part_starts : (a : ℕ) (s d : List ℕ) → Copied (λ j. leb a j && ltb j a) s d d
-part_starts a s d = copied_none (λ j. leb a j && ltb j a) s d (part_none a)
-
 pub part_ends : (a e i : ℕ) {s d x : List ℕ} → a ≤ i → e ≤ i → i ≤ max a e → Copied (λ j. leb a j && ltb j i) s d x → Copied (λ j. leb a j && ltb j e) s d x
 part_ends a e i h k l = copied_as (λ j. leb a j && ltb j i) (λ j. leb a j && ltb j e) (λ j. part_end a e i j h k l)
-
--- kinds 11 and 12 name their operand, the others nothing
-names_kind : (k v j : ℕ) → names (operation k v) j ≡ ((eqb k 11 || eqb k 12) && eqb v j)
-names_kind k v j = rw (takes_slot k)
-
--- the test of one operation
-pub slot_copied : (k v used j : ℕ) → (eqb k 11 || eqb k 12) ≡ true → v < used → eqb v j ≡ (names (operation k v) j && ltb j used)
-slot_copied k v used j t h = rw (names_kind k v j, t) (by_eqb v j (λ e. rw (eq-eqb v j e, ← e, lt-ltb v used h)) (λ n. rw (ne_eqb v j n)))
-
-pub slot_past : (k v used j : ℕ) → used ≤ v → (names (operation k v) j && ltb j used) ≡ false
-slot_past k v used j h = rw (names_kind k v j) (by_eqb v j (λ e. rw (eq-eqb v j e, ← e, le-ltb v used h) (none (eqb k 11 || eqb k 12))) (λ n. rw (ne_eqb v j n) (other (eqb k 11 || eqb k 12))))
-  where
-    none : (b : Bool) → ((b && true) && false) ≡ false
-    none true = refl
-    none false = refl
-
-    other : (b : Bool) → ((b && false) && ltb j used) ≡ false
-    other true = refl
-    other false = refl
-
-pub slot_none : (k v used j : ℕ) → (eqb k 11 || eqb k 12) ≡ false → (names (operation k v) j && ltb j used) ≡ false
-slot_none k v used j t = rw (names_kind k v j, t)
 
 -- one operation more
 pub named_more : (ks vs : List ℕ) (used n : ℕ) {s d x y : List ℕ} → Copied (λ j. named ks vs n j && ltb j used) s d x
@@ -159,37 +121,13 @@ stores_at (k ∷ ks) (suc i) h e = go (eqb k 12) (stores_at ks i (omega arith) e
     go true q = refl
     go false q = q
 
--- a hit so far, and what is left of the program
-pub store_next : (ks : List ℕ) (hit : Bool) (i : ℕ) → i < length ks → ((hit || eqb (get_or ks i 0) 12) || stores (drop (i + 1) ks)) ≡ (hit || stores (drop i ks))
+-- the fold over the kinds
+pub stores_any : (ks : List ℕ) → stores ks ≡ list_any (λ k. eqb k 12) ks
 unfolding stores
-store_next ks hit i h = rw (drop_cons_at ks i (i + 1) h refl) (go hit)
-  where
-    go : (b : Bool) → ((b || eqb (get_or ks i 0) 12) || stores (drop (i + 1) ks)) ≡ (b || (eqb (get_or ks i 0) 12 || stores (drop (i + 1) ks)))
-    go true = refl
-    go false = refl
-
-pub store_end : (ks : List ℕ) (hit : Bool) (i : ℕ) → length ks ≤ i → (hit || stores (drop i ks)) ≡ hit
-unfolding stores
-store_end ks hit i h = rw (drop_of_length-le ks h) (go hit)
-  where
-    go : (b : Bool) → (b || false) ≡ b
-    go true = refl
-    go false = refl
+stores_any [] = refl
+stores_any (k ∷ ks) = ap (λ (b : Bool). eqb k 12 || b) (stores_any ks)
 
 module _ (ks vs : List ℕ) (used : ℕ) where
-  pub none_changed : {s d : List ℕ} → stores ks ≡ false → Copied (λ j. changed ks vs used j && ltb j used) s d d
-  none_changed {s = s} {d = d} e = copied_none (λ j. changed ks vs used j && ltb j used) s d (λ j. rw e)
-
-  pub needed-changed : {s d x : List ℕ} → stores ks ≡ true → Copied (λ j. needed ks vs used j && ltb j used) s d x → Copied (λ j. changed ks vs used j && ltb j used) s d x
-  needed-changed e = copied_as (λ j. needed ks vs used j && ltb j used) (λ j. changed ks vs used j && ltb j used) (λ j. rw e)
-
-  -- all slots of a long program, those named by a short one
-  pub all_needed : {s d x : List ℕ} → used / 8 < length ks → Copied (λ j. leb 0 j && ltb j used) s d x → Copied (λ j. needed ks vs used j && ltb j used) s d x
-  all_needed h = copied_as (λ j. leb 0 j && ltb j used) (λ j. needed ks vs used j && ltb j used) (λ j. rw (lt-leb (length ks) (used / 8) h, le-leb 0 j (omega arith)))
-
-  pub named-needed : {s d x : List ℕ} → length ks ≤ used / 8 → Copied (λ j. named ks vs (length ks) j && ltb j used) s d x → Copied (λ j. needed ks vs used j && ltb j used) s d x
-  named-needed h = copied_as (λ j. named ks vs (length ks) j && ltb j used) (λ j. needed ks vs used j && ltb j used) (λ j. rw (le-leb (length ks) (used / 8) h))
-
   needed_at : (i j : ℕ) → i < length ks → names (operation (get_or ks i 0) (get_or vs i 0)) j ≡ true → needed ks vs used j ≡ true
   needed_at i j h e = go (leb (length ks) (used / 8))
     where

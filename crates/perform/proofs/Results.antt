@@ -1,8 +1,8 @@
 -- What a run leaves, from what its parts leave.
+use Rattle.std.specs.Prelude.{Result, Ok}
 use Prim.Native.Nat.{ℕ, ◌+◌, ◌-◌, ◌≤◌}
 use native.Mathlib.Omega.{arith}
-use native.Mathlib.Nat.{sub-zero}
-use mathlib.Core.Path.{◌≡◌, refl, sym, ap, ◌∙◌}
+use mathlib.Core.Path.{◌≡◌, sym, ◌∙◌}
 use mathlib.Core.Bool.{◌&&◌}
 use mathlib.Core.List.{List, ◌++◌}
 use lib.ListN.{length, take, replicate}
@@ -11,44 +11,38 @@ use lib.Dec.{leb, ltb}
 use Rattle.base.specs.Code.Stack.{stack_of}
 use Rattle.base.proofs.Stack.{length_stack, reverse_stack}
 use Rattle.machine.specs.declared.Regs.{Regs}
+use Rattle.machine.specs.declared.Status.TheVariants.{Going, Ended}
 use Rattle.checks.specs.declared.VmError.{VmError}
-use Rattle.checks.specs.Numbers.{vm_error_numbered}
 use Rattle.machine.specs.Machine.{Progress, next, done, stop, decode, run_to_end}
 use Rattle.machine.specs.Code.Alike.{AlikeBut}
-use Rattle.machine.specs.Code.Registers.{frame_of, progress_of, fault_of, RefinesRun}
-use Rattle.machine.proofs.Effects.{refused}
-use Rattle.perform.specs.declared.RunAnswer.{RunAnswer}
-use Rattle.perform.specs.declared.RunAnswer.TheVariants.{Success, Refused}
+use Rattle.machine.specs.Code.Registers.{frame_of, progress_of, RefinesRun}
 use Rattle.perform.specs.Code.Needed.{needed, changed, Copied, Serves}
+use Rattle.perform.specs.declared.Success.{Success}
 use Rattle.perform.specs.Call.{Call}
 use Rattle.perform.specs.Lent.{Lent}
-use Rattle.perform.specs.Run.{of_run, refusal_of, Meets}
+use Rattle.perform.specs.Run.{of_run, Meets}
 use Rattle.perform.proofs.Needed.{served, brought}
 
 -- the run on a work buffer w₀ with the slots that it needs is the run on the storage, but for slots that it can't tell
-pub on_work : (x : Call) (w₀ s w : List ℕ) (from r : Regs) → Lent x.kinds x.operands x.stack x.work x.storage x.state.used → length w₀ ≡ length x.work
+pub on_work : (x : Call) (w₀ s w : List ℕ) (from r : Regs) → Lent x → length w₀ ≡ length x.work
     → Copied (λ j. needed x.kinds x.operands x.state.used j && ltb j x.state.used) x.storage x.work w₀
-    → from ≡ record { pos = 0; gas = x.limit; items = 0; used = x.state.used; ops = 0; code = 0; note = 0 }
+    → from ≡ record { pos = 0; gas = x.limit; items = 0; used = x.state.used; ops = 0; status = Going }
     → RefinesRun (decode x.kinds x.operands) x.caller from r x.stack w₀ s w
     → AlikeBut (Serves x.kinds x.operands x.state.used x.storage) (progress_of s w r) (run_to_end (decode x.kinds x.operands) x.caller (length x.storage) x.limit (take x.state.used x.storage))
 unfolding run_to_end stack_of
 on_work x w₀ s w from r lent long p e ran =
-    let start : Regs = record { pos = 0; gas = x.limit; items = 0; used = x.state.used; ops = 0; code = 0; note = 0 } in
+    let start : Regs = record { pos = 0; gas = x.limit; items = 0; used = x.state.used; ops = 0; status = Going } in
     let all : RefinesRun (decode x.kinds x.operands) x.caller start r x.stack w₀ s w = rw e at ran in
     let q : progress_of s w r ≡ run_to_end (decode x.kinds x.operands) x.caller (length x.storage) x.limit (take x.state.used w₀) = rw (← lent.same, ← long) (all.progress (x.limit + 1) (omega arith)) in
     rw q (served x.kinds x.operands x.state.used x.caller x.limit x.storage x.work w₀ lent.program p lent.within lent.same)
 
--- a buffer that is cleared from its start
-all_zero : (s : List ℕ) (s' : List ℕ) → s' ≡ take 0 s ++ replicate (length s - 0) 0 → s' ≡ replicate (length s) 0
-all_zero s s' e = e ∙ rw sub-zero
-
 -- the call x, and the buffers as finish leaves them
-module _ (x : Call) (r : Regs) (s' w' : List ℕ) (same : length x.work ≡ length x.storage) (ew : w' ≡ take 0 x.work ++ replicate (length x.work - 0) 0) where
+module _ (x : Call) (r : Regs) (s' w' : List ℕ) (same : length x.work ≡ length x.storage) (ew : w' ≡ replicate (length x.work) 0) where
   -- the run's progress is o but for the storage
   module _ (o : Progress) (like : AlikeBut (Serves x.kinds x.operands x.state.used x.storage) (progress_of x.stack x.work r) o) where
-    pub succeeded : (y m' : List ℕ) → r.code ≡ 1 → r.items ≤ length x.stack → r.used ≤ length x.work → s' ≡ take r.items x.stack ++ replicate (length x.stack - r.items) 0
+    pub succeeded : (y m' : List ℕ) → r.status ≡ Ended → r.items ≤ length x.stack → r.used ≤ length x.work → s' ≡ take r.items x.stack ++ replicate (length x.stack - r.items) 0
         → Copied (λ j. changed x.kinds x.operands x.state.used j && ltb j x.state.used) x.work x.storage y → Copied (λ j. leb x.state.used j && ltb j r.used) x.work y m'
-        → Meets (of_run x o) x.state (Success (x.limit - r.gas) r.ops r.items (record { used = r.used })) s' w' m'
+        → Meets (of_run x o) x.state (Ok (record { gas_spent = x.limit - r.gas; operations = r.ops; items = r.items; state = record { used = r.used } })) s' w' m'
     succeeded y m' one hi hu es p q =
         let d = length_stack x.stack r.items in
         let l : AlikeBut (Serves x.kinds x.operands x.state.used x.storage) (done r.gas (frame_of x.stack x.work r)) o = rw one at like in
@@ -58,21 +52,15 @@ module _ (x : Call) (r : Regs) (s' w' : List ℕ) (same : length x.work ≡ leng
           says = rw (d, u);
           state = rw u;
           stack = rw (reverse_stack x.stack r.items hi, d) es;
-          work = all_zero x.work w' ew;
+          work = ew;
           storage = brought x.kinds x.operands x.state.used r.used x.storage x.work l.0 y m' same hu l.2 p q;
         })
-
-    pub undone_by : (f : VmError) → 2 ≤ r.code → f ≡ refusal_of (fault_of r.code r.note r.gas) → s' ≡ take 0 x.stack ++ replicate (length x.stack - 0) 0
-        → Meets (of_run x o) x.state (Refused f) s' w' x.storage
-    undone_by f two e es =
-        let l : AlikeBut (Serves x.kinds x.operands x.state.used x.storage) (stop (fault_of r.code r.note r.gas)) o = rw (refused r.code r.note r.gas (frame_of x.stack x.work r) two) at like in
-        rw l (record { answer = ap Refused e; says = ap vm_error_numbered e; state = refl; stack = all_zero x.stack s' es; work = all_zero x.work w' ew; storage = refl })
 
 -- of stack and work a result has the lengths alone
 abbrev pub lending : List ℕ → List ℕ → Call → Call
 lending s w x = record { kinds = x.kinds; operands = x.operands; caller = x.caller; limit = x.limit; state = x.state; stack = s; work = w; storage = x.storage }
 
-pub carried : (x : Call) (s w : List ℕ) (o : Progress) {a : RunAnswer} {s' w' m' : List ℕ} → length s ≡ length x.stack → length w ≡ length x.work
+pub carried : (x : Call) (s w : List ℕ) (o : Progress) {a : Result Success VmError} {s' w' m' : List ℕ} → length s ≡ length x.stack → length w ≡ length x.work
     → Meets (of_run (lending s w x) o) x.state a s' w' m' → Meets (of_run x o) x.state a s' w' m'
 carried x s w (next h fr) p q d = rw (← p, ← q) d
 carried x s w (done h fr) p q d = rw (← p, ← q) d

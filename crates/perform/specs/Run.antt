@@ -1,16 +1,16 @@
 -- A run, from all that a call is given to the answer, the state and each lent buffer.
+use Rattle.std.specs.Prelude.{Result, Ok, Err}
 use Rattle.std.specs.Prelude.{ℕ, ◌-◌, ◌≡◌, List, ◌++◌, reverse, length, take, drop, replicate}
 use Rattle.machine.specs.Machine.{Fault, out_of_gas, stack_underflow, stack_limit_exceeded, division_by_zero, storage_limit_exceeded, outside_storage, Progress, next, done, stop, decode, run_to_end}
 use Rattle.checks.specs.declared.VmError.{VmError}
 use Rattle.checks.specs.declared.VmError.TheVariants.{OutOfGas, StackUnderflow, StackLimitExceeded, DivisionByZero, StorageLimitExceeded, OutsideStorage}
 use Rattle.perform.specs.declared.State.{State}
-use Rattle.perform.specs.declared.RunAnswer.{RunAnswer}
-use Rattle.perform.specs.declared.RunAnswer.TheVariants.{Success, Refused}
+use Rattle.perform.specs.declared.Success.{Success}
 use Rattle.perform.specs.Call.{Call}
 use Rattle.perform.specs.Numbers.{run_answer_numbered}
 
 pub record RunResult : Type 0 where
-  pub answer : RunAnswer
+  pub answer : Result Success VmError
   pub state : State
   pub stack : List ℕ
   pub work : List ℕ
@@ -29,7 +29,7 @@ refusal_of outside_storage = OutsideStorage
 abbrev pub undone : VmError → Call → RunResult
 undone f x =
     let zeros : List ℕ → List ℕ = λ buffer. replicate (length buffer) 0 in
-    record { answer = Refused f; state = x.state; stack = zeros x.stack; work = zeros x.work; storage = x.storage }
+    record { answer = Err f; state = x.state; stack = zeros x.stack; work = zeros x.work; storage = x.storage }
 
 -- a run's progress, the stack with its bottom first; a whole run is never left unfinished
 abbrev pub of_run : Call → Progress → RunResult
@@ -38,7 +38,7 @@ of_run x (stop f) = undone (refusal_of f) x
 of_run x (done h fr) =
     let after : State = record { used = length fr.storage } in
     record {
-      answer = Success (x.limit - h) fr.ops (length fr.stack) after;
+      answer = Ok (record { gas_spent = x.limit - h; operations = fr.ops; items = length fr.stack; state = after });
       state = after;
       stack = reverse fr.stack ++ replicate (length x.stack - length fr.stack) 0;
       work = replicate (length x.work) 0;
@@ -51,12 +51,12 @@ performed x =
     of_run x (run_to_end (decode x.kinds x.operands) x.caller (length x.storage) x.limit (take x.state.used x.storage))
 
 -- the state after an answer: a success carries it, a refusal leaves it
-abbrev pub state_after : RunAnswer → State → State
-state_after (Success spent operations items after) state = after
-state_after (Refused f) state = state
+abbrev pub state_after : Result Success VmError → State → State
+state_after (Ok success) state = success.state
+state_after (Err f) state = state
 
 -- the answer with its number, the state and the buffers of a call that was made in the state `from` are those of a result
-pub record Meets (t : RunResult) (from : State) (a : RunAnswer) (s w m : List ℕ) : Type 0 where
+pub record Meets (t : RunResult) (from : State) (a : Result Success VmError) (s w m : List ℕ) : Type 0 where
   pub answer : a ≡ t.answer
   pub says : run_answer_numbered a ≡ run_answer_numbered t.answer
   pub state : state_after a from ≡ t.state

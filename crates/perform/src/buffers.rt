@@ -4,14 +4,10 @@ ghost use Rattle.perform.specs.Code.Needed.{Copied};
 
 // The part of `s` from `a` up to `e`, put at the same place of `d`.
 pub fn copy_part(d: &mut [u64], s: &[u64], a: usize, e: usize)
-    requires { (e ≤ length d.old) × (e ≤ length s.now) }
+    requires { (a ≤ e) × (e ≤ length d.old) × (e ≤ length s.now) }
     ensures { Copied (λ j. leb a j && ltb j e) s.now d.old d.new }
 {
-    let mut i = a;
-    while i < e {
-        d[i] = s[i];
-        i += 1;
-    }
+    d[a..e].copy_from_slice(&s[a..e]);
 }
 
 // Zeros from `a` to the end.
@@ -19,6 +15,5 @@ pub fn clear_from(s: &mut [u64], a: usize)
     requires { a ≤ length s.old }
     ensures { s.new ≡ take a s.old ++ replicate (length s.old - a) 0 }
 {
-    let n = s.len();
-    machine::operations::zero_out(s, a, n);
+    s[a..].fill(0);
 }

@@ -4,13 +4,12 @@ use mathlib.Core.Path.{◌≡◌, refl, sym, ap, ap₂, subst, ◌∙◌}
 use mathlib.Core.List.{List, [], ◌∷◌, ◌++◌, append_assoc}
 use native.Mathlib.Omega.{arith}
 use lib.ListN.{length, take, drop, length-append, length-take, length-drop}
+use Prim.Native.Nat.{min}
+use Rattle.base.proofs.Tests.{by_leb}
 use lib.Seq.{take_at, take_all, take-append-add, drop-drop, length-take-le}
-use native.Mathlib.Nat.{zero-add}
 use Rattle.base.specs.Overwrite.{overwrite}
 use Rattle.base.proofs.Overwrite.{overwrite_all, overwrite_again}
-use Rattle.decimal.specs.Decimal.{decimal}
 use Rattle.writer.specs.Code.Overwrites.{Overwrites}
-use Rattle.writer.proofs.Pieces.{overwrites_length}
 use Rattle.pieces.specs.Code.Added.{extended, Added}
 
 cut_twice : (n : ℕ) (a b : List ℕ) → take n (take n a ++ b) ≡ take n (a ++ b)
@@ -64,24 +63,26 @@ put_added o l x y m r h e p =
       next = p.next ∙ sym n ∙ ap length (sym e);
     }
 
-pub add_all : (o : List ℕ) (l : ℕ) (x m : List ℕ) (r : ℕ) → l + length x ≤ length o → Overwrites o l x m r → Added o l x m r
-add_all o l x m r h p =
-    put_added o l x x m r h (take_all (length o) (take l o ++ x) (omega (arith, length-append (take l o) x, length-take-le l o (omega arith)))) p
+-- as much of a piece as has room
+pub add_fitting : (o : List ℕ) (l : ℕ) (x m : List ℕ) (r : ℕ) → l ≤ length o → Overwrites o l (take (min (length x) (length o - l)) x) m r → Added o l x m r
+add_fitting o l x m r h p =
+    let y = take (min (length x) (length o - l)) x in
+    let n : length y ≡ min (length x) (length o - l) = length-take (min (length x) (length o - l)) x ∙ omega arith in
+    put_added o l x y m r (omega arith) (by_leb (length x) (length o - l) whole_piece cut_piece) p
+  where
+    start : length (take l o) ≡ l
+    start = length-take-le l o h
 
-pub add_some : (o : List ℕ) (l : ℕ) (x m : List ℕ) (r : ℕ) → l ≤ length o → length o - l ≤ length x → Overwrites o l (take (length o - l) x) m r → Added o l x m r
-add_some o l x m r h k p =
-    let i : length o ≡ length (take l o) + (length o - l) = omega (arith, length-take-le l o h) in
-    put_added o l x (take (length o - l) x) m r (omega (arith, length-take-le (length o - l) x k))
-    (ap (λ (n : ℕ). take n (take l o ++ x)) i ∙ take-append-add (take l o) x (length o - l)) p
+    whole_piece : length x ≤ length o - l → extended o l x ≡ take l o ++ take (min (length x) (length o - l)) x
+    whole_piece k =
+        take_all (length o) (take l o ++ x) (omega (arith, length-append (take l o) x, start))
+        ∙ ap (λ (u : List ℕ). take l o ++ u) (sym (take_all (min (length x) (length o - l)) x (omega arith)))
+
+    cut_piece : length o - l < length x → extended o l x ≡ take l o ++ take (min (length x) (length o - l)) x
+    cut_piece k =
+        let i : length o ≡ length (take l o) + min (length x) (length o - l) = omega (arith, start) in
+        ap (λ (n : ℕ). take n (take l o ++ x)) i ∙ take-append-add (take l o) x (min (length x) (length o - l))
 
 -- a text that has room is whole
 pub whole : {o x m : List ℕ} {r : ℕ} → Added o 0 x m r → length x ≤ length o → take r m ≡ x
 whole {o} {x} {m} {r} a h = added_text a ∙ take_all (length o) x h
-
--- the digits of a number, put at the start of twenty bytes
-module _ (n : ℕ) (o m : List ℕ) (r : ℕ) (h : length (decimal n) ≤ length o) (p : Overwrites o 0 (decimal n) m r) where
-  pub digits_fit : r ≤ length m
-  digits_fit = omega (arith, p.next, overwrites_length p (omega arith))
-
-  pub digits_are : take r m ≡ decimal n
-  digits_are = ap (take r) p.is ∙ take_at (decimal n) (drop (length (decimal n)) o) r (sym (p.next ∙ zero-add (length (decimal n))))

@@ -10,17 +10,14 @@ use writer::{put_bytes, put_decimal};
 pub fn add_bytes(out: &mut [u8], len: usize, bytes: &[u8]) -> usize
     ensures { Added out.old len bytes.now out.new result }
 {
-    let size = out.len();
-    if size < len {
-        return size;
+    if out.len() < len {
+        return out.len();
     }
-    let room = size - len;
-    if room < bytes.len() {
-        return put_bytes(out, len, &bytes[..room]);
-    }
-    put_bytes(out, len, bytes)
+    let fitting = bytes.len().min(out.len() - len);
+    put_bytes(out, len, &bytes[..fitting])
 }
 
+#[tactic(auto, using(decimal::proofs::Laws::length_word))]
 pub fn add_decimal(out: &mut [u8], len: usize, n: u64) -> usize
     ensures { Added out.old len (decimal n) out.new result }
 {

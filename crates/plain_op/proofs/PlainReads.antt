@@ -1,8 +1,10 @@
 -- What is read from its start on is the operation that stands there.
+use Rattle.std.specs.Prelude.{Option, Some, None}
+use Rattle.plain_op.specs.declared.PlainOp.{PlainOp}
 use Prim.Native.Nat.{ℕ, suc, ◌+◌, ◌<◌, ◌≤◌}
-use mathlib.Core.Path.{◌≡◌, refl, sym, ap, ap₂, ◌∙◌}
+use mathlib.Core.Path.{◌≡◌, subst, refl, sym, ap, ◌∙◌}
 use mathlib.Core.List.{List, [], ◌∷◌, ◌++◌, append_assoc, append-nil}
-use mathlib.Core.Bool.{Bool, true, false, cond, ◌&&◌}
+use mathlib.Core.Bool.{Bool, true, false, cond}
 use native.Mathlib.Omega.{arith}
 use lib.ListN.{length, drop, length-append, length-drop}
 use lib.Seq.{drop-drop}
@@ -13,47 +15,45 @@ use Rattle.search.specs.First.{prefix_of}
 use Rattle.search.proofs.Prefix.{split}
 use Rattle.decimal.specs.Decimal.{digit, value, number_of}
 use Rattle.decimal.specs.Code.Digits.{capped}
-use Rattle.decimal.specs.declared.Value.TheVariants as Value
-use Rattle.decimal.specs.declared.Number.TheVariants as Number
-use Rattle.decimal.proofs.FromStr.{as_number, not_signed, read_all}
+use Rattle.decimal.proofs.FromStr.{not_signed, read_all}
 use Rattle.kinds.specs.Kinds.{kind_of}
 use Rattle.mnemonic.specs.Kinds.{follows, line_with}
 use Rattle.plain_op.specs.Code.Plain.{OperationAt, PlainRead, WordAt}
-use Rattle.plain_op.specs.declared.Plain.TheVariants.{Op, Other}
-use Rattle.mnemonic.proofs.Words.{joined}
 
 -- what stands behind a text at a place
 behind : (w text : List ℕ) (at end : ℕ) → prefix_of w (drop at text) ≡ true → end ≡ at + length w → drop at text ≡ w ++ drop end text
 behind w text at end e p =
     split w (drop at text) e ∙ ap (λ (s : List ℕ). w ++ s) (drop-drop (length w) at text ∙ ap (λ (i : ℕ). drop i text) (sym p))
 
-module _ (text : List ℕ) (at : ℕ) where
-  -- a word alone
-  pub alone_read : (k : ℕ) → k < 16 → follows (kind_of k).operand ≡ false → (b : Bool) → b ≡ prefix_of (kind_of k).word (drop at text)
-      → (end : ℕ) → end ≡ at + length (kind_of k).word → PlainRead text at (cond b (Op k 0 end) Other)
-  alone_read k h f false e end p = tt
-  alone_read k h f true e end p =
-      let w = (kind_of k).word in
-      let l : line_with k (48 ∷ []) ≡ w = ap (λ (b : Bool). w ++ cond b (32 ∷ 48 ∷ []) []) f ∙ append-nil w in
-      record {
-        digits = 48 ∷ [];
-        number = 0;
-        below = h;
-        all = refl;
-        some = omega arith;
-        is = refl;
-        operand = sym (ap (λ (b : Bool). cond b 0 0) f);
-        stands = behind w text at end (sym e) p ∙ ap (λ (s : List ℕ). s ++ drop end text) (sym l);
-        place = p ∙ ap (λ (s : List ℕ). at + length s) (sym l);
-      }
+-- a word alone
+pub alone_read : (text : List ℕ) (at k end : ℕ) (b : Bool) (r : Option PlainOp) → r ≡ cond b (Some (record { kind = k; operand = 0; end = end })) None
+    → k < 16 → follows (kind_of k).operand ≡ false → b ≡ prefix_of (kind_of k).word (drop at text) → end ≡ at + length (kind_of k).word → PlainRead text at r
+alone_read text at k end b r q h f e p = subst (PlainRead text at) (sym q) (go b e)
+  where
+    go : (b : Bool) → b ≡ prefix_of (kind_of k).word (drop at text) → PlainRead text at (cond b (Some (record { kind = k; operand = 0; end = end })) None)
+    go false e = tt
+    go true e =
+        let w = (kind_of k).word in
+        let l : line_with k (48 ∷ []) ≡ w = ap (λ (b : Bool). w ++ cond b (32 ∷ 48 ∷ []) []) f ∙ append-nil w in
+        record {
+          digits = 48 ∷ [];
+          number = 0;
+          below = h;
+          all = refl;
+          some = omega arith;
+          is = refl;
+          operand = sym (ap (λ (b : Bool). cond b 0 0) f);
+          stands = behind w text at end (sym e) p ∙ ap (λ (s : List ℕ). s ++ drop end text) (sym l);
+          place = p ∙ ap (λ (s : List ℕ). at + length s) (sym l);
+        }
 
-number_of_lem : (d : List ℕ) (v : ℕ) → all digit d ≡ true → 0 < length d → capped (value d) ≡ Value.Is v → number_of d ≡ Number.Is v
+number_of_lem : (d : List ℕ) (v : ℕ) → all digit d ≡ true → 0 < length d → capped (value d) ≡ Some v → number_of d ≡ Some v
 number_of_lem [] v e h p = absurd (omega arith)
 number_of_lem (a ∷ d) v e h p =
     let b = between 48 57 a (and_left (digit a) (all digit d) e) in
     let o = take_while_all digit (a ∷ d) e in
     read_all (a ∷ d) 0 (not_signed (a ∷ d) (λ q. omega arith)) (λ q. omega (arith, ap length o)) (omega (arith, ap length o))
-    ∙ ap as_number (ap (λ (s : List ℕ). capped (value s)) o ∙ p)
+    ∙ ap (λ (s : List ℕ). capped (value s)) o ∙ p
 
 abbrev run : List ℕ → ℕ → List ℕ
 run text at = take_while digit (drop at text)
@@ -62,7 +62,7 @@ pub run_within : (text : List ℕ) (at : ℕ) → 0 < length (run text at) → a
 run_within text at p = let h = length-take_while digit (drop at text) in omega (arith, length-drop at text)
 
 -- a word, a space and digits
-pub operand_read : (text : List ℕ) (at k digits : ℕ) → WordAt text at k digits → (v end : ℕ) → 0 < length (run text digits) → capped (value (run text digits)) ≡ Value.Is v
+pub operand_read : (text : List ℕ) (at k digits : ℕ) → WordAt text at k digits → (v end : ℕ) → 0 < length (run text digits) → capped (value (run text digits)) ≡ Some v
     → end ≡ digits + length (run text digits) → OperationAt text at k v end
 operand_read text at k digits p v end h q m =
     let w = (kind_of k).word in
@@ -93,14 +93,3 @@ operation-within text at k v end h o =
     let l = line_with k o.digits in
     let p = o.place in
     omega (arith, ap length o.stands, length-append l (drop end text), length-drop at text, length-drop end text)
-
--- the word stands by the tests of its parts
-pub word_at : (text : List ℕ) (at k : ℕ) → k < 16 → follows (kind_of k).operand ≡ true → (fits : Bool) → fits ≡ prefix_of ((kind_of k).word ++ 32 ∷ []) (drop at text)
-    → (digits : ℕ) → digits ≡ at + suc (length (kind_of k).word) → fits ≡ true → WordAt text at k digits
-word_at text at k h f fits e digits p q = record { below = h; followed = f; stands = sym e ∙ q; place = p }
-
--- two tests of the parts of a word are one of the word
-pub spelled : (p q t : List ℕ) (i j : ℕ) {a b r : Bool} → j ≡ i + length p → a ≡ prefix_of p (drop i t) → b ≡ prefix_of q (drop j t) → r ≡ (a && b)
-    → r ≡ prefix_of (p ++ q) (drop i t)
-spelled p q t i j n e f g =
-    g ∙ ap₂ ◌&&◌ e (f ∙ ap (λ (k : ℕ). prefix_of q (drop k t)) n) ∙ sym (joined p q t i)

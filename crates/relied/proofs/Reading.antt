@@ -1,4 +1,5 @@
 -- What a caller of atc_parse_ops relies on.
+use Rattle.std.specs.Prelude.{Option, Some, None}
 use Prim.Native.Nat.{ℕ, zero, suc, ◌+◌, ◌*◌, ◌≤◌}
 use mathlib.Core.Path.{◌≡◌, refl}
 use mathlib.Core.List.{List, [], ◌∷◌, ◌++◌}
@@ -14,8 +15,6 @@ use Rattle.search.proofs.Prefix.{fits}
 use Rattle.lines.specs.Lines.{lines}
 use Rattle.trim.specs.Trim.{start_trimmed, trimmed, leading_blanks}
 use Rattle.trim.proofs.Laws.{start_trimmed-length, end_trimmed-length}
-use Rattle.decimal.specs.declared.Number.{Number}
-use Rattle.decimal.specs.declared.Number.TheVariants.{Is, Invalid}
 use Rattle.kinds.specs.Kinds as Operands
 use Rattle.kinds.specs.Kinds.{Operand, Kind, kinds, kind_of, Operation, operation}
 use Rattle.mnemonic.specs.Kinds.{follows, head_with, head_from, head_of}
@@ -76,9 +75,9 @@ longer n m Skip h s = tt
 longer n m (Op k v) h s = (s.0, omega (arith, s.1))
 longer n m (Bad e) h s = s
 
-number_says : (n k line place len : ℕ) (x : Number) → k ≤ 15 → 2 ≤ n → Says n (of_number k line place len x)
-number_says n k line place len (Is v) h l = (h, l)
-number_says n k line place len Invalid h l = go (kind_of k).operand
+number_says : (n k line place len : ℕ) (x : Option ℕ) → k ≤ 15 → 2 ≤ n → Says n (of_number k line place len x)
+number_says n k line place len (Some v) h l = (h, l)
+number_says n k line place len None h l = go (kind_of k).operand
   where
     go : (o : Operand) → Says n (Bad (bad_number o line place len))
     go Operands.none = refl

@@ -1,10 +1,11 @@
 -- What callers of the verifier and the runs rely on.
+use Rattle.std.specs.Prelude.{Option, Some, None, Result, Ok, Err}
+use Rattle.context.specs.declared.ContextError.{ContextError}
 use Prim.Native.Nat.{ℕ, zero, suc, ◌+◌, ◌-◌, ◌≤◌, ◌<◌}
 use native.Mathlib.Omega.{arith}
 use native.Mathlib.Decide.{dec_lt}
 use mathlib.Core.Path.{◌≡◌, refl, sym, subst, ◌∙◌}
 use mathlib.Core.Bool.{Bool, true, false, cond, ◌&&◌}
-use mathlib.Core.Option.{Option, some, none}
 use mathlib.Core.List.{List, [], ◌∷◌}
 use lib.ListN.{length, get_or, take}
 use lib.Dec.{ltb, leb, eqb}
@@ -14,8 +15,6 @@ use Rattle.base.proofs.Tests.{false_true, and_both}
 use Rattle.word.specs.Apply.{Binary, add, sub, mul, div, eq, lt, apply}
 use Rattle.kinds.specs.Kinds.{Operation, operation}
 use Rattle.kinds.proofs.ByKind.{Span, end, ◌&◌, span, priced, unpriced}
-use Rattle.context.specs.declared.Gate.{Gate}
-use Rattle.context.specs.declared.Gate.TheVariants as gate
 use Rattle.machine.specs.Machine.{Fault, out_of_gas, stack_limit_exceeded, storage_limit_exceeded, outside_storage, Frame, Effect, moves, jumps, ends, fails, over, costs, next, done, stop, store_at, push_of, result_of, binop_of, dup_of, swap_of, jump_if_of, store_of, effect_of, price_of, settle, pay, act_of, decode, halt, machine, follow, run_of, start, run_to_end, Progress}
 use Rattle.machine.proofs.Program.{effect_high}
 use Rattle.machine.proofs.Runs.{unpaid, afforded, Ended, whole_ends}
@@ -23,8 +22,6 @@ use Rattle.mnemonic.specs.Written as Written
 use Rattle.mnemonic.specs.Written.{Each}
 use Rattle.checks.specs.declared.VmError.{VmError}
 use Rattle.checks.specs.declared.VmError.TheVariants.{BufferLengths, EmptyProgram, ProgramTooLarge, StorageTooLarge, UnknownKind, JumpOutOfRange}
-use Rattle.checks.specs.declared.Check.{Check}
-use Rattle.checks.specs.declared.Check.TheVariants as check
 use Rattle.checks.specs.Numbers.{check_numbered}
 use Rattle.checks.specs.Verify.{then_check, buffers_fit, gate_check, target_fits, operation_check, operations_check, verify_of}
 use Rattle.perform.specs.Call.{Call}
@@ -57,24 +54,24 @@ abbrev pub ran : Call → Progress
 ran x = run_to_end (decode x.kinds x.operands) x.caller (length x.storage) x.limit (take x.state.used x.storage)
 
 -- the number that a call whose own test is `own` answers
-abbrev answer_number : Check → Call → ℕ
-answer_number own x = (run_answer_numbered (run_under own check.Passed (λ r. r) x).answer).number
+abbrev answer_number : Result (Unit {0}) VmError → Call → ℕ
+answer_number own x = (run_answer_numbered (run_under own (Ok tt) (λ r. r) x).answer).number
 
 abbrev fault_number : Fault → ℕ
 fault_number f = refusal_number (refusal_of f)
 
 -- the numbers that calls give have a property, where each that a test or an operation can give has it
 module _ (P : ℕ → Type 0) where
-  abbrev Gives : Check → Type 0
+  abbrev Gives : Result (Unit {0}) VmError → Type 0
   Gives c = P (check_numbered c).number
 
-  need_gives : (b : Bool) (f : VmError) (c : Check) → (b ≡ false → P (refusal_number f)) → Gives c → Gives (need b (check.Refused f) c)
+  need_gives : (b : Bool) (f : VmError) (c : Result (Unit {0}) VmError) → (b ≡ false → P (refusal_number f)) → Gives c → Gives (need b (Err f) c)
   need_gives true f c h g = g
   need_gives false f c h g = h refl
 
-  then_gives : (c d : Check) → Gives c → Gives d → Gives (then_check c d)
-  then_gives check.Passed d p q = q
-  then_gives (check.Refused f) d p q = p
+  then_gives : (c d : Result (Unit {0}) VmError) → Gives c → Gives d → Gives (then_check c d)
+  then_gives (Ok tt) d p q = q
+  then_gives (Err f) d p q = p
 
   -- the verifier's
   record Verifying (ks vs : List ℕ) : Type 0 where
@@ -93,7 +90,7 @@ module _ (P : ℕ → Type 0) where
   operations_give n z t (Written.one {a = k} {l = ks} p ps) [] = z
   operations_give n z t (Written.one {a = k} {l = ks} p ps) (v ∷ vs) =
       then_gives (operation_check n (operation k v)) (operations_check n ks vs)
-      (need_gives (leb k 15) UnknownKind _ p (need_gives (target_fits n (operation k v)) JumpOutOfRange check.Passed (λ e. t) z))
+      (need_gives (leb k 15) UnknownKind _ p (need_gives (target_fits n (operation k v)) JumpOutOfRange (Ok tt) (λ e. t) z))
       (operations_give n z t ps vs)
 
   verify_gives : (ks vs : List ℕ) (used : ℕ) → Verifying ks vs → Gives (verify_of ks vs used)
@@ -142,8 +139,8 @@ module _ (P : ℕ → Type 0) where
     push_fails v s m = cond_fails (ltb (length s) 4096) (moves (v ∷ s) m) (fails stack_limit_exceeded) (λ e. tt) (λ e. r.items)
 
     value_fails : (o : Option ℕ) (s m : List ℕ) → Fails (result_of o s m)
-    value_fails none s m = r.divisor
-    value_fails (some v) s m = tt
+    value_fails None s m = r.divisor
+    value_fails (Some v) s m = tt
 
     two_fails : (b : Binary) (s m : List ℕ) → Fails (binop_of b s m)
     two_fails b [] m = r.underflow
@@ -236,20 +233,20 @@ module _ (P : ℕ → Type 0) where
       unfolding run_to_end
       whole_stops g m = run_stops (g + 1) g (start m)
 
-  run_gives : (own : Check) (x : Call) → Gives own → Verifying x.kinds x.operands → Gives (lengths_check x) → Stops (ran x)
+  run_gives : (own : Result (Unit {0}) VmError) (x : Call) → Gives own → Verifying x.kinds x.operands → Gives (lengths_check x) → Stops (ran x)
       → P (answer_number own x)
   run_gives own x q h b r =
       let v = verify_of x.kinds x.operands x.state.used in
-      let t = then_gives v check.Passed (verify_gives x.kinds x.operands x.state.used h) h.zero in
-      go (checks_of own check.Passed x) (ran x)
-      (then_gives (lengths_check x) (then_check own (then_check v check.Passed)) b (then_gives own (then_check v check.Passed) q t))
+      let t = then_gives v (Ok tt) (verify_gives x.kinds x.operands x.state.used h) h.zero in
+      go (checks_of own (Ok tt) x) (ran x)
+      (then_gives (lengths_check x) (then_check own (then_check v (Ok tt))) b (then_gives own (then_check v (Ok tt)) q t))
       r (whole_ends (decode x.kinds x.operands) x.caller (length x.storage) x.limit (take x.state.used x.storage))
     where
-      go : (c : Check) (o : Progress) → Gives c → Stops o → Ended o → P (run_answer_numbered (after_check c x (of_run x o)).answer).number
-      go (check.Refused f) o p q z = p
-      go check.Passed (next i fr) p q z = absurd z
-      go check.Passed (done i fr) p q z = p
-      go check.Passed (stop f) p q z = q
+      go : (c : Result (Unit {0}) VmError) (o : Progress) → Gives c → Stops o → Ended o → P (run_answer_numbered (after_check c x (of_run x o)).answer).number
+      go (Err f) o p q z = p
+      go (Ok tt) (next i fr) p q z = absurd z
+      go (Ok tt) (done i fr) p q z = p
+      go (Ok tt) (stop f) p q z = q
 
 -- the numbers of the gate, of the verifier but 34 and 44, and of a run but 51
 abbrev gates : List ℕ
@@ -262,12 +259,12 @@ abbrev runs : List ℕ
 runs = 46 ∷ 47 ∷ 48 ∷ 49 ∷ 50 ∷ []
 
 module _ (ns : List ℕ) where
-  gate_among : all_in gates ns ≡ true → (g : Gate) → Gives (Among ns) (gate_check g)
+  gate_among : all_in gates ns ≡ true → (g : Result (Unit {0}) ContextError) → Gives (Among ns) (gate_check g)
   gate_among h g = widen gates ns (check_numbered (gate_check g)).number h (go g)
     where
-      go : (g : Gate) → Gives (Among gates) (gate_check g)
-      go gate.Passed = refl
-      go (gate.Refused e) = gate_gives (gate.Refused e)
+      go : (g : Result (Unit {0}) ContextError) → Gives (Among gates) (gate_check g)
+      go (Ok tt) = refl
+      go (Err e) = gate_gives (Err e)
 
   verifying : all_in verifies ns ≡ true → (ks vs : List ℕ) → (eqb (length ks) (length vs) ≡ false → Among ns 34)
       → Each (λ k. leb k 15 ≡ false → Among ns 44) ks → Verifying (Among ns) ks vs
@@ -295,15 +292,14 @@ verify_relied ks vs used = record {
 }
 
 -- buffers that fit are none that 34 refuses
-fits : (ks vs s w m : List ℕ) (used : ℕ) → Lent ks vs s w m used
-    → buffers_fit (length ks) (length vs) (length s) (length w) (length m) used ≡ true
-fits ks vs s w m used l =
-    and_both (eqb (length ks) (length vs) && leb 4096 (length s)) (eqb (length w) (length m) && leb used (length m))
-    (and_both (eqb (length ks) (length vs)) (leb 4096 (length s)) (eq-eqb (length ks) (length vs) l.program) (le-leb 4096 (length s) l.stack))
-    (and_both (eqb (length w) (length m)) (leb used (length m)) (eq-eqb (length w) (length m) l.same) (le-leb used (length m) l.within))
+fits : (x : Call) → Lent x → buffers_fit (length x.kinds) (length x.operands) (length x.stack) (length x.work) (length x.storage) x.state.used ≡ true
+fits x l =
+    and_both (eqb (length x.kinds) (length x.operands) && leb 4096 (length x.stack)) (eqb (length x.work) (length x.storage) && leb x.state.used (length x.storage))
+    (and_both (eqb (length x.kinds) (length x.operands)) (leb 4096 (length x.stack)) (eq-eqb (length x.kinds) (length x.operands) l.program) (le-leb 4096 (length x.stack) l.stack))
+    (and_both (eqb (length x.work) (length x.storage)) (leb x.state.used (length x.storage)) (eq-eqb (length x.work) (length x.storage) l.same) (le-leb x.state.used (length x.storage) l.within))
 
 -- a call whose own test gives some of the numbers ns
-module _ (ns : List ℕ) (own : Check) (x : Call) (o : Gives (Among ns) own) (v : all_in verifies ns ≡ true) where
+module _ (ns : List ℕ) (own : Result (Unit {0}) VmError) (x : Call) (o : Gives (Among ns) own) (v : all_in verifies ns ≡ true) where
   fit : Bool
   fit = buffers_fit (length x.kinds) (length x.operands) (length x.stack) (length x.work) (length x.storage) x.state.used
 
@@ -315,7 +311,7 @@ module _ (ns : List ℕ) (own : Check) (x : Call) (o : Gives (Among ns) own) (v 
   unfolding fit
   any_gives b k r =
       run_gives (Among ns) own x o (verifying ns v x.kinds x.operands (λ e. b) (each (λ i e. k) x.kinds))
-      (need_gives (Among ns) fit BufferLengths check.Passed (λ e. b) zero_among) r
+      (need_gives (Among ns) fit BufferLengths (Ok tt) (λ e. b) zero_among) r
 
   outside_gives : Among ns 34 → Among ns 44 → all_in runs ns ≡ true → ((i : ℕ) → i < 65536 → length x.storage ≤ i → Among ns 51)
       → Among ns (answer_number own x)
@@ -329,8 +325,8 @@ module _ (ns : List ℕ) (own : Check) (x : Call) (o : Gives (Among ns) own) (v 
   handed_gives r h =
       run_gives (Among ns) own x o
       (verifying ns v x.kinds x.operands (λ e. absurd (eqb-false (length x.kinds) (length x.operands) e h.lent.program)) (known_44 h.known))
-      (need_gives (Among ns) fit BufferLengths check.Passed
-      (λ e. false_true (sym e ∙ fits x.kinds x.operands x.stack x.work x.storage x.state.used h.lent)) zero_among)
+      (need_gives (Among ns) fit BufferLengths (Ok tt)
+      (λ e. false_true (sym e ∙ fits x h.lent)) zero_among)
       (whole_stops (Among ns) (running ns r) (decode x.kinds x.operands) x.caller (length x.storage)
       (each_of (λ op p e l q. absurd (let z = p e l in omega arith)) h.stores) x.limit (take x.state.used x.storage))
 
@@ -368,13 +364,13 @@ unmetered_stops P g program c room m = go (dec_lt (get_or program 0 halt).kind 1
     go (no h) e = rw (e.0 (omega arith)).2 tt
 
 -- tests that pass
-need_passed : (b : Bool) (f : VmError) (c : Check) → need b (check.Refused f) c ≡ check.Passed → (b ≡ true) × (c ≡ check.Passed)
+need_passed : (b : Bool) (f : VmError) (c : Result (Unit {0}) VmError) → need b (Err f) c ≡ Ok tt → (b ≡ true) × (c ≡ Ok tt)
 need_passed true f c e = (refl, e)
 need_passed false f c e = absurd (let z : ◌≡◌ {A = ℕ} 0 1 = cc in omega arith)
 
-then_passed : (c d : Check) → then_check c d ≡ check.Passed → (c ≡ check.Passed) × (d ≡ check.Passed)
-then_passed check.Passed d e = (refl, e)
-then_passed (check.Refused f) d e = absurd (let z : ◌≡◌ {A = ℕ} 0 1 = cc in omega arith)
+then_passed : (c d : Result (Unit {0}) VmError) → then_check c d ≡ Ok tt → (c ≡ Ok tt) × (d ≡ Ok tt)
+then_passed (Ok tt) d e = (refl, e)
+then_passed (Err f) d e = absurd (let z : ◌≡◌ {A = ℕ} 0 1 = cc in omega arith)
 
 -- a program that verifies has a first operation, of a known kind
 record First (ks vs : List ℕ) : Type 0 where
@@ -382,7 +378,7 @@ record First (ks vs : List ℕ) : Type 0 where
   known : get_or ks 0 0 ≤ 15
 
 first_of : (ks vs : List ℕ) → eqb (length ks) (length vs) ≡ true → ltb 0 (length ks) ≡ true
-    → operations_check (length ks) ks vs ≡ check.Passed → First ks vs
+    → operations_check (length ks) ks vs ≡ Ok tt → First ks vs
 unfolding decode operations_check
 first_of [] vs l s e = absurd (omega (arith, ltb-true 0 0 s))
 first_of (k ∷ ks) [] l s e = absurd (omega (arith, eqb-true (suc (length ks)) 0 l))
@@ -390,7 +386,7 @@ first_of (k ∷ ks) (v ∷ vs) l s e =
     let p = (then_passed (operation_check (suc (length ks)) (operation k v)) _ e).0 in
     record { kind = refl; known = leb-true k 15 (need_passed (leb k 15) UnknownKind _ p).0 }
 
-verified-first : (ks vs : List ℕ) (used : ℕ) → verify_of ks vs used ≡ check.Passed → First ks vs
+verified-first : (ks vs : List ℕ) (used : ℕ) → verify_of ks vs used ≡ Ok tt → First ks vs
 verified-first ks vs used e =
     let a = need_passed (eqb (length ks) (length vs)) BufferLengths _ e in
     let b = need_passed (ltb 0 (length ks)) EmptyProgram _ a.1 in
@@ -405,18 +401,18 @@ ByFirst k n = (k ≡ 15 → n ≡ 0) × ((k ≡ 15 → ⊥) → n ≡ 46)
 over_number : (x : Call) (k : ℕ) (o : Progress) → k ≤ 15 → OverAt k o → ByFirst k (run_answer_numbered (of_run x o).answer).number
 over_number x k o l h = (λ e. rw (h.0 (omega arith)).2, λ e. rw (h.1 (omega arith)).1)
 
-passed_number : (own : Check) (x : Call) → x.limit ≡ 0 → checks_of own check.Passed x ≡ check.Passed
+passed_number : (own : Result (Unit {0}) VmError) (x : Call) → x.limit ≡ 0 → checks_of own (Ok tt) x ≡ Ok tt
     → ByFirst (get_or x.kinds 0 0) (answer_number own x)
 passed_number own x z e =
-    subst (λ (c : Check). ByFirst (get_or x.kinds 0 0) (run_answer_numbered (after_check c x (performed x)).answer).number) (sym e)
+    subst (λ (c : Result (Unit {0}) VmError). ByFirst (get_or x.kinds 0 0) (run_answer_numbered (after_check c x (performed x)).answer).number) (sym e)
     (over_number x (get_or x.kinds 0 0) (ran x) first.known over_first)
   where
     first : First x.kinds x.operands
     first =
         let v = verify_of x.kinds x.operands x.state.used in
-        let a = (then_passed (lengths_check x) (then_check own (then_check v check.Passed)) e).1 in
-        let b = (then_passed own (then_check v check.Passed) a).1 in
-        verified-first x.kinds x.operands x.state.used (then_passed v check.Passed b).0
+        let a = (then_passed (lengths_check x) (then_check own (then_check v (Ok tt))) e).1 in
+        let b = (then_passed own (then_check v (Ok tt)) a).1 in
+        verified-first x.kinds x.operands x.state.used (then_passed v (Ok tt) b).0
 
     over_first : OverAt (get_or x.kinds 0 0) (ran x)
     over_first =
@@ -427,7 +423,7 @@ pub run_relied : (x : Call) → RunRelied x
 run_relied x = record {
   metered =
       let ns : List ℕ = 0 ∷ 34 ∷ 41 ∷ 42 ∷ 43 ∷ 44 ∷ 45 ∷ 46 ∷ 47 ∷ 48 ∷ 49 ∷ 50 ∷ 51 ∷ [] in
-      outside_gives ns check.Passed x refl refl refl refl refl (λ i l q. refl);
+      outside_gives ns (Ok tt) x refl refl refl refl refl (λ i l q. refl);
   transition = λ gate.
       let ns : List ℕ = 0 ∷ 34 ∷ 35 ∷ 36 ∷ 37 ∷ 38 ∷ 39 ∷ 40 ∷ 41 ∷ 42 ∷ 43 ∷ 44 ∷ 45 ∷ 46 ∷ 47 ∷ 48 ∷ 49 ∷ 50 ∷ 51 ∷ [] in
       outside_gives ns (gate_check gate) x (gate_among ns refl gate) refl refl refl refl (λ i l q. refl);
@@ -439,13 +435,13 @@ run_relied x = record {
   others = λ gate z e. (passed_number (gate_check gate) x z e).1;
   metered_roomy = λ h.
       let ns : List ℕ = 0 ∷ 34 ∷ 41 ∷ 42 ∷ 43 ∷ 44 ∷ 45 ∷ 46 ∷ 47 ∷ 48 ∷ 49 ∷ 50 ∷ [] in
-      outside_gives ns check.Passed x refl refl refl refl refl (λ i l q. absurd (omega arith));
+      outside_gives ns (Ok tt) x refl refl refl refl refl (λ i l q. absurd (omega arith));
   transition_roomy = λ h gate.
       let ns : List ℕ = 0 ∷ 34 ∷ 35 ∷ 36 ∷ 37 ∷ 38 ∷ 39 ∷ 40 ∷ 41 ∷ 42 ∷ 43 ∷ 44 ∷ 45 ∷ 46 ∷ 47 ∷ 48 ∷ 49 ∷ 50 ∷ [] in
       outside_gives ns (gate_check gate) x (gate_among ns refl gate) refl refl refl refl (λ i l q. absurd (omega arith));
   metered_handed = λ h.
       let ns : List ℕ = 0 ∷ 41 ∷ 42 ∷ 43 ∷ 45 ∷ 46 ∷ 47 ∷ 48 ∷ 49 ∷ 50 ∷ [] in
-      handed_gives ns check.Passed x refl refl refl h;
+      handed_gives ns (Ok tt) x refl refl refl h;
   transition_handed = λ h gate.
       let ns : List ℕ = 0 ∷ 35 ∷ 36 ∷ 37 ∷ 38 ∷ 39 ∷ 40 ∷ 41 ∷ 42 ∷ 43 ∷ 45 ∷ 46 ∷ 47 ∷ 48 ∷ 49 ∷ 50 ∷ [] in
       handed_gives ns (gate_check gate) x (gate_among ns refl gate) refl refl h;

@@ -1,10 +1,10 @@
 -- What a run leaves lies in the lent buffers.
+use Rattle.std.specs.Prelude.{Option, Some, None, Result, Ok, Err}
 use Prim.Native.Nat.{ℕ, zero, suc, ◌+◌, ◌-◌, ◌≤◌, ◌<◌}
 use native.Mathlib.Omega.{arith}
 use native.Mathlib.Decide.{dec_lt}
 use mathlib.Core.Path.{◌≡◌, refl, ap}
 use mathlib.Core.Bool.{Bool, true, false, cond}
-use mathlib.Core.Option.{Option, some, none}
 use mathlib.Core.List.{List, [], ◌∷◌}
 use lib.ListN.{length, get_or, take, length-take}
 use lib.Dec.{ltb}
@@ -16,10 +16,7 @@ use Rattle.machine.specs.Machine.{out_of_gas, stack_limit_exceeded, storage_limi
 use Rattle.machine.proofs.Program.{effect_high}
 use Rattle.machine.proofs.Slots.{store_length}
 use Rattle.checks.specs.declared.VmError.{VmError}
-use Rattle.checks.specs.declared.Check.{Check}
-use Rattle.checks.specs.declared.Check.TheVariants as check
-use Rattle.perform.specs.declared.State.{State}
-use Rattle.perform.specs.declared.RunAnswer.TheVariants.{Success, Refused}
+use Rattle.perform.specs.declared.Success.{Success}
 use Rattle.perform.specs.Call.{Call}
 use Rattle.perform.specs.Run.{of_run}
 use Rattle.vm.specs.Transition.{after_check, checks_of, run_under}
@@ -51,8 +48,8 @@ module _ (room : ℕ) where
       cond_leaves (ltb (length s) 4096) (moves (v ∷ s) m) (fails stack_limit_exceeded) (λ e. record { stack = omega (arith, ltb-true (length s) 4096 e); storage = h }) (λ e. tt)
 
   value_leaves : (o : Option ℕ) (s m : List ℕ) → suc (length s) ≤ 4096 → length m ≤ room → Leaves (result_of o s m)
-  value_leaves none s m l h = tt
-  value_leaves (some v) s m l h = record { stack = omega arith; storage = h }
+  value_leaves None s m l h = tt
+  value_leaves (Some v) s m l h = record { stack = omega arith; storage = h }
 
   stored : (i v : ℕ) (s m : List ℕ) → length s ≤ 4096 → length m ≤ room → ltb i room ≡ true → Inside s (store_at m i v)
   stored i v s m l h e =
@@ -163,23 +160,19 @@ module _ (room : ℕ) where
 -- `Vm::perform` takes as many items of its stack buffer and as many slots of its storage buffer as the answer says: a success has
 -- at most 4,096 items, and uses no more slots than were lent. `own` is the call's own test: none of atc_run_with_gas, the gate of
 -- a transition
-pub success_within : (own : Check) (x : Call) (spent operations items : ℕ) (after : State)
-    → (run_under own check.Passed (λ r. r) x).answer ≡ Success spent operations items after
-    → (items ≤ 4096) × (after.used ≤ length x.storage)
-success_within own x spent operations items after =
-    go (checks_of own check.Passed x) (ran x)
+pub success_within : (own : Result (Unit {0}) VmError) (x : Call) (w : Success) → (run_under own (Ok tt) (λ r. r) x).answer ≡ Ok w
+    → (w.items ≤ 4096) × (w.state.used ≤ length x.storage)
+success_within own x w =
+    go (checks_of own (Ok tt) x) (ran x)
     (whole_reaches (length x.storage) (decode x.kinds x.operands) x.caller x.limit (take x.state.used x.storage) (simp length-take (omega arith)))
   where
-    not_success : {A : Type 0} (f : VmError) → Refused f ≡ Success spent operations items after → A
-    not_success f e = let z : ◌≡◌ {A = ℕ} 0 1 = cc in absurd (omega arith)
-
-    go : (c : Check) (o : Progress) → Reaches (length x.storage) o → (after_check c x (of_run x o)).answer ≡ Success spent operations items after
-        → (items ≤ 4096) × (after.used ≤ length x.storage)
-    go (check.Refused f) o p e = not_success f e
-    go check.Passed (next h fr) p e = not_success _ e
-    go check.Passed (stop f) p e = not_success _ e
-    go check.Passed (done h fr) p e =
-        let i : length fr.stack ≡ items = cc in
-        let a : ◌≡◌ {A = State} (record { used = length fr.storage }) after = cc in
-        let j = ap (λ (t : State). t.used) a in
+    go : (c : Result (Unit {0}) VmError) (o : Progress) → Reaches (length x.storage) o → (after_check c x (of_run x o)).answer ≡ Ok w
+        → (w.items ≤ 4096) × (w.state.used ≤ length x.storage)
+    go (Err f) o p e = cc
+    go (Ok tt) (next h fr) p e = cc
+    go (Ok tt) (stop f) p e = cc
+    go (Ok tt) (done h fr) p e =
+        let a : ◌≡◌ {A = Success} (record { gas_spent = x.limit - h; operations = fr.ops; items = length fr.stack; state = record { used = length fr.storage } }) w = cc in
+        let i = ap (λ (v : Success). v.items) a in
+        let j = ap (λ (v : Success). v.state.used) a in
         (omega (arith, p.stack), omega (arith, p.storage))

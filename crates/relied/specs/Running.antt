@@ -1,14 +1,13 @@
 -- What callers of the verifier and the runs rely on.
+use Rattle.std.specs.Prelude.{Result, Ok}
+use Rattle.context.specs.declared.ContextError.{ContextError}
 use Rattle.std.specs.Prelude.{ℕ, ◌<◌, ◌≤◌, ◌≡◌, List, [], ◌∷◌, length, get_or, take}
 use Rattle.kinds.specs.Kinds.{Operation}
-use Rattle.context.specs.declared.Gate.{Gate}
 use Rattle.machine.specs.Machine.{decode}
 use Rattle.mnemonic.specs.Written.{Each}
-use Rattle.checks.specs.declared.Check.TheVariants.{Passed}
 use Rattle.checks.specs.Numbers.{check_numbered}
 use Rattle.checks.specs.Verify.{gate_check, verify_of}
-use Rattle.perform.specs.declared.State.{State}
-use Rattle.perform.specs.declared.RunAnswer.TheVariants.{Success}
+use Rattle.perform.specs.declared.Success.{Success}
 use Rattle.perform.specs.Call.{Call}
 use Rattle.perform.specs.Lent.{Lent}
 use Rattle.perform.specs.Numbers.{run_answer_numbered}
@@ -23,7 +22,7 @@ verify_number ks vs used = (check_numbered (verify_of ks vs used)).number
 abbrev pub metered_number : Call → ℕ
 metered_number x = (run_answer_numbered (metered_of x).answer).number
 
-abbrev pub transition_number : Gate → Call → ℕ
+abbrev pub transition_number : Result (Unit {0}) ContextError → Call → ℕ
 transition_number gate x = (run_answer_numbered (transition_of gate x).answer).number
 
 -- every kind is one of the sixteen, as `Op::encode` gives them
@@ -43,7 +42,7 @@ pub record VerifyRelied (ks vs : List ℕ) (used : ℕ) : Type 0 where
 
 -- what `Vm::perform` hands over: buffers that fit, known kinds, and storage up to the highest slot below 65,536 that a Store names
 pub record Handed (x : Call) : Type 0 where
-  pub lent : Lent x.kinds x.operands x.stack x.work x.storage x.state.used
+  pub lent : Lent x
   pub known : KnownKinds x.kinds
   pub stores : Each (StoresWithin (length x.storage)) (decode x.kinds x.operands)
 
@@ -52,29 +51,29 @@ pub record RunRelied (x : Call) : Type 0 where
   -- the header, of atc_run_with_gas: "Gives 0, 34, 41 to 51"
   pub metered : Among (0 ∷ 34 ∷ 41 ∷ 42 ∷ 43 ∷ 44 ∷ 45 ∷ 46 ∷ 47 ∷ 48 ∷ 49 ∷ 50 ∷ 51 ∷ []) (metered_number x)
   -- the header, of atc_execute_state_transition_with_gas: "Gives 0, 34 to 51"
-  pub transition : (gate : Gate)
+  pub transition : (gate : Result (Unit {0}) ContextError)
       → Among (0 ∷ 34 ∷ 35 ∷ 36 ∷ 37 ∷ 38 ∷ 39 ∷ 40 ∷ 41 ∷ 42 ∷ 43 ∷ 44 ∷ 45 ∷ 46 ∷ 47 ∷ 48 ∷ 49 ∷ 50 ∷ 51 ∷ []) (transition_number gate x)
   -- the header, of atc_execute_state_transition, whose limit is 0: "Gives 0, 34 to 46"
-  pub unmetered : (gate : Gate) → x.limit ≡ 0
+  pub unmetered : (gate : Result (Unit {0}) ContextError) → x.limit ≡ 0
       → Among (0 ∷ 34 ∷ 35 ∷ 36 ∷ 37 ∷ 38 ∷ 39 ∷ 40 ∷ 41 ∷ 42 ∷ 43 ∷ 44 ∷ 45 ∷ 46 ∷ []) (transition_number gate x)
   -- the header, of the same: "only a program that starts with Halt succeeds; another that verifies is 46"
-  pub halts : (gate : Gate) → x.limit ≡ 0 → checks_of (gate_check gate) Passed x ≡ Passed
+  pub halts : (gate : Result (Unit {0}) ContextError) → x.limit ≡ 0 → checks_of (gate_check gate) (Ok tt) x ≡ Ok tt
       → get_or x.kinds 0 0 ≡ 15 → transition_number gate x ≡ 0
-  pub others : (gate : Gate) → x.limit ≡ 0 → checks_of (gate_check gate) Passed x ≡ Passed
+  pub others : (gate : Result (Unit {0}) ContextError) → x.limit ≡ 0 → checks_of (gate_check gate) (Ok tt) x ≡ Ok tt
       → (get_or x.kinds 0 0 ≡ 15 → ⊥) → transition_number gate x ≡ 46
   -- the header, of ATC_MAX_STORAGE_SLOTS: "with this much work and storage a run never gives 51"
   pub metered_roomy : 65536 ≤ length x.storage
       → Among (0 ∷ 34 ∷ 41 ∷ 42 ∷ 43 ∷ 44 ∷ 45 ∷ 46 ∷ 47 ∷ 48 ∷ 49 ∷ 50 ∷ []) (metered_number x)
-  pub transition_roomy : 65536 ≤ length x.storage → (gate : Gate)
+  pub transition_roomy : 65536 ≤ length x.storage → (gate : Result (Unit {0}) ContextError)
       → Among (0 ∷ 34 ∷ 35 ∷ 36 ∷ 37 ∷ 38 ∷ 39 ∷ 40 ∷ 41 ∷ 42 ∷ 43 ∷ 44 ∷ 45 ∷ 46 ∷ 47 ∷ 48 ∷ 49 ∷ 50 ∷ []) (transition_number gate x)
   -- the `unreachable!` of `VmError::of` under `Vm::perform`: no 34, no 44, no 51
   pub metered_handed : Handed x → Among (0 ∷ 41 ∷ 42 ∷ 43 ∷ 45 ∷ 46 ∷ 47 ∷ 48 ∷ 49 ∷ 50 ∷ []) (metered_number x)
-  pub transition_handed : Handed x → (gate : Gate)
+  pub transition_handed : Handed x → (gate : Result (Unit {0}) ContextError)
       → Among (0 ∷ 35 ∷ 36 ∷ 37 ∷ 38 ∷ 39 ∷ 40 ∷ 41 ∷ 42 ∷ 43 ∷ 45 ∷ 46 ∷ 47 ∷ 48 ∷ 49 ∷ 50 ∷ []) (transition_number gate x)
 
 -- the same of two calls
 pub record SameRun (t u : RunResult) : Type 0 where
   pub answer : t.answer ≡ u.answer
   -- after a success stack, work and the used slots are the same, too
-  pub success : (spent operations items : ℕ) (after : State) → t.answer ≡ Success spent operations items after
-      → (t.stack ≡ u.stack) × (t.work ≡ u.work) × (take after.used t.storage ≡ take after.used u.storage)
+  pub success : (w : Success) → t.answer ≡ Ok w
+      → (t.stack ≡ u.stack) × (t.work ≡ u.work) × (take w.state.used t.storage ≡ take w.state.used u.storage)

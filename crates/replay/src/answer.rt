@@ -1,51 +1,24 @@
-// An answer's number and values, and what is left in a buffer.
-ghost use Rattle.std.specs.Prelude.{◌≤◌, length};
-
-use super::{hex, list};
+// What a call answers.
 use numbered::Numbered;
-use std::io;
+use std::fmt;
 
-// The number, and the values up to the last that isn't 0.
-pub fn print(rt: &impl Print, told: Numbered) -> io::Result<()> {
-    let words = told.words;
-    rt.print(told.number)?;
-    values(rt, &words)
-}
+// An answer's number, and its values up to the last that isn't 0.
+#[derive(Clone, Copy)]
+pub struct Told(pub Numbered);
 
-fn values(rt: &impl Print, words: &[u64]) -> io::Result<()> {
-    let n = last(words);
-    let mut i: usize = 0;
-    while i < n {
-        spaced(rt, words[i])?;
-        i += 1;
-    }
-    Ok(())
-}
-
-// The place behind the last entry that isn't 0.
-fn last(words: &[u64]) -> usize
-    ensures { result ≤ length words.now }
-{
-    let mut n = words.len();
-    while 0 < n {
-        if words[n - 1] != 0 {
-            return n;
+impl fmt::Display for Told {
+    fn fmt<W: fmt::Write>(&self, f: &mut fmt::Formatter<W>) -> fmt::Result {
+        write!(f, "{}", self.0.number)?;
+        for word in values(&self.0.words) {
+            write!(f, " {word}")?;
         }
-        n -= 1;
+        Ok(())
     }
-    n
 }
 
-pub fn spaced(rt: &impl Print, n: u64) -> io::Result<()> {
-    print!(rt; " {n}")
-}
-
-pub fn list(rt: &impl Print, s: &[u64]) -> io::Result<()> {
-    rt.write_all(b" | ")?;
-    list::print(rt, s)
-}
-
-pub fn bytes(rt: &impl Print, s: &[u8]) -> io::Result<()> {
-    rt.write_all(b" | ")?;
-    hex::print(rt, s)
+fn values(words: &[u64]) -> &[u64] {
+    match words.iter().rposition(|word| *word != 0) {
+        Some(last) => &words[..=last],
+        None => &[],
+    }
 }

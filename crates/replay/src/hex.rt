@@ -1,71 +1,43 @@
-// Bytes in hexadecimal, two digits each, in lower case.
-ghost use Rattle.std.specs.Prelude.{◌≡◌, true, ◌+◌, ◌≤◌, ◌<◌, length};
-ghost use Rattle.std.specs.Counts.{IsPrefixLen};
+// Bytes in hexadecimal, two digits each, in lower case; `-` is the empty text. The kit's crate `hex` refuses a text that isn't whole,
+// and here the digits in front count.
+ghost use Rattle.std.specs.Prelude.{◌<◌, IfSome};
 
-use std::io;
+use std::alloc::{AllocError, Global};
+use std::fmt;
 
-// The bytes that the digits in front write, as many as the buffer holds.
-pub fn decode(s: &[u8], out: &mut [u8]) -> usize
-    ensures { IsPrefixLen result out.new }
-{
-    let mut n: usize = 0;
-    let mut i: usize = 0;
-    while n < out.len() {
-        if !is_pair(s, i) {
-            return n;
+#[derive(Clone, Copy)]
+pub struct Hex<'a>(pub &'a [u8]);
+
+impl fmt::Display for Hex<'_> {
+    fn fmt<W: fmt::Write>(&self, f: &mut fmt::Formatter<W>) -> fmt::Result {
+        if self.0.is_empty() {
+            return write!(f, "-");
         }
-        out[n] = value(s[i]) * 16 + value(s[i + 1]);
-        n += 1;
-        i += 2;
+        for b in self.0 {
+            write!(f, "{b:02x}")?;
+        }
+        Ok(())
     }
-    n
 }
 
-// A number, or a text's length where that is less.
-pub fn within(n: usize, s: &[u8]) -> usize
-    ensures { IsPrefixLen result s.now }
+// The bytes that the digits in front write.
+pub fn decode(alloc: Global, digits: &[u8]) -> Result<Vec<u8>, AllocError> {
+    let mut bytes = Vec::new(alloc);
+    for pair in digits.chunks_exact(2) {
+        let (Some(high), Some(low)) = (digit(pair[0]), digit(pair[1])) else {
+            break;
+        };
+        bytes.push(high * 16 + low)?;
+    }
+    Ok(bytes)
+}
+
+fn digit(b: u8) -> Option<u8>
+    ensures { IfSome result (λ d. d < 16) }
 {
-    if s.len() < n {
-        return s.len();
+    match b {
+        b'0'..=b'9' => Some(b - b'0'),
+        b'a'..=b'f' => Some(b - b'a' + 10),
+        _ => None,
     }
-    n
-}
-
-pub fn print(rt: &impl Print, s: &[u8]) -> io::Result<()> {
-    if s.len() == 0 {
-        rt.write_all(b"-")?;
-    }
-    digits(rt, s)
-}
-
-fn digits(rt: &impl Print, s: &[u8]) -> io::Result<()> {
-    let mut i: usize = 0;
-    while i < s.len() {
-        let b = s[i];
-        print!(rt; "{b:02x}")?;
-        i += 1;
-    }
-    Ok(())
-}
-
-fn is_pair(s: &[u8], i: usize) -> bool
-    ensures { result ≡ true → i + 2 ≤ length s.now }
-{
-    if s.len() <= i {
-        return false;
-    }
-    if s.len() - i < 2 {
-        return false;
-    }
-    base::both(is_digit(s[i]), is_digit(s[i + 1]))
-}
-
-fn is_digit(b: u8) -> bool {
-    base::either(base::in_range(b'0', b'9', b), base::in_range(b'a', b'f', b))
-}
-
-fn value(b: u8) -> u8
-    ensures { result < 16 }
-{
-    if b <= b'9' { b % 16 } else { (b % 16 + 9) % 16 }
 }

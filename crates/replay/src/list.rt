@@ -1,155 +1,51 @@
 // Lists of numbers: a comma between them, `n*v` being n times v; `-` is the empty one.
-ghost use Rattle.std.specs.Prelude.{◌≤◌, ◌<◌, length};
-ghost use Rattle.std.specs.Counts.{IsPrefixLen};
+use crate::number;
+use std::alloc::{AllocError, Global};
+use std::fmt;
 
-use super::field;
-use decimal::Number;
-use std::io;
+// Longer lists are cut off here; no call is lent as much.
+pub const LONGEST: usize = 65540;
 
-// The numbers of a list, as many as the buffer holds.
-pub fn numbers(text: &[u8], out: &mut [u64]) -> usize
-    ensures { IsPrefixLen result out.new }
-{
-    let mut n: usize = 0;
-    let mut at: usize = 0;
-    while at < text.len() {
-        let end = field::stop(text, b',', at);
-        n = entry(&text[at..end], out, n);
-        if end == text.len() {
-            return n;
+#[derive(Clone, Copy)]
+pub struct List<'a, T>(pub &'a [T]);
+
+impl<T: fmt::Display + PartialEq> fmt::Display for List<'_, T> {
+    fn fmt<W: fmt::Write>(&self, f: &mut fmt::Formatter<W>) -> fmt::Result {
+        if self.0.is_empty() {
+            return write!(f, "-");
         }
-        at = end + 1;
-    }
-    n
-}
-
-fn entry(text: &[u8], out: &mut [u64], n: usize) -> usize
-    requires { n ≤ length out.old }
-    ensures { result ≤ length out.new }
-{
-    if field::stop(text, b'*', 0) == text.len() {
-        return one(text, out, n);
-    }
-    let times = field::number(field::part(text, b'*', 0));
-    fill(out, n, times, field::number(field::part(text, b'*', 1)))
-}
-
-fn one(text: &[u8], out: &mut [u64], n: usize) -> usize
-    requires { n ≤ length out.old }
-    ensures { result ≤ length out.new }
-{
-    let number = decimal::from_str(text);
-    match number {
-        Number::Is(value) => fill(out, n, 1, value),
-        Number::Invalid => n,
-    }
-}
-
-// A value so many times from a place on, as far as the buffer goes; the place behind them.
-fn fill(out: &mut [u64], from: usize, times: u64, value: u64) -> usize
-    requires { from ≤ length out.old }
-    ensures { result ≤ length out.new }
-{
-    let mut i = from;
-    let mut left = times;
-    while 0 < left {
-        if out.len() <= i {
-            return i;
+        for (i, run) in self.0.chunk_by(|a, b| *a == *b).enumerate() {
+            if 0 < i {
+                write!(f, ",")?;
+            }
+            if 1 < run.len() {
+                write!(f, "{}*", run.len())?;
+            }
+            if let Some(value) = run.first() {
+                write!(f, "{value}")?;
+            }
         }
-        out[i] = value;
-        i += 1;
-        left -= 1;
+        Ok(())
     }
-    i
 }
 
-// The numbers of a list as bytes, as many as the buffer holds.
-pub fn bytes(text: &[u8], out: &mut [u8]) -> usize
-    ensures { IsPrefixLen result out.new }
-{
-    let mut wide = [0u64; 65540];
-    let n = numbers(text, &mut wide);
-    narrowed(&wide[..n], out)
+pub fn numbers(alloc: Global, text: &[u8]) -> Result<Vec<u64>, AllocError> {
+    let mut numbers = Vec::new(alloc);
+    for entry in text.split(|b| *b == b',') {
+        let mut parts = entry.split(|b| *b == b'*');
+        let first = parts.next().and_then(|part| decimal::from_str(part));
+        let (times, value) = match parts.next() {
+            Some(value) => (first.unwrap_or(0), number(value)),
+            None => (u64::from(first.is_some()), first.unwrap_or(0)),
+        };
+        let len = numbers.len().saturating_add(times as usize);
+        numbers.resize(len.min(LONGEST), value)?;
+    }
+    Ok(numbers)
 }
 
-fn narrowed(numbers: &[u64], out: &mut [u8]) -> usize
-    ensures { IsPrefixLen result out.new }
-{
-    let mut n: usize = 0;
-    while n < out.len() {
-        if numbers.len() <= n {
-            return n;
-        }
-        out[n] = (numbers[n] % 256) as u8;
-        n += 1;
-    }
-    n
-}
-
-// Bytes as numbers, as many as the buffer holds.
-pub fn widened(bytes: &[u8], out: &mut [u64]) -> usize
-    ensures { IsPrefixLen result out.new }
-{
-    let mut n: usize = 0;
-    while n < out.len() {
-        if bytes.len() <= n {
-            return n;
-        }
-        out[n] = base::widen(bytes[n]);
-        n += 1;
-    }
-    n
-}
-
-// A number, or a list's length where that is less.
-pub fn within(n: usize, s: &[u64]) -> usize
-    ensures { IsPrefixLen result s.now }
-{
-    if s.len() < n {
-        return s.len();
-    }
-    n
-}
-
-pub fn print(rt: &impl Print, s: &[u64]) -> io::Result<()> {
-    if s.len() == 0 {
-        rt.write_all(b"-")?;
-    }
-    entries(rt, s)
-}
-
-fn entries(rt: &impl Print, s: &[u64]) -> io::Result<()> {
-    let mut at: usize = 0;
-    while at < s.len() {
-        let end = run_end(s, at);
-        repeated(rt, s[at], end - at)?;
-        if end < s.len() {
-            rt.write_all(b",")?;
-        }
-        at = end;
-    }
-    Ok(())
-}
-
-// Where the entries end that are as the one at a place.
-fn run_end(s: &[u64], at: usize) -> usize
-    requires { at < length s.now }
-    ensures { (at < result) × (result ≤ length s.now) }
-{
-    let mut i = at + 1;
-    while i < s.len() {
-        if s[i] != s[at] {
-            return i;
-        }
-        i += 1;
-    }
-    i
-}
-
-fn repeated(rt: &impl Print, value: u64, times: usize) -> io::Result<()> {
-    if 1 < times {
-        rt.print(times as u64)?;
-        rt.write_all(b"*")?;
-    }
-    rt.print(value)
+// The numbers of a list as bytes.
+pub fn bytes(alloc: Global, text: &[u8]) -> Result<Vec<u8>, AllocError> {
+    let numbers = numbers(alloc, text)?;
+    numbers.iter().map(|n| (*n % 256) as u8).collect(alloc)
 }

@@ -15,96 +15,50 @@
 
 mod answer;
 mod assembly;
-mod field;
+mod call;
+mod case;
+mod function;
+mod gate;
 mod hex;
 mod list;
-mod machine_calls;
-mod parts;
 mod reader;
+mod runs;
 mod text;
 
-ghost use Rattle.std.specs.Prelude.{◌≤◌, length, IfOk};
-ghost use Rattle.std.specs.Io.{ReadsAtMost};
+use call::Call;
+use case::Case;
+use std::io::{self, BufRead, BufReader};
 
-use std::io::{self, Read};
-
+// A last line that no line feed ends is no case.
 fn main(rt: HostRuntime) -> io::Result<()> {
-    let mut buffer = [0u8; 262144];
-    replay(&rt, &mut rt.stdin(), &mut buffer)
-}
-
-// The buffer holds the start of a line that isn't whole yet; more is read behind it.
-fn replay(rt: &impl Print, input: &mut impl Read, buffer: &mut [u8]) -> io::Result<()> {
-    let mut held: usize = 0;
-    let mut rounds: usize = 0;
-    while rounds < 65536 {
-        let n = more(input, buffer, held)?;
-        let done = cases(rt, &buffer[..n])?;
-        if done == 0 {
-            return Ok(());
-        }
-        held = keep(buffer, done, n);
-        rounds += 1;
+    let mut input = BufReader::new(rt.alloc(), rt.reader())?;
+    let mut line = Vec::new(rt.alloc());
+    for _ in 0..u64::MAX {
+        line.clear();
+        input.read_until(b'\n', &mut line)?;
+        let Some(case) = line.strip_suffix(b"\n") else {
+            break;
+        };
+        replay(&rt, Case(case))?;
     }
     Ok(())
 }
 
-// Reads behind what is held; how many bytes the buffer holds then.
-fn more(input: &mut impl Read, buffer: &mut [u8], held: usize) -> io::Result<usize>
-    requires { held ≤ length buffer.old }
-    ensures { ReadsAtMost result buffer.new }
-{
-    let mut done = held;
-    while done < buffer.len() {
-        let n = input.read(&mut buffer[done..])?;
-        if n == 0 {
-            return Ok(done);
+// A letter that names no call gives an empty line.
+fn replay(rt: &(impl Print + AllocGlobal), case: Case) -> io::Result<()> {
+    if let Some(Ok(call)) = case.letter().map(|letter| Call::try_from(letter)) {
+        match call {
+            Call::Text(call) => text::replay(rt, call, case)?,
+            Call::ParseOps => reader::replay(rt, case)?,
+            Call::Assemble => assembly::replay(rt, case)?,
+            Call::Verify => runs::verify(rt, case)?,
+            Call::Run(call) => runs::run(rt, call, case)?,
         }
-        done += n;
-    }
-    Ok(done)
-}
-
-// Replays the whole lines of a text; how many bytes they are.
-fn cases(rt: &impl Print, text: &[u8]) -> io::Result<usize>
-    ensures { IfOk result (λ n. n ≤ length text.now) }
-{
-    let mut at: usize = 0;
-    while at < text.len() {
-        let end = field::stop(text, b'\n', at);
-        if end == text.len() {
-            return Ok(at);
-        }
-        case(rt, &text[at..end])?;
-        at = end + 1;
-    }
-    Ok(at)
-}
-
-// Moves what stands from one place to another to the front; how many bytes it is.
-fn keep(buffer: &mut [u8], from: usize, to: usize) -> usize
-    requires { (from ≤ to) × (to ≤ length buffer.old) }
-    ensures { result ≤ length buffer.new }
-{
-    let count = to - from;
-    let mut i: usize = 0;
-    while i < count {
-        buffer[i] = buffer[from + i];
-        i += 1;
-    }
-    count
-}
-
-fn case(rt: &impl Print, line: &[u8]) -> io::Result<()> {
-    let call = field::letter(line, 2);
-    match call {
-        b'O' => reader::replay(rt, line)?,
-        b'A' => assembly::replay(rt, line)?,
-        b'C' => machine_calls::replay(rt, call, line)?,
-        b'R' => machine_calls::replay(rt, call, line)?,
-        b'S' => machine_calls::replay(rt, call, line)?,
-        b'T' => machine_calls::replay(rt, call, line)?,
-        _ => text::replay(rt, call, line)?,
     }
     rt.write_all(b"\n")
+}
+
+// The number that a text writes, or 0 where it writes none.
+fn number(text: &[u8]) -> u64 {
+    decimal::from_str(text).unwrap_or(0)
 }

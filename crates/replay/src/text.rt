@@ -1,109 +1,78 @@
-// The calls that take one or two texts.
-use super::{answer, field, hex, parts};
-use decimal::{Number, Value, Written};
-use lines::Step;
-use search::Found;
+// The calls that take one or two texts, or two numbers.
+use crate::answer::Told;
+use crate::call::TextCall;
+use crate::case::Case;
+use crate::hex::Hex;
+use crate::{function, gate};
+use numbered::Answer;
+use std::fmt::Display;
 use std::io;
 
-pub fn replay(rt: &impl Print, call: u8, line: &[u8]) -> io::Result<()> {
-    let mut a = [0u8; 1024];
-    let mut b = [0u8; 1024];
-    let n = hex::decode(field::at(line, 2), &mut a);
-    let m = hex::decode(field::at(line, 3), &mut b);
-    print(rt, call, line, &a[..n], &b[..m])
-}
-
-fn print(rt: &impl Print, call: u8, line: &[u8], a: &[u8], b: &[u8]) -> io::Result<()> {
+pub fn replay(rt: &(impl Print + AllocGlobal), call: TextCall, case: Case) -> io::Result<()> {
+    let a = case.text(rt.alloc(), 2)?;
+    let b = case.text(rt.alloc(), 3)?;
     match call {
-        b'u' => flag(rt, utf8::is_utf8(a)),
-        b't' => hex::print(rt, trim::trim(a)),
-        b's' => hex::print(rt, trim::trim_start(a)),
-        b'e' => hex::print(rt, trim::trim_end(a)),
-        b'l' => all_lines(rt, a),
-        b'n' => parsed(rt, a),
-        b'w' => rewritten(rt, a),
-        b'd' => digits(rt, a),
-        b'f' => found(rt, search::find(a, b, 0)),
-        b'b' => found_byte(rt, a, b),
-        b'm' => product(rt, line),
-        _ => parts::print(rt, call, a, b),
+        TextCall::IsUtf8 => rt.print(u8::from(utf8::is_utf8(&a))),
+        TextCall::Trim => rt.print(Hex(trim::trim(&a))),
+        TextCall::TrimStart => rt.print(Hex(trim::trim_start(&a))),
+        TextCall::TrimEnd => rt.print(Hex(trim::trim_end(&a))),
+        TextCall::Lines => lines(rt, &a),
+        TextCall::FromStr => or_dash(rt, decimal::from_str(&a)),
+        TextCall::Rewritten => rewritten(rt, &a),
+        TextCall::Digits => digits(rt, &a),
+        TextCall::Find => or_dash(rt, search::find(&a, &b, 0)),
+        TextCall::FindByte => found_byte(rt, &a, &b),
+        TextCall::WrappingMul => rt.print(word::wrapping_mul(case.number(2), case.number(3))),
+        TextCall::FindFunction => function::print(rt, &a),
+        TextCall::JsonU64ForKey => {
+            rt.print(Told(source::vector::json_u64_for_key(&a, &b).numbered()))
+        }
+        TextCall::ExecutionGate => {
+            rt.print(Told(context::execution_gate(gate::of_texts(&a)).numbered()))
+        }
     }
 }
 
-fn flag(rt: &impl Print, yes: bool) -> io::Result<()> {
-    if yes {
-        rt.write_all(b"1")
-    } else {
-        rt.write_all(b"0")
-    }
-}
-
-fn all_lines(rt: &impl Print, s: &[u8]) -> io::Result<()> {
-    let mut at: usize = 0;
-    while at < s.len() {
-        let step = lines::line_at(s, at);
-        let Step::Next(line) = step else {
-            return Ok(());
-        };
-        answer::spaced(rt, line.start as u64)?;
-        answer::spaced(rt, line.end as u64)?;
-        answer::spaced(rt, line.next as u64)?;
+// A `while`, since each line says where the next one starts: its step varies, and no iterator gives the lines' places.
+fn lines(rt: &impl Print, s: &[u8]) -> io::Result<()> {
+    let mut at = 0;
+    while let Some(line) = lines::line_at(s, at) {
+        print!(rt; " {} {} {}", line.start, line.end, line.next)?;
         at = line.next;
     }
     Ok(())
 }
 
-fn parsed(rt: &impl Print, s: &[u8]) -> io::Result<()> {
-    let number = decimal::from_str(s);
-    match number {
-        Number::Is(n) => { rt.print(n) }
-        Number::Invalid => { rt.write_all(b"-") }
+fn or_dash<T: Display + Drop>(rt: &impl Print, value: Option<T>) -> io::Result<()> {
+    match value {
+        Some(value) => rt.print(value),
+        None => rt.print("-"),
     }
 }
 
 // The number that a text writes, written again.
 fn rewritten(rt: &impl Print, s: &[u8]) -> io::Result<()> {
-    let number = decimal::from_str(s);
-    let Number::Is(n) = number else {
+    let Some(n) = decimal::from_str(s) else {
         return Ok(());
     };
-    let mut out = [0u8; 20];
-    let written = decimal::write_decimal(n, &mut out, 0);
-    let Written::To(end) = written else {
+    let mut out = [0; 20];
+    let Some(end) = decimal::write_decimal(n, &mut out, 0) else {
         return Ok(());
     };
-    if end <= out.len() {
-        rt.write_all(&out[..end])?;
-    }
-    Ok(())
+    rt.write_all(&out[..end.min(20)])
 }
 
 fn digits(rt: &impl Print, s: &[u8]) -> io::Result<()> {
     let run = decimal::digits_at(s, 0);
-    rt.print(run.len as u64)?;
-    let value = run.value;
-    match value {
-        Value::Is(n) => answer::spaced(rt, n),
-        Value::TooLarge => { rt.write_all(b" +") }
+    match run.value {
+        Some(n) => print!(rt; "{} {n}", run.len),
+        None => print!(rt; "{} +", run.len),
     }
 }
 
-fn found(rt: &impl Print, f: Found) -> io::Result<()> {
-    match f {
-        Found::At(i) => { rt.print(i as u64) }
-        Found::Nothing => { rt.write_all(b"-") }
+fn found_byte(rt: &impl Print, s: &[u8], sought: &[u8]) -> io::Result<()> {
+    match sought.first() {
+        Some(b) => or_dash(rt, search::find_byte(s, *b, 0)),
+        None => Ok(()),
     }
-}
-
-fn found_byte(rt: &impl Print, s: &[u8], b: &[u8]) -> io::Result<()> {
-    if 0 < b.len() {
-        found(rt, search::find_byte(s, b[0], 0))?;
-    }
-    Ok(())
-}
-
-fn product(rt: &impl Print, line: &[u8]) -> io::Result<()> {
-    let a = field::number(field::at(line, 2));
-    let b = field::number(field::at(line, 3));
-    rt.print(word::wrapping_mul(a, b))
 }

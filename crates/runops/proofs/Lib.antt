@@ -1,4 +1,3 @@
-pub mod PrintedLines
+pub mod Written
 pub mod Reported
-pub mod Reading
 mod Examples

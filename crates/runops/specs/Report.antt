@@ -1,13 +1,13 @@
 -- Program `runops` of document 01: what it prints of a text.
-use Rattle.std.specs.Prelude.{ℕ, zero, suc, ◌≡◌, List, [], ◌∷◌, ◌++◌, cond, ltb, length, get_or, replicate}
+use Rattle.std.specs.Prelude.{Result, Ok, Err}
+use Rattle.checks.specs.declared.VmError.{VmError}
+use Rattle.std.specs.Prelude.{ℕ, zero, suc, List, [], ◌∷◌, ◌++◌, cond, ltb, length, get_or, replicate}
 use Rattle.base.specs.Ascii.{ascii}
-use Rattle.base.specs.Overwrite.{overwrite}
 use Rattle.decimal.specs.Decimal.{decimal}
 use Rattle.ops.specs.Ops.{Reading, read_text, kinds_of, operands_of}
 use Rattle.base.specs.Outcome.{is, refused}
 use Rattle.operation.specs.Errors.{ops_error_numbered}
-use Rattle.perform.specs.declared.RunAnswer.{RunAnswer}
-use Rattle.perform.specs.declared.RunAnswer.TheVariants.{Success, Refused}
+use Rattle.perform.specs.declared.Success.{Success}
 use Rattle.perform.specs.Call.{Call}
 use Rattle.perform.specs.Numbers.{run_answer_numbered}
 use Rattle.perform.specs.Run.{RunResult}
@@ -24,17 +24,17 @@ top_of stack zero = 0
 top_of stack (suc below) = get_or stack below 0
 
 -- slots is the used length
-abbrev pub answered : RunAnswer → List ℕ → Report
-answered (Success spent operations items state) stack =
+abbrev pub answered : Result Success VmError → List ℕ → Report
+answered (Ok success) stack =
     record {
-      refusal = (run_answer_numbered (Success spent operations items state)).number;
-      gas_spent = spent;
-      operations = operations;
-      items = items;
-      top = top_of stack items;
-      slots = state.used;
+      refusal = (run_answer_numbered (Ok success)).number;
+      gas_spent = success.gas_spent;
+      operations = success.operations;
+      items = success.items;
+      top = top_of stack success.items;
+      slots = success.state.used;
     }
-answered (Refused f) stack = refused_with (run_answer_numbered (Refused f)).number
+answered (Err f) stack = refused_with (run_answer_numbered (Err f)).number
 
 -- all buffers 4,096 long
 abbrev pub zeros : List ℕ
@@ -84,8 +84,3 @@ printed r =
     ++ spaced r.top
     ++ spaced r.slots
     ++ (10 ∷ [])
-
--- they stand at the start of a buffer, all else is as before, and r is how long they are
-pub record Prints (report : Report) (before after : List ℕ) (r : ℕ) : Type 0 where
-  pub is : after ≡ overwrite 0 (printed report) before
-  pub len : r ≡ length (printed report)

@@ -1,11 +1,14 @@
-// What the program prints of a text.
-ghost use Rattle.std.specs.Prelude.{◌≤◌, ◌≡◌, length};
-ghost use Rattle.runops.specs.Report.{refused_with, top_of, run_report, report_of};
+// What the program prints of a text: document 01's two lines, the names, then the values.
+ghost use Rattle.std.specs.Prelude.{◌≤◌, ◌≡◌, length, Some};
+ghost use Rattle.runops.specs.Report.{refused_with, top_of, run_report, report_of, printed};
 
-use ops::ParsedOps;
-use perform::{RunAnswer, State};
+use kinds::Program;
+use numbered::Answer;
+use perform::{Run, State};
+use std::fmt;
 
-#[derive(Clone, Copy)]
+// Numbers, as they are printed: on refusal all but the first are 0.
+#[derive(Clone, Copy, Debug, PartialEq, Eq)]
 pub struct Report {
     pub refusal: u64,
     pub gas_spent: u64,
@@ -15,58 +18,65 @@ pub struct Report {
     pub slots: u64,
 }
 
+impl fmt::Display for Report {
+    ghost output = { λ report. Some (printed report) };
+
+    fn fmt<W: fmt::Write>(&self, f: &mut fmt::Formatter<W>) -> fmt::Result {
+        let Report {
+            refusal,
+            gas_spent,
+            operations,
+            items,
+            top,
+            slots,
+        } = *self;
+        writeln!(f, "refusal gas_spent operations items top slots")?;
+        writeln!(
+            f,
+            "{refusal} {gas_spent} {operations} {items} {top} {slots}"
+        )
+    }
+}
+
 pub fn of_text(text: &[u8]) -> Report
     ensures { result ≡ report_of text.now }
 {
     if text.len() > 65536 {
         return refused(27);
     }
-    let mut kinds = [0u8; 4096];
-    let mut operands = [0u64; 4096];
-    let parsed = ops::parse_ops(text, &mut kinds, &mut operands);
-    match parsed {
-        ParsedOps::Refused(e) => {
-            let why = e.numbered();
-            refused(why.number)
-        }
-        ParsedOps::Read(n) => of_run(&kinds[..n], &operands[..n]),
+    let mut kinds = [0; 4096];
+    let mut operands = [0; 4096];
+    match ops::parse_ops(text, &mut kinds, &mut operands) {
+        Ok(n) => of_run(Program {
+            kinds: &kinds[..n],
+            operands: &operands[..n],
+        }),
+        Err(e) => refused(e.numbered().number),
     }
 }
 
-fn of_run(kinds: &[u8], operands: &[u64]) -> Report
-    ensures { result ≡ run_report kinds.now operands.now }
+fn of_run(program: Program) -> Report
+    ensures { result ≡ run_report program.entry.kinds.now program.entry.operands.now }
 {
-    let mut stack = [0u64; 4096];
-    let mut work = [0u64; 4096];
-    let mut storage = [0u64; 4096];
-    let answer = vm::run_with_gas(
-        kinds,
-        operands,
-        7,
-        1000,
-        &mut stack,
-        &mut work,
-        &mut storage,
-        State { used: 0 },
-    );
-    match answer {
-        RunAnswer::Refused(f) => {
-            let why = f.numbered();
-            refused(why.number)
-        }
-        RunAnswer::Success {
-            gas_spent,
-            operations,
-            items,
-            state,
-        } => Report {
+    let mut stack = [0; 4096];
+    let mut work = [0; 4096];
+    let mut storage = [0; 4096];
+    let run = Run {
+        program,
+        caller: 7,
+        gas_limit: 1000,
+        state: State { used: 0 },
+    };
+    match vm::run_with_gas(run, &mut stack, &mut work, &mut storage) {
+        Ok(success) => Report {
             refusal: 0,
-            gas_spent,
-            operations,
-            items: items as u64,
-            top: top(&stack, items),
-            slots: state.used as u64,
+            gas_spent: success.gas_spent,
+            operations: success.operations,
+            items: success.items as u64,
+            top: top(&stack, success.items),
+            slots: success.state.used as u64,
         },
+        Err(f) => refused(f.numbered().number),
     }
 }
 
@@ -88,8 +98,5 @@ fn top(stack: &[u64], items: usize) -> u64
     requires { items ≤ length stack.now }
     ensures { result ≡ top_of stack.now items }
 {
-    if items == 0 {
-        return 0;
-    }
-    stack[items - 1]
+    stack[..items].last().copied().unwrap_or(0)
 }

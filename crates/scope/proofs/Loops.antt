@@ -1,16 +1,18 @@
 -- Laws of a loop over texts that stand in the contract, one after the other.
 use Prim.Native.Nat.{ℕ, ◌+◌, ◌<◌, ◌≤◌}
-use mathlib.Core.Path.{◌≡◌, sym, ap, ◌∙◌}
+use mathlib.Core.Path.{◌≡◌, refl, ap, ◌∙◌}
 use mathlib.Core.List.{List, [], ◌∷◌}
-use mathlib.Core.Bool.{Bool, true, false}
 use native.Mathlib.Omega.{arith}
 use lib.ListN.{take}
+use Rattle.std.specs.Prelude.{Result, Ok, Err}
+use Rattle.scope.specs.declared.refusal.AssembleError.{AssembleError}
 use Rattle.scope.specs.declared.state.TableState as Code
 use Rattle.scope.specs.Part.{part}
 use Rattle.scope.specs.Scope.{Scope, each}
 use Rattle.numbered.specs.declared.Numbered.{Numbered}
-use Rattle.base.specs.Outcome.{Outcome, and_then}
-use Rattle.scope.specs.Code.Held.{Represents, NotRefused, Simulates, SimulatesStep, Within, is_refused}
+use Rattle.base.specs.Outcome.{Outcome, refused, and_then}
+use Rattle.scope.specs.Numbers.{assemble_error_numbered}
+use Rattle.scope.specs.Code.Held.{Represents, Represented, Simulates, SimulatesStep, Within}
 use Rattle.scope.proofs.Simulation.{leads_on, leads_off, by_leads, represents_later}
 
 -- The texts from a place on are `items`; all of them stand from start to end. Those before the place `at` were passed, from the state first on, and
@@ -40,41 +42,38 @@ module _ {s : List ℕ} {start end : ℕ} (w : Within s start end) where
 
   module _ {one : ℕ → Scope → List ℕ → Outcome Numbered Scope} {items : ℕ → List (List ℕ)} {all : List (List ℕ)} {first : Code.TableState} {at n : ℕ} {a : Code.TableState}
       (t : Turn s one items all start end first at n a) where
-    pub turn_good : NotRefused (take start s) first → NotRefused (take at s) a
-    turn_good g = let x = t.leads g.st g.represents in record { st = x.0; represents = x.1.0 }
+    pub turn_represents : Represented (take start s) first → Represented (take at s) a
+    turn_represents g = let x = t.leads g.st g.represents in record { st = x.0; represents = x.1.0 }
 
-    pub turn_done : items at ≡ [] → SimulatesStep (take start s) first (λ st. each one 1 st all) (take end s) a
+    pub turn_done : items at ≡ [] → SimulatesStep (take start s) first (λ st. each one 1 st all) (take end s) a (Ok tt)
     unfolding each
     turn_done e = record {
       leads = λ st q.
           let x = t.leads st q in
-          leads_on (represents_later s at end t.high w.inside x.1.0) (x.1.1 ∙ ap (each one n x.0) e);
+          leads_on refl (represents_later s at end t.high w.inside x.1.0) (x.1.1 ∙ ap (each one n x.0) e);
     }
 
-    module _ {i e next : ℕ} (y : Item s items end at i e next) {r : Code.TableState} (g : SimulatesStep (take i s) a (λ st. one n st (part s i e)) (take e s) r) where
-      onward : (st : Scope) → Represents (take start s) first st → Simulates (take next s) r (each one 1 st all) (λ x. each one (n + 1) x (items next))
+    module _ {i e next : ℕ} (y : Item s items end at i e next) {r : Code.TableState} {x : Result (Unit {0}) AssembleError} (g : SimulatesStep (take i s) a (λ st. one n st (part s i e)) (take e s) r x) where
+      onward : (st : Scope) → Represents (take start s) first st → Simulates (take next s) r x (each one 1 st all) (λ z. each one (n + 1) z (items next))
       unfolding each
       onward st q =
-          let x = t.leads st q in
-          let m = x.1.1 ∙ ap (each one n x.0) y.is in
+          let z = t.leads st q in
+          let m = z.1.1 ∙ ap (each one n z.0) y.is in
           let k = item_within y in
-          by_leads (g.leads x.0 (represents_later s at i y.low (omega (arith, k.ordered, k.inside)) x.1.0))
-          (λ z u d. leads_on (represents_later s e next y.before (omega (arith, y.high, w.inside)) u) (m ∙ ap (λ (o : Outcome Numbered Scope). and_then o (λ v. each one (n + 1) v (items next))) d))
-          (λ why u d. leads_off u (m ∙ ap (λ (o : Outcome Numbered Scope). and_then o (λ v. each one (n + 1) v (items next))) d))
+          by_leads (g.leads z.0 (represents_later s at i y.low (omega (arith, k.ordered, k.inside)) z.1.0))
+          (λ v o u d. leads_on o (represents_later s e next y.before (omega (arith, y.high, w.inside)) u) (m ∙ ap (λ (o : Outcome Numbered Scope). and_then o (λ v. each one (n + 1) v (items next))) d))
+          (λ why o d. leads_off o (m ∙ ap (λ (o : Outcome Numbered Scope). and_then o (λ v. each one (n + 1) v (items next))) d))
 
-      -- a state with the status of a is not refused
-      pub turn_next : r.status ≡ a.status → Turn s one items all start end first next (n + 1) r
+      pub turn_next : x ≡ Ok tt → Turn s one items all start end first next (n + 1) r
       turn_next b = record {
         low = omega (arith, y.on, t.low);
         high = y.high;
         counted = omega (arith, y.on, t.counted);
-        leads = λ st q.
-            by_leads (onward st q)
-            (λ x u d. (x, (u, d)))
-            (λ why u d. absurd (let z : ◌≡◌ {A = Bool} true false = sym (ap is_refused u) ∙ ap is_refused (b ∙ (t.leads st q).1.0.going) in let c : ◌≡◌ {A = ℕ} 0 1 = cc in omega arith));
+        leads = λ st q. by_leads (onward st q) (λ z o u d. (z, (u, d))) (λ why o d. cc);
       }
 
-      pub turn_off : is_refused r.status ≡ true → SimulatesStep (take start s) first (λ st. each one 1 st all) (take end s) r
-      turn_off b = record {
-        leads = λ st q. by_leads (onward st q) (λ x u d. absurd (let z : ◌≡◌ {A = Bool} true false = sym b ∙ ap is_refused u.going in let c : ◌≡◌ {A = ℕ} 0 1 = cc in omega arith)) (λ why u d. leads_off u d);
+      -- nothing is said of the state that is left
+      pub turn_off : {why : AssembleError} → x ≡ Err why → {left : Code.TableState} → SimulatesStep (take start s) first (λ st. each one 1 st all) (take end s) left (Err why)
+      turn_off {why} b = record {
+        leads = λ st q. by_leads (onward st q) (λ z o u d. cc) (λ other o d. let same : other ≡ why = cc in leads_off refl (d ∙ ap (λ (u : AssembleError). refused (assemble_error_numbered u)) same));
       }

@@ -1,8 +1,9 @@
 -- Laws of the bindings as the contract writes them: in a longer text, and with one binding more.
+use Rattle.std.specs.Prelude.{Option, Some, None}
+use Rattle.std.specs.Option.{unwrap_or}
 use Prim.Native.Nat.{ℕ, zero, suc, ◌-◌, ◌<◌, ◌≤◌}
 use mathlib.Core.Path.{◌≡◌, refl, sym, ap, subst, ◌∙◌}
 use mathlib.Core.List.{List, [], ◌∷◌}
-use mathlib.Core.Option.{Option, some, none}
 use native.Mathlib.Numerals.{add-one}
 use native.Mathlib.Omega.{arith}
 use borrow.Author.Tests.{ne_eqb}
@@ -20,9 +21,8 @@ use Rattle.bindings.specs.Code.Table.{tag_of}
 use Rattle.bindings.specs.Code.Source.{Sources, sources, name_of, expression_of, env_of, tree_of, InText, AllInText}
 use Rattle.scope.specs.declared.state.TableState.{TableState}
 use Rattle.scope.specs.declared.state.Returned.{Returned}
-use Rattle.scope.specs.declared.state.LastReturned.{LastReturned}
 use Rattle.scope.specs.Part.{part}
-use Rattle.scope.specs.Code.Stored.{number_in, More}
+use Rattle.scope.specs.Code.Stored.{More}
 use Rattle.scope.specs.Code.Held.{ReturnIs, LastIs}
 use Rattle.scope.proofs.Tables.{later}
 
@@ -80,11 +80,11 @@ module _ (s t : List ℕ) (b b' : Bindings) (v v' : Values) (h : AllSame s (sour
         means = rw (e, parts r.start r.end q.ordered q.inside) q.means;
       }
 
-  last_same : (x : LastReturned) (o : Option Tree) → LastIs s b v x o → LastIs t b' v' x o
-  last_same LastReturned.Nothing none q = q
-  last_same LastReturned.Nothing (some u) q = q
-  last_same (LastReturned.Is r) none q = q
-  last_same (LastReturned.Is r) (some u) q = return_same q
+  last_same : (x : Option Returned) (o : Option Tree) → LastIs s b v x o → LastIs t b' v' x o
+  last_same None None q = q
+  last_same None (Some u) q = q
+  last_same (Some r) None q = q
+  last_same (Some r) (Some u) q = return_same q
 
 abbrev srcs : TableState → Sources
 srcs a = sources a.table a.values
@@ -154,10 +154,10 @@ module _ (s : List ℕ) {a r : TableState} {name expr : Span} {v : Figures} {w :
   env_before : env_of s (srcs r) a.table.count ≡ env_in s a
   env_before = env_same s (srcs a) s (srcs r) a.table.count same_more
 
-  pub last_more : (x : LastReturned) (o : Option Tree) → LastIs s a.table a.values x o → LastIs s r.table r.values x o
+  pub last_more : (x : Option Returned) (o : Option Tree) → LastIs s a.table a.values x o → LastIs s r.table r.values x o
   last_more x o q = last_same s s a.table r.table a.values r.values same_more (omega (arith, m.table.count)) (λ i e p h. refl) (omega arith) x o q
 
-  module _ {t : Tree} (g : Gives s (env_in s a) expr (number_in v.value) t) where
+  module _ {t : Tree} (g : Gives s (env_in s a) expr (unwrap_or v.value 0) t) where
     new_means : expr.start < expr.end → meaning (env_of s (srcs r) a.table.count) (expression_of s (srcs r) a.table.count) ≡ is t
     new_means l = rw (m.table.expr_start.here, m.table.expr_len.here, env_before) (g.means l)
 

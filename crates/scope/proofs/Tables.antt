@@ -1,4 +1,6 @@
 -- Laws of what a table holds: in a longer text, and with one binding more.
+use Rattle.std.specs.Prelude.{Option, Some, None, is_none}
+use Rattle.std.specs.Option.{unwrap_or}
 use Prim.Native.Nat.{ℕ, zero, suc, ◌+◌, ◌<◌, ◌≤◌}
 use mathlib.Core.Path.{◌≡◌, refl, sym, ap, subst, ◌∙◌}
 use mathlib.Core.List.{List, [], ◌∷◌}
@@ -9,15 +11,13 @@ use lib.Seq.{length-take-le}
 use Rattle.base.proofs.Parts.{take-drop-take}
 use Rattle.source.specs.declared.parameters.Span.{Span}
 use Rattle.figures.specs.declared.Figures.{Figures}
-use Rattle.figures.specs.declared.TreeValue.{TreeValue}
-use Rattle.figures.specs.declared.TreeValue.TheVariants.{Is, None}
 use Rattle.grammar.specs.Tree.{Tree, num, bin, k_of, p_of}
 use Rattle.grammar.specs.Parse.{Binding, Env}
-use Rattle.figures.specs.Code.Figures.{FiguresOf, option_of}
+use Rattle.figures.specs.Code.Figures.{FiguresOf}
 use Rattle.bindings.specs.Code.Table.{Columns, columns, value_unless_none, Entry, entry_at, tag_of, RowFor, RowsFor, TableFor}
 use Rattle.scope.specs.declared.state.TableState.{TableState}
 use Rattle.scope.specs.Part.{part}
-use Rattle.scope.specs.Code.Stored.{number_in, is_none, More}
+use Rattle.scope.specs.Code.Stored.{More}
 
 module _ (s : List ℕ) (c : Columns) where
   told_length : (n : ℕ) (env : Env) → RowsFor s c n env → length env ≡ n
@@ -64,8 +64,8 @@ module _ (s : List ℕ) (i e : ℕ) (h : i ≤ e) (k : e ≤ length s) where
   pub holds_later : {c : Columns} {env : Env} → TableFor (take i s) c env → TableFor (take e s) c env
   holds_later {c} {env} t = record { room = t.room; told = told_later c c.count env t.told }
 
-unless_value : (v : TreeValue) → value_unless_none (is_none v) (number_in v) ≡ option_of v
-unless_value (Is n) = refl
+unless_value : (v : Option ℕ) → value_unless_none (is_none v) (unwrap_or v 0) ≡ v
+unless_value (Some n) = refl
 unless_value None = refl
 
 abbrev cols : TableState → Columns

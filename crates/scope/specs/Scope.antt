@@ -1,6 +1,6 @@
 -- How far an assembly has come: the bindings made, newest first, and the tree of the last `return `, if any.
 use Rattle.std.specs.Prelude.{ℕ, ◌+◌, List, [], ◌∷◌, ltb, length}
-use Rattle.std.proofs.Math.Option.{Option, none}
+use Rattle.std.specs.Prelude.{Option, None}
 use Rattle.base.specs.Need.{need}
 use Rattle.grammar.specs.Tree.{Tree}
 use Rattle.grammar.specs.Parse.{Env}
@@ -13,7 +13,7 @@ pub record Scope : Type 0 where
   pub last : Option Tree
 
 abbrev pub started : Scope
-started = record { env = []; last = none }
+started = record { env = []; last = None }
 
 -- one more binding; a 257th is refused
 abbrev pub bound : Scope → List ℕ → Tree → Outcome Numbered Scope

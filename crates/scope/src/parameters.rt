@@ -11,114 +11,47 @@ ghost use Rattle.scope.specs.Code.Stored.{FiguresFit};
 ghost use Rattle.scope.specs.Code.Held.{SimulatesStep, Within, keyed_as};
 
 use crate::refusal::AssembleError;
-use crate::state::{Status, TableState};
-use crate::table::row_of;
+use crate::state::TableState;
 use decimal::decimal_len;
-use figures::{Figures, TreeValue};
-use source::parameters::{NextParameter, Span, next_parameter};
-use source::vector::{KeyValue, json_u64_for_key};
+use figures::Figures;
+use source::parameters::{Span, next_parameter};
+use source::vector::json_u64_for_key;
 
-// A key's number, or why it is refused.
-#[derive(Clone, Copy)]
-pub enum KeyNumber {
-    Is(u64),
-    Refused(AssembleError),
-}
-
-// The parameters from start to end of the contract. `read_parameters_and_body` calls it with the offsets that `find_function` found in a
+// The parameters from start to end of the contract. `read_function` calls it with the offsets that `find_function` found in a
 // contract of at most 65,536 bytes.
 pub fn bind_parameters(
     contract: &[u8],
     vector: &[u8],
     start: usize,
     end: usize,
-    a: TableState,
-) -> TableState
+    state: &mut TableState,
+) -> Result<(), AssembleError>
     requires { Within contract.now start end }
-    ensures { SimulatesStep (take start contract.now) a
+    ensures { SimulatesStep (take start contract.now) state.old
         (λ st. each (parameter_bound vector.now) 1 st (parameters (part contract.now start end)))
-        (take end contract.now) result }
+        (take end contract.now) state.new result }
 {
-    let mut table = a.table;
-    let mut values = a.values;
-    let last = a.last;
-    let status = a.status;
     let mut at = start;
     let mut place: usize = 1;
-    while at < end {
-        let next = next_parameter(contract, at, end);
-        let NextParameter::Is(p) = next else {
-            return TableState {
-                table,
-                values,
-                last,
-                status,
-            };
-        };
-        let first = p.start;
-        let behind = p.end;
-        let number = number_for(vector, &contract[first..behind], place);
-        let n = match number {
-            KeyNumber::Is(n) => n,
-            KeyNumber::Refused(why) => {
-                return TableState {
-                    table,
-                    values,
-                    last,
-                    status: Status::Refused(why),
-                };
-            }
-        };
-        let read = literal(n);
-        let i = table.count;
-        if 256 <= i {
-            return TableState {
-                table,
-                values,
-                last,
-                status: Status::Refused(AssembleError::TooManyBindings),
-            };
-        }
-        let name = Span {
-            start: first,
-            end: behind,
-        };
+    // Each parameter says where the next one is sought: no iterator has its offsets.
+    while let Some(p) = next_parameter(contract, at, end) {
+        let number = number_for(vector, &contract[p.name.start..p.name.end], place)?;
         let expr = Span {
-            start: behind,
-            end: behind,
+            start: p.name.end,
+            end: p.name.end,
         };
-        let row = row_of(contract, name, expr, read);
-        table.name_start[i] = row.name_start;
-        table.name_len[i] = row.name_len;
-        table.expr_start[i] = row.expr_start;
-        table.expr_len[i] = row.expr_len;
-        table.k[i] = row.k;
-        table.p[i] = row.p;
-        table.count = i + 1;
-        values.value[i] = row.value;
-        values.none[i] = row.none;
-        values.len[i] = row.len;
-        values.tag[i] = row.tag;
+        state.bind(contract, p.name, expr, literal(number))?;
         at = p.next;
         place += 1;
     }
-    TableState {
-        table,
-        values,
-        last,
-        status,
-    }
+    Ok(())
 }
 
 // The number that the vector has for a key with a place.
-pub fn number_for(vector: &[u8], key: &[u8], place: usize) -> KeyNumber
+pub fn number_for(vector: &[u8], key: &[u8], place: usize) -> Result<u64, AssembleError>
     ensures { keyed_as result ≡ keyed (vector_number vector.now key.now) place }
 {
-    let value = json_u64_for_key(vector, key);
-    match value {
-        KeyValue::Is(n) => KeyNumber::Is(n),
-        KeyValue::Refused(e) => KeyNumber::Refused(AssembleError::Key(e, place)),
-    }
+    json_u64_for_key(vector, key).map_err(|e| AssembleError::Key(e, place))
 }
 
 // The figures of a number.
@@ -130,6 +63,6 @@ fn literal(n: u64) -> Figures
         k: 1,
         p: 1,
         len: 6 + decimal_len(n) as u64,
-        value: TreeValue::Is(n),
+        value: Some(n),
     }
 }

@@ -1,7 +1,13 @@
-// How far an assembly has come: the bindings made and the last return, or why it is refused.
+// How far an assembly has come: the bindings made and the last return.
+ghost use Rattle.std.specs.Prelude.{◌≡◌, ◌≤◌, ◌<◌, length};
+ghost use Rattle.scope.specs.Part.{part};
+ghost use Rattle.scope.specs.Code.Stored.{FiguresFit, SpanFits, Binds};
+
 use crate::refusal::AssembleError;
+use crate::table::row_of;
 use bindings::{Bindings, Values};
 use figures::Figures;
+use source::parameters::Span;
 
 // The last return: its expression stands from start to end of the contract, and count bindings were made before its line.
 #[derive(Clone, Copy)]
@@ -13,21 +19,30 @@ pub struct Returned {
 }
 
 #[derive(Clone, Copy)]
-pub enum LastReturned {
-    Is(Returned),
-    Nothing,
-}
-
-#[derive(Clone, Copy)]
-pub enum Status {
-    Going,
-    Refused(AssembleError),
-}
-
-#[derive(Clone, Copy)]
 pub struct TableState {
     pub values: Values,
     pub table: Bindings,
-    pub last: LastReturned,
-    pub status: Status,
+    pub last: Option<Returned>,
+}
+
+impl TableState {
+    // One binding more, where there are fewer than 256 (21).
+    pub fn bind(
+        &mut self,
+        text: &[u8],
+        name: Span,
+        expr: Span,
+        read: Figures,
+    ) -> Result<(), AssembleError>
+        requires { SpanFits name × (SpanFits expr × (FiguresFit read × (name.end ≤ length text.now))) }
+        ensures { Binds self.old name expr read (part text.now name.start name.end) self.new result }
+    {
+        if 256 <= self.table.count {
+            return Err(AssembleError::TooManyBindings);
+        }
+        let row = row_of(text, name, expr, read);
+        self.values.set(self.table.count, row);
+        self.table.push(row);
+        Ok(())
+    }
 }

@@ -1,4 +1,4 @@
 pub mod Prefix
 pub mod Laws
-pub mod Placed
+pub mod Blocks
 pub mod Examples

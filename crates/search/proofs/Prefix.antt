@@ -2,11 +2,12 @@
 use Prim.Native.Nat.{ℕ, ◌+◌, ◌<◌, ◌≤◌}
 use mathlib.Core.Path.{◌≡◌, refl, sym, ap, ◌∙◌}
 use mathlib.Core.List.{List, [], ◌∷◌, ◌++◌}
-use mathlib.Core.Bool.{true, false}
+use mathlib.Core.Bool.{Bool, true, false, ◌&&◌}
+use Rattle.std.specs.Cmp.Lexicographic.{pointwise}
 use borrow.Author.Tests.{eq-eqb, ne_eqb}
 use native.Mathlib.Omega.{arith}
 use lib.Dec.{eqb}
-use lib.ListN.{length, get_or, drop, drop_of_length-le, length-append, length-drop, get_or-append}
+use lib.ListN.{length, get_or, take, drop, drop_of_length-le, length-append, length-drop, get_or-append}
 use lib.Seq.{get_or-drop}
 use Rattle.base.proofs.Tests.{by_bool, by_leb, by_eqb, false_true}
 use Rattle.base.proofs.Parts.{drop_cons_at}
@@ -44,6 +45,15 @@ too_long p s h = by_bool (prefix_of p s) (λ e. let f = fits p s e in absurd (om
 pub empty : (p s : List ℕ) → length p ≡ 0 → prefix_of p s ≡ true
 empty [] s e = refl
 empty (a ∷ p) s e = absurd (omega arith)
+
+-- what `starts_with` of a slice tests
+pub starts : (p s : List ℕ) → pointwise eqb p (take (length p) s) ≡ prefix_of p s
+starts [] s = refl
+starts (a ∷ p) [] = refl
+starts (a ∷ p) (b ∷ s) =
+    by_eqb a b
+    (λ e. ap (λ (t : Bool). t && pointwise eqb p (take (length p) s)) (eq-eqb a b e) ∙ starts p s ∙ sym (same a b p s e))
+    (λ n. ap (λ (t : Bool). t && pointwise eqb p (take (length p) s)) (ne_eqb a b n) ∙ sym (other a b p s n))
 
 -- where less is left than p has, only an empty p stands
 pub no_room : (p s : List ℕ) (at : ℕ) → length s < at + length p → prefix_of p (drop at s) ≡ eqb (length p) 0

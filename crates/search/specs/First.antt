@@ -1,7 +1,6 @@
 -- The first occurrence of a list in a list.
+use Rattle.std.specs.Prelude.{Option, Some, None}
 use Rattle.std.specs.Prelude.{ℕ, ◌+◌, List, [], ◌∷◌, Bool, true, false, eqb, leb, length, drop}
-use Rattle.search.specs.declared.Found.{Found}
-use Rattle.search.specs.declared.Found.TheVariants.{At, Nothing}
 
 -- p stands at the start of s
 abbrev pub prefix_of : List ℕ → List ℕ → Bool
@@ -10,10 +9,10 @@ prefix_of (a ∷ p) [] = false
 prefix_of (a ∷ p) (b ∷ s) = elim (eqb a b) [ true ↦ prefix_of p s | false ↦ false ]
 
 -- the first offset of s at which p stands, offsets being counted from n
-abbrev pub first_from : ℕ → List ℕ → List ℕ → Found
-first_from n p [] = elim (prefix_of p []) [ true ↦ At n | false ↦ Nothing ]
-first_from n p (a ∷ s) = elim (prefix_of p (a ∷ s)) [ true ↦ At n | false ↦ first_from (n + 1) p s ]
+abbrev pub first_from : ℕ → List ℕ → List ℕ → Option ℕ
+first_from n p [] = elim (prefix_of p []) [ true ↦ Some n | false ↦ None ]
+first_from n p (a ∷ s) = elim (prefix_of p (a ∷ s)) [ true ↦ Some n | false ↦ first_from (n + 1) p s ]
 
 -- the first offset at or after `at` at which p stands in s; an offset past the end has none
-abbrev pub first_at : List ℕ → List ℕ → ℕ → Found
-first_at p s at = elim (leb at (length s)) [ true ↦ first_from at p (drop at s) | false ↦ Nothing ]
+abbrev pub first_at : List ℕ → List ℕ → ℕ → Option ℕ
+first_at p s at = elim (leb at (length s)) [ true ↦ first_from at p (drop at s) | false ↦ None ]

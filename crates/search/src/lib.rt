@@ -2,187 +2,135 @@
 // Whole blocks of offsets are passed by tests that have no branch and compile to vector code.
 #![tactic(auto)]
 
-ghost use Rattle.std.specs.Prelude.{◌≡◌, [], ◌∷◌, true, false, cond, ◌+◌, ◌<◌, ◌≤◌, leb, ltb, length, drop};
-ghost use Rattle.base.specs.Code.Skips.{Skips, SkipsTo};
+ghost use Rattle.std.specs.Prelude.{◌≡◌, [], ◌∷◌, true, false, ◌+◌, ◌<◌, ◌≤◌, ◌^◌, ℕ, length, drop};
+ghost use Rattle.std.specs.Option.{option_or};
+ghost use Rattle.std.specs.List.{prefix_len};
 ghost use Rattle.search.specs.First.{prefix_of, first_at};
-ghost use Rattle.search.specs.Code.Scan.{or_else, RoomAtEach, Least};
+ghost use Rattle.search.specs.Code.Scan.{RoomAtEach, FirstIn, without};
 
-use base::{both, either, pick};
+use base::pick;
 
 // How many offsets a block has.
 const BLOCK: usize = 16;
 
-#[derive(Clone, Copy)]
-pub enum Found {
-    At(usize),
-    Nothing,
-}
-
 // A byte that is near is found quicker by the plain loop, so the blocks start behind the first.
-pub fn find_byte(s: &[u8], b: u8, at: usize) -> Found
+pub fn find_byte(s: &[u8], b: u8, at: usize) -> Option<usize>
     ensures { result ≡ first_at (b ∷ []) s.now at }
 {
     if s.len() <= at {
-        return Found::Nothing;
+        return None;
     }
-    let near = block_end(at, s.len());
-    let found = byte_before(s, b, at, near);
-    match found {
-        Found::At(i) => Found::At(i),
-        Found::Nothing => find_by_blocks(s, b, near),
-    }
+    let near = at + BLOCK.min(s.len() - at);
+    byte_before(s, b, at, near).or_else(|| find_by_blocks(s, b, near))
 }
 
 // The same where the byte is likely to be farther: whole blocks of 64 first.
-pub fn find_far_byte(s: &[u8], b: u8, at: usize) -> Found
+pub fn find_far_byte(s: &[u8], b: u8, at: usize) -> Option<usize>
     ensures { result ≡ first_at (b ∷ []) s.now at }
 {
-    let mut from = at;
-    while has_room(s, 64, from) {
-        let k = place_in(s, b, from, 64);
-        if k < 64 {
-            return Found::At(from + k as usize);
-        }
-        from += 64;
+    if s.len() <= at {
+        return None;
     }
-    find_byte(s, b, from)
+    let (blocks, _) = s[at..].as_chunks::<64>();
+    for (n, block) in blocks.iter().enumerate() {
+        let k = place_in(block, b);
+        if k < 64 {
+            return Some(at + 64 * n + usize::from(k));
+        }
+    }
+    find_byte(s, b, at + 64 * blocks.len())
 }
 
-// How many of the n bytes starting at an offset stand before the first b, or n.
-fn place_in(s: &[u8], b: u8, at: usize, n: u8) -> u8
-    requires { at + n ≤ length s.now }
-    ensures { Least (b ∷ []) s.now at n n result }
+// The first place of b in a block, or 64.
+fn place_in(block: &[u8; 64], b: u8) -> u8
+    ensures { FirstIn b block.now 64 result }
 {
-    let mut least = n;
-    let mut k: u8 = 0;
-    while k < n {
-        least = smaller(least, pick(s[at + k as usize] == b, k, n));
-        k += 1;
+    let mut least = 64;
+    for k in 0..64 {
+        least = pick(block[usize::from(k)] == b, k, 64).min(least);
     }
     least
-}
-
-fn smaller(a: u8, b: u8) -> u8
-    ensures { result ≡ cond (ltb a b) a b }
-{
-    if a < b { a } else { b }
 }
 
 pub fn starts_with(s: &[u8], p: &[u8], at: usize) -> bool
     ensures { result ≡ prefix_of p.now (drop at s.now) }
 {
-    if has_room(s, p.len(), at) {
-        return stands(s, p, at);
-    }
-    p.len() == 0
+    s[at.min(s.len())..].starts_with(p)
 }
 
 // The empty string occurs at once, as `str::find` has it.
-pub fn find(s: &[u8], p: &[u8], at: usize) -> Found
+pub fn find(s: &[u8], p: &[u8], at: usize) -> Option<usize>
     ensures { result ≡ first_at p.now s.now at }
 {
-    if !has_room(s, p.len(), at) {
-        return Found::Nothing;
+    let last = s.len().checked_sub(p.len())?;
+    if last < at {
+        return None;
     }
-    if p.len() == 0 {
-        return Found::At(at);
+    match p {
+        [] => Some(at),
+        [b] => find_by_blocks(s, *b, at),
+        _ => find_string(s, p, at),
     }
-    if p.len() == 1 {
-        return find_by_blocks(s, p[0], at);
-    }
-    find_string(s, p, at)
 }
 
-fn find_by_blocks(s: &[u8], b: u8, at: usize) -> Found
+// The blocks without b are passed.
+fn find_by_blocks(s: &[u8], b: u8, at: usize) -> Option<usize>
     requires { at ≤ length s.now }
     ensures { result ≡ first_at (b ∷ []) s.now at }
 {
-    let block = pass_blocks(s, b, at);
-    byte_before(s, b, block, s.len())
+    let (blocks, _) = s[at..].as_chunks::<BLOCK>();
+    byte_before(s, b, at + BLOCK * blocks_without(blocks, b), s.len())
 }
 
-// Passes blocks as long as they are without b.
-fn pass_blocks(s: &[u8], b: u8, at: usize) -> usize
-    requires { at ≤ length s.now }
-    ensures { SkipsTo (first_at (b ∷ []) s.now) at (length s.now) result }
+// How many blocks come before the first that has b.
+fn blocks_without(blocks: &[[u8; BLOCK]], b: u8) -> usize
+    ensures few { result ≤ length blocks.now }
+    ensures without { result ≡ prefix_len (without b) blocks.now }
 {
-    let mut block = at;
-    while has_room(s, BLOCK, block) {
-        if has_byte(s, b, block, BLOCK) {
-            return block;
-        }
-        block += BLOCK;
-    }
-    block
-}
-
-// No only where b is not among the n bytes starting at an offset.
-fn has_byte(s: &[u8], b: u8, at: usize, n: usize) -> bool
-    requires { at + n ≤ length s.now }
-    ensures { result ≡ false → Skips (first_at (b ∷ []) s.now) at (at + n) }
-{
-    let mut hit = false;
-    let mut k: usize = 0;
-    while k < n {
-        hit = either(hit, s[at + k] == b);
-        k += 1;
-    }
-    hit
+    blocks
+        .iter()
+        .take_while(|block| !block.contains(&b))
+        .count()
 }
 
 // The first offset before end at which b stands.
-fn byte_before(s: &[u8], b: u8, at: usize, end: usize) -> Found
+fn byte_before(s: &[u8], b: u8, at: usize, end: usize) -> Option<usize>
     requires { (at ≤ end) × (end ≤ length s.now) }
-    ensures { first_at (b ∷ []) s.now at ≡ or_else result (first_at (b ∷ []) s.now end) }
+    ensures { first_at (b ∷ []) s.now at ≡ option_or result (first_at (b ∷ []) s.now end) }
 {
-    for i in at..end {
-        if s[i] == b {
-            return Found::At(i);
-        }
-    }
-    Found::Nothing
+    let k = s[at..end].iter().position(|a| *a == b)?;
+    Some(at + k)
 }
 
-fn find_string(s: &[u8], p: &[u8], at: usize) -> Found
+// A block at which p may stand is tried place by place, and so is what is left behind the last one. The room that is asked for here and
+// below is a fact of offsets, which differ from call to call, so no struct can hold it.
+fn find_string(s: &[u8], p: &[u8], at: usize) -> Option<usize>
     requires { RoomAtEach p.now s.now at (at + 1) }
     ensures { result ≡ first_at p.now s.now at }
 {
     let stop = s.len() - p.len() + 1;
-    let mut i = at;
-    while i < stop {
-        let end = block_end(i, stop);
-        if may_stand(s, p, i, end) {
-            let found = string_before(s, p, i, end);
-            if let Found::At(j) = found {
-                return Found::At(j);
+    let blocks = (stop - at) / BLOCK;
+    for n in 0..blocks {
+        let i = at + BLOCK * n;
+        if any_at(i, BLOCK, |k| agrees(s, p, k)) {
+            if let Some(j) = string_before(s, p, i, i + BLOCK) {
+                return Some(j);
             }
         }
-        i = end;
     }
-    Found::Nothing
+    string_before(s, p, at + BLOCK * blocks, stop)
 }
 
-// Whether p may stand at an offset before end. Of less than a block nothing is known.
-fn may_stand(s: &[u8], p: &[u8], at: usize, end: usize) -> bool
-    requires { RoomAtEach p.now s.now at end }
-    ensures { result ≡ false → Skips (first_at p.now s.now) at end }
-{
-    if end - at != BLOCK {
-        return true;
-    }
-    any_agrees(s, p, at, BLOCK)
-}
-
-// No only where p agrees at none of the n offsets starting at an offset.
-fn any_agrees(s: &[u8], p: &[u8], at: usize, n: usize) -> bool
-    requires { RoomAtEach p.now s.now at (at + n) }
-    ensures { result ≡ false → Skips (first_at p.now s.now) at (at + n) }
+// Whether a test says yes at one of the n offsets starting at an offset. It has no branch.
+pub fn any_at<F: Fn(usize) -> bool>(at: usize, n: usize, test: F) -> bool
+    requires fits { at + n < 2 ^ 64 }
+    requires test { (i : ℕ) → at ≤ i → i < at + n → F.pre test i }
+    ensures some { result ≡ true → (i : ℕ) × (at ≤ i) × (i < at + n) × F.post test i true }
+    ensures none { result ≡ false → (i : ℕ) → at ≤ i → i < at + n → F.post test i false }
 {
     let mut hit = false;
-    let mut k: usize = 0;
-    while k < n {
-        hit = either(hit, agrees(s, p, at + k));
-        k += 1;
+    for k in 0..n {
+        hit |= test(at + k);
     }
     hit
 }
@@ -194,50 +142,27 @@ fn agrees(s: &[u8], p: &[u8], at: usize) -> bool
 {
     let middle = p.len() / 2;
     let last = p.len() - 1;
-    let ends = both(s[at] == p[0], s[at + last] == p[last]);
-    both(ends, s[at + middle] == p[middle])
+    (s[at] == p[0]) & (s[at + last] == p[last]) & (s[at + middle] == p[middle])
 }
 
-// The first offset before end at which p stands.
-fn string_before(s: &[u8], p: &[u8], at: usize, end: usize) -> Found
+// The first offset before end at which p stands. `find` over the range was measured slower.
+fn string_before(s: &[u8], p: &[u8], at: usize, end: usize) -> Option<usize>
     requires { RoomAtEach p.now s.now at end }
-    ensures { first_at p.now s.now at ≡ or_else result (first_at p.now s.now end) }
+    ensures { first_at p.now s.now at ≡ option_or result (first_at p.now s.now end) }
 {
-    let first = p[0];
     for i in at..end {
-        if s[i] == first && stands(s, p, i) {
-            return Found::At(i);
+        if stands(s, p, i) {
+            return Some(i);
         }
     }
-    Found::Nothing
+    None
 }
 
-// Whether p stands at an offset that has room for it.
+// Whether p stands at an offset that has room for it. The first byte is tried first. `starts_with` calls a function, and was measured
+// slower.
 fn stands(s: &[u8], p: &[u8], at: usize) -> bool
-    requires { at + length p.now ≤ length s.now }
+    requires { RoomAtEach p.now s.now at (at + 1) }
     ensures { result ≡ prefix_of p.now (drop at s.now) }
 {
-    let mut j: usize = 0;
-    while j < p.len() {
-        if s[at + j] != p[j] {
-            return false;
-        }
-        j += 1;
-    }
-    true
-}
-
-// Where the block that starts at an offset ends, or the offsets do.
-fn block_end(at: usize, stop: usize) -> usize
-    requires { at < stop }
-    ensures { (at < result) × (result ≤ stop) }
-{
-    if stop - at < BLOCK { stop } else { at + BLOCK }
-}
-
-// Whether n bytes or more are left starting at an offset.
-fn has_room(s: &[u8], n: usize, at: usize) -> bool
-    ensures { result ≡ leb (at + n) (length s.now) }
-{
-    n <= s.len() && at <= s.len() - n
+    s[at] == p[0] && p.iter().eq(&s[at..at + p.len()])
 }

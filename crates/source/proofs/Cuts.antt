@@ -1,4 +1,5 @@
 -- Laws of cutting: the text before a byte, as it is searched for, and the pieces between commas.
+use Rattle.std.specs.Prelude.{Option, Some, None, unwrap_or}
 use Prim.Native.Nat.{ℕ, suc, ◌+◌, ◌<◌, ◌≤◌}
 use mathlib.Core.Path.{◌≡◌, refl, sym, ap, ◌∙◌}
 use mathlib.Core.List.{List, [], ◌∷◌}
@@ -8,8 +9,6 @@ use lib.ListN.{length, take, drop, length-drop}
 use Rattle.base.specs.Lists.{is_not}
 use Rattle.base.proofs.Tests.{by_eqb, by_leb}
 use Rattle.base.proofs.Lists.{length-take_while, take-take_while}
-use Rattle.search.specs.declared.Found.{Found}
-use Rattle.search.specs.declared.Found.TheVariants.{At, Nothing}
 use Rattle.search.specs.First.{first_from, first_at}
 use Rattle.search.proofs.Prefix.{same, other}
 use Rattle.search.proofs.Laws.{from_hit, from_miss, within}
@@ -31,17 +30,17 @@ module _ (b : ℕ) where
   before_starts s = sym (take-take_while (is_not b) s)
 
   -- where the search finds the byte, or not
-  search_here : (n : ℕ) (s : List ℕ) → length (before b s) < length s → first_from n (b ∷ []) s ≡ At (n + length (before b s))
+  search_here : (n : ℕ) (s : List ℕ) → length (before b s) < length s → first_from n (b ∷ []) s ≡ Some (n + length (before b s))
   search_here n [] l = absurd (omega arith)
   search_here n (a ∷ s) l =
       by_eqb a b
       (λ e. let z : n ≡ n + length (before b (a ∷ s)) = omega (arith, ap length (before_here b a s e)) in
-      from_hit (b ∷ []) n (a ∷ s) (same b a [] s (sym e)) ∙ ap At z)
+      from_hit (b ∷ []) n (a ∷ s) (same b a [] s (sym e)) ∙ ap Some z)
       (λ h. let y = ap length (before_more b a s h) in
       let z : n + 1 + length (before b s) ≡ n + length (before b (a ∷ s)) = omega arith in
-      from_miss (b ∷ []) n a s (other b a [] s (λ e. h (sym e))) ∙ search_here (n + 1) s (omega arith) ∙ ap At z)
+      from_miss (b ∷ []) n a s (other b a [] s (λ e. h (sym e))) ∙ search_here (n + 1) s (omega arith) ∙ ap Some z)
 
-  search_none : (n : ℕ) (s : List ℕ) → length (before b s) ≡ length s → first_from n (b ∷ []) s ≡ Nothing
+  search_none : (n : ℕ) (s : List ℕ) → length (before b s) ≡ length s → first_from n (b ∷ []) s ≡ None
   search_none n [] l = refl
   search_none n (a ∷ s) l =
       by_eqb a b
@@ -52,27 +51,17 @@ module _ (b : ℕ) where
 abbrev pub cut_at : ℕ → List ℕ → ℕ → ℕ
 cut_at b s at = at + length (before b (drop at s))
 
-abbrev place_or : ℕ → Found → ℕ
-place_or n (At i) = i
-place_or n Nothing = n
-
 module _ (b : ℕ) (s : List ℕ) (at : ℕ) (h : at ≤ length s) where
   pub cut_length : (at ≤ cut_at b s at) × (cut_at b s at ≤ length s)
   cut_length = let k = before-length b (drop at s) in (omega arith, omega (arith, length-drop at s))
 
-  cut : place_or (length s) (first_at (b ∷ []) s at) ≡ cut_at b s at
+  pub cut : unwrap_or (first_at (b ∷ []) s at) (length s) ≡ cut_at b s at
   cut =
       let n = length-drop at s in
       let k = before-length b (drop at s) in
       by_leb (suc (length (before b (drop at s)))) (length (drop at s))
-      (λ l. ap (place_or (length s)) (within (b ∷ []) s at h ∙ search_here b at (drop at s) l))
-      (λ l. ap (place_or (length s)) (within (b ∷ []) s at h ∙ search_none b at (drop at s) (omega arith)) ∙ omega arith)
-
-  pub cut_found : (i : ℕ) → first_at (b ∷ []) s at ≡ At i → i ≡ cut_at b s at
-  cut_found i e = sym (ap (place_or (length s)) e) ∙ cut
-
-  pub cut_absent : first_at (b ∷ []) s at ≡ Nothing → length s ≡ cut_at b s at
-  cut_absent e = sym (ap (place_or (length s)) e) ∙ cut
+      (λ l. ap (λ (x : Option ℕ). unwrap_or x (length s)) (within (b ∷ []) s at h ∙ search_here b at (drop at s) l))
+      (λ l. ap (λ (x : Option ℕ). unwrap_or x (length s)) (within (b ∷ []) s at h ∙ search_none b at (drop at s) (omega arith)) ∙ omega arith)
 
 -- the first piece, and those behind it
 module _ (a : ℕ) (s : List ℕ) where

@@ -1,4 +1,5 @@
 -- Laws of the piece that starts at a place: where its parameter stands, and what follows it.
+use Rattle.std.specs.Prelude.{Option, Some, None}
 use Prim.Native.Nat.{ℕ, suc, ◌+◌, ◌-◌, ◌<◌, ◌≤◌}
 use mathlib.Core.Path.{◌≡◌, refl, sym, ap, ◌∙◌}
 use mathlib.Core.List.{List, [], ◌∷◌}
@@ -11,8 +12,6 @@ use Rattle.source.specs.Parameters.{front, pieces, name, names, unless_empty, pa
 use Rattle.source.specs.Code.Cursor.{before, name_span, comma, placed, first_kept, parameter_at}
 use Rattle.source.specs.declared.parameters.Span.{Span}
 use Rattle.source.specs.declared.parameters.Parameter.{Parameter}
-use Rattle.source.specs.declared.parameters.NextParameter.{NextParameter}
-use Rattle.source.specs.declared.parameters.NextParameter.TheVariants.{Is, Done}
 use Rattle.source.proofs.Cuts.{before-length, before_starts, cut_at, cut_length, pieces-comma, pieces_other, pieces_one, pieces_more}
 use Rattle.source.proofs.Names.{name_fits, name_place}
 
@@ -57,32 +56,32 @@ module _ (s : List ℕ) (at : ℕ) (h : at ≤ length s) (stop : ℕ) (e : stop 
       rw name_is (omega arith, omega arith)
 
   placed_as : (ps : List (List ℕ)) (next : ℕ) → pieces (drop at s) ≡ piece_at s at ∷ ps → next ≡ stop + comma ps
-      → ◌≡◌ {A = Parameter} (record { start = at + n.start; end = at + n.end; next = next }) (placed at (pieces (drop at s)))
+      → ◌≡◌ {A = Parameter} (record { name = record { start = at + n.start; end = at + n.end }; next = next }) (placed at (pieces (drop at s)))
   placed_as ps next g k = let m : next ≡ at + length (piece_at s at) + comma ps = omega arith in rw (g, name_is, m)
 
-  pub placed_last : length s ≤ stop → ◌≡◌ {A = Parameter} (record { start = at + n.start; end = at + n.end; next = stop }) (placed at (pieces (drop at s)))
+  pub placed_last : length s ≤ stop → ◌≡◌ {A = Parameter} (record { name = record { start = at + n.start; end = at + n.end }; next = stop }) (placed at (pieces (drop at s)))
   placed_last l = by_comma s at h (λ k g. placed_as [] stop g (omega arith)) (λ k g. absurd (omega arith))
 
-  pub placed_more : stop < length s → ◌≡◌ {A = Parameter} (record { start = at + n.start; end = at + n.end; next = stop + 1 }) (placed at (pieces (drop at s)))
+  pub placed_more : stop < length s → ◌≡◌ {A = Parameter} (record { name = record { start = at + n.start; end = at + n.end }; next = stop + 1 }) (placed at (pieces (drop at s)))
   placed_more l =
       by_comma s at h
       (λ k g. absurd (omega arith))
       (λ k g. placed_as _ (stop + 1) g (omega (arith, comma-pieces (drop (cut_at 0x2C s at + 1) s))))
 
 -- the answer by a piece's name: its own parameter, or what follows where the name is empty
-abbrev pub kept : List ℕ → Parameter → NextParameter → NextParameter
+abbrev pub kept : List ℕ → Parameter → Option Parameter → Option Parameter
 kept [] q r = r
-kept (a ∷ n) q r = Is q
+kept (a ∷ n) q r = Some q
 
 first_kept_lem : (at : ℕ) (p : List ℕ) (ps : List (List ℕ)) → first_kept at (p ∷ ps) ≡ kept (name p) (placed at (p ∷ ps)) (first_kept (at + length p + 1) ps)
 first_kept_lem at p ps = go (name p)
   where
-    go : (n : List ℕ) → elim n as (λ _. NextParameter) [ [] ↦ first_kept (at + length p + 1) ps | a ∷ m ↦ Is (placed at (p ∷ ps)) ] ≡ kept n (placed at (p ∷ ps)) (first_kept (at + length p + 1) ps)
+    go : (n : List ℕ) → elim n as (λ _. (Option Parameter)) [ [] ↦ first_kept (at + length p + 1) ps | a ∷ m ↦ Some (placed at (p ∷ ps)) ] ≡ kept n (placed at (p ∷ ps)) (first_kept (at + length p + 1) ps)
     go [] = refl
     go (a ∷ m) = refl
 
 -- at the end of the text and past it there is none
-pub past : (s : List ℕ) (at : ℕ) → length s ≤ at → parameter_at s at ≡ Done
+pub past : (s : List ℕ) (at : ℕ) → length s ≤ at → parameter_at s at ≡ None
 past s at h = ap (λ (t : List ℕ). first_kept at (pieces t)) (drop_of_length-le s h)
 
 pub none_past : (s : List ℕ) (at : ℕ) → length s ≤ at → parameters (drop at s) ≡ []
@@ -90,12 +89,12 @@ none_past s at h = ap parameters (drop_of_length-le s h)
 
 -- where a piece's parameter stands, and what follows it
 pub record Stands (s : List ℕ) (at : ℕ) (q : Parameter) : Type 0 where
-  pub starts : at ≤ q.start
-  pub ends : q.end ≡ q.start + length (name (piece_at s at))
-  pub before : q.end ≤ q.next
+  pub starts : at ≤ q.name.start
+  pub ends : q.name.end ≡ q.name.start + length (name (piece_at s at))
+  pub before : q.name.end ≤ q.next
   pub on : at < length s → at < q.next
   pub fits : q.next ≤ length s
-  pub is : take (q.end - q.start) (drop q.start s) ≡ name (piece_at s at)
+  pub is : take (q.name.end - q.name.start) (drop q.name.start s) ≡ name (piece_at s at)
   pub answer : parameter_at s at ≡ kept (name (piece_at s at)) q (parameter_at s q.next)
   pub names : parameters (drop at s) ≡ unless_empty (name (piece_at s at)) (parameters (drop q.next s))
 

@@ -1,25 +1,25 @@
 -- The contract's function. Every search takes the first occurrence.
+use Rattle.std.specs.Prelude.{Result, Ok, Err}
+use Rattle.source.specs.declared.function.Places.{Places}
 use Rattle.std.specs.Prelude.{ℕ, ◌+◌, List}
 use Rattle.base.specs.Ascii.{ascii}
 use Rattle.numbered.specs.declared.Numbered.{Numbered}
-use Rattle.numbered.specs.Numbered.{plain}
+use Rattle.numbered.specs.Numbered.{plain, result_numbered}
 use Rattle.search.specs.First.{first_at}
 use Rattle.source.specs.declared.function.FunctionError.{FunctionError}
 use Rattle.source.specs.declared.function.FunctionError.TheVariants.{NoFunction, NoParameters, UnclosedParameters, NoBody, UnclosedBody}
-use Rattle.source.specs.declared.function.Function.{Function}
-use Rattle.source.specs.declared.function.Function.TheVariants.{Found, Refused}
 use Rattle.source.specs.Found.{found_or}
 
 -- `fn `, the first `(` after it, the first `)` after that, the first `{` after that, the first `}` after that.
 -- The parameters stand between the parentheses, the body between the braces.
-abbrev pub function_of : List ℕ → Function
+abbrev pub function_of : List ℕ → Result Places FunctionError
 function_of s =
-    found_or (first_at (ascii "fn ") s 0) (Refused NoFunction) (λ name.
-    found_or (first_at (ascii "(") s (name + 3)) (Refused NoParameters) (λ left.
-    found_or (first_at (ascii ")") s (left + 1)) (Refused UnclosedParameters) (λ right.
-    found_or (first_at (ascii "{") s (right + 1)) (Refused NoBody) (λ brace.
-    found_or (first_at (ascii "}") s (brace + 1)) (Refused UnclosedBody) (λ end.
-    Found (record { params_start = left + 1; params_end = right; body_start = brace + 1; body_end = end }))))))
+    found_or (first_at (ascii "fn ") s 0) (Err NoFunction) (λ name.
+    found_or (first_at (ascii "(") s (name + 3)) (Err NoParameters) (λ left.
+    found_or (first_at (ascii ")") s (left + 1)) (Err UnclosedParameters) (λ right.
+    found_or (first_at (ascii "{") s (right + 1)) (Err NoBody) (λ brace.
+    found_or (first_at (ascii "}") s (brace + 1)) (Err UnclosedBody) (λ end.
+    Ok (record { params = record { start = left + 1; end = right }; body = record { start = brace + 1; end = end } }))))))
 
 -- document 01's number of each case
 abbrev pub function_error_numbered : FunctionError → Numbered
@@ -29,6 +29,5 @@ function_error_numbered UnclosedParameters = plain 5
 function_error_numbered NoBody = plain 6
 function_error_numbered UnclosedBody = plain 7
 
-abbrev pub function_numbered : Function → Numbered
-function_numbered (Found p) = plain 0
-function_numbered (Refused e) = function_error_numbered e
+abbrev pub function_numbered : Result Places FunctionError → Numbered
+function_numbered = result_numbered (λ p. plain 0) function_error_numbered

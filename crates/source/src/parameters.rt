@@ -1,54 +1,58 @@
 // The parameters of a function, one after the other, by their places.
-ghost use Rattle.std.specs.Prelude.{◌≡◌, ◌+◌, ◌≤◌, length, take, drop};
+ghost use Rattle.std.specs.Prelude.{◌≡◌, ◌+◌, ◌^◌, ◌<◌, ◌≤◌, length, take, drop};
 ghost use Rattle.source.specs.Parameters.{pieces};
 ghost use Rattle.source.specs.Code.Cursor.{before, trimmed_span, name_span, placed, parameter_at};
 
-use search::Found;
-
-// A parameter's name stands from start to end; the parameters behind it are sought from next on.
-#[derive(Clone, Copy)]
-pub struct Parameter {
-    pub start: usize,
-    pub end: usize,
-    pub next: usize,
-}
-
-#[derive(Clone, Copy)]
-pub enum NextParameter {
-    Is(Parameter),
-    Done,
-}
+use search::find_byte;
+use trim::{trim_end, trim_start};
 
 // Where a part of a text starts and ends.
-#[derive(Clone, Copy)]
+#[derive(Clone, Copy, Debug, PartialEq, Eq)]
 pub struct Span {
     pub start: usize,
     pub end: usize,
 }
 
-// The next parameter of the text before end, from a place on.
-pub fn next_parameter(text: &[u8], at: usize, end: usize) -> NextParameter
-    ensures { result ≡ parameter_at (take end text.now) at }
-{
-    if text.len() <= end {
-        return next_of(text, at);
+impl Span {
+    // The same part, where a text stands that starts at an offset of another.
+    fn behind(self, at: usize) -> Span
+        requires { (at + self.start < 2 ^ 64) × (at + self.end < 2 ^ 64) }
+        ensures { result ≡ record { start = at + self.start; end = at + self.end } }
+    {
+        Span {
+            start: at + self.start,
+            end: at + self.end,
+        }
     }
-    next_of(&text[..end], at)
 }
 
-// The next parameter of a whole text.
-fn next_of(s: &[u8], at: usize) -> NextParameter
+// Where a parameter's name stands; the parameters behind it are sought from next on.
+#[derive(Clone, Copy, Debug, PartialEq, Eq)]
+pub struct Parameter {
+    pub name: Span,
+    pub next: usize,
+}
+
+// The next parameter of the text before end, from a place on.
+pub fn next_parameter(text: &[u8], at: usize, end: usize) -> Option<Parameter>
+    ensures { result ≡ parameter_at (take end text.now) at }
+{
+    next_of(&text[..end.min(text.len())], at)
+}
+
+// The next parameter of a whole text. The loop goes from comma to comma: its step varies, and no iterator is plainer.
+fn next_of(s: &[u8], at: usize) -> Option<Parameter>
     ensures { result ≡ parameter_at s.now at }
 {
     let mut i = at;
     while i < s.len() {
         let parameter = parameter_at(s, i);
-        if parameter.start < parameter.end {
-            return NextParameter::Is(parameter);
+        if parameter.name.start < parameter.name.end {
+            return Some(parameter);
         }
         i = parameter.next;
     }
-    NextParameter::Done
+    None
 }
 
 // The parameter of the piece that starts at a place, though its name may be empty.
@@ -57,14 +61,10 @@ fn parameter_at(s: &[u8], at: usize) -> Parameter
     ensures { result ≡ placed at (pieces (drop at s.now)) }
 {
     let stop = cut(s, b',', at);
-    let name = name_of(&s[at..stop]);
-    let start = at + name.start;
-    let end = at + name.end;
-    let mut next = stop;
-    if stop < s.len() {
-        next = stop + 1;
+    Parameter {
+        name: name_of(&s[at..stop]).behind(at),
+        next: if stop < s.len() { stop + 1 } else { stop },
     }
-    Parameter { start, end, next }
 }
 
 // Where the name stands in a piece.
@@ -72,27 +72,20 @@ fn name_of(piece: &[u8]) -> Span
     ensures { result ≡ name_span piece.now }
 {
     let whole = trimmed_span(piece);
-    let start = whole.start;
-    let end = whole.end;
-    let text = &piece[start..end];
+    let text = &piece[whole.start..whole.end];
     let colon = cut(text, b':', 0);
-    let name = trimmed_span(&text[..colon]);
-    Span {
-        start: start + name.start,
-        end: start + name.end,
-    }
+    trimmed_span(&text[..colon]).behind(whole.start)
 }
 
 // Where the trimmed text stands in a text.
 pub fn trimmed_span(s: &[u8]) -> Span
     ensures { result ≡ trimmed_span s.now }
 {
-    let rest = trim::trim_start(s);
+    let rest = trim_start(s);
     let start = s.len() - rest.len();
-    let text = trim::trim_end(rest);
     Span {
         start,
-        end: start + text.len(),
+        end: start + trim_end(rest).len(),
     }
 }
 
@@ -101,9 +94,5 @@ fn cut(s: &[u8], b: u8, at: usize) -> usize
     requires { at ≤ length s.now }
     ensures { result ≡ at + length (before b (drop at s.now)) }
 {
-    let found = search::find_byte(s, b, at);
-    match found {
-        Found::At(i) => i,
-        Found::Nothing => s.len(),
-    }
+    find_byte(s, b, at).unwrap_or(s.len())
 }

@@ -1,15 +1,17 @@
 // The vector's numbers.
 ghost use Rattle.std.specs.Prelude.{◌≡◌};
+ghost use Rattle.numbered.specs.Numbered.{Answered};
 ghost use Rattle.decimal.specs.Decimal.{digit};
 ghost use Rattle.source.specs.Vector.{of_digits, vector_number, key_error_numbered, key_value_numbered};
 ghost use Rattle.base.specs.Lists.{take_while};
 
-use decimal::Value;
+use decimal::digits_at;
 use key::find_quoted;
-use numbered::{Numbered, carrying_one, plain};
-use search::Found;
+use numbered::{Answer, Numbered, plain};
+use search::find_byte;
+use trim::trim_start;
 
-#[derive(Clone, Copy)]
+#[derive(Clone, Copy, Debug, PartialEq, Eq)]
 pub enum KeyError {
     NoKey,
     NoColon,
@@ -17,10 +19,10 @@ pub enum KeyError {
     TooLarge,
 }
 
-impl KeyError {
-    pub fn numbered(self) -> Numbered
-        ensures { result ≡ key_error_numbered self }
-    {
+impl Answer for KeyError {
+    ghost numbered_as = { key_error_numbered };
+
+    fn numbered(self) -> Numbered {
         match self {
             KeyError::NoKey => plain(8),
             KeyError::NoColon => plain(9),
@@ -30,51 +32,21 @@ impl KeyError {
     }
 }
 
-#[derive(Clone, Copy)]
-pub enum KeyValue {
-    Is(u64),
-    Refused(KeyError),
-}
-
-impl KeyValue {
-    pub fn numbered(self) -> Numbered
-        ensures { result ≡ key_value_numbered self }
-    {
-        match self {
-            KeyValue::Is(n) => carrying_one(0, n),
-            KeyValue::Refused(e) => e.numbered(),
-        }
-    }
-}
-
-pub fn json_u64_for_key(vector: &[u8], key: &[u8]) -> KeyValue
-    ensures { (result ≡ vector_number vector.now key.now)
-        × (key_value_numbered result ≡ key_value_numbered (vector_number vector.now key.now)) }
+pub fn json_u64_for_key(vector: &[u8], key: &[u8]) -> Result<u64, KeyError>
+    ensures { Answered key_value_numbered (vector_number vector.now key.now) result }
 {
-    let found = find_quoted(vector, key);
-    let Found::At(at) = found else {
-        return KeyValue::Refused(KeyError::NoKey);
-    };
-    let after_key = at + (key.len() + 2);
-    let colon = search::find_byte(vector, b':', after_key);
-    let Found::At(colon_at) = colon else {
-        return KeyValue::Refused(KeyError::NoColon);
-    };
-    let start = colon_at + 1;
-    leading_number(trim::trim_start(&vector[start..]))
+    let at = find_quoted(vector, key).ok_or(KeyError::NoKey)?;
+    let colon = find_byte(vector, b':', at + (key.len() + 2)).ok_or(KeyError::NoColon)?;
+    leading_number(trim_start(&vector[colon + 1..]))
 }
 
 // The number that a text starts with.
-fn leading_number(text: &[u8]) -> KeyValue
+fn leading_number(text: &[u8]) -> Result<u64, KeyError>
     ensures { result ≡ of_digits (take_while digit text.now) }
 {
-    let run = decimal::digits_at(text, 0);
+    let run = digits_at(text, 0);
     if run.len == 0 {
-        return KeyValue::Refused(KeyError::NoDigit);
+        return Err(KeyError::NoDigit);
     }
-    let value = run.value;
-    match value {
-        Value::Is(n) => KeyValue::Is(n),
-        Value::TooLarge => KeyValue::Refused(KeyError::TooLarge),
-    }
+    run.value.ok_or(KeyError::TooLarge)
 }

@@ -1,5 +1,5 @@
 -- What 13 asks of a text, byte by byte and by pairs of `=`.
-use Prim.Native.Nat.{ℕ, ◌+◌, ◌<◌, ◌≤◌}
+use Prim.Native.Nat.{ℕ, ◌+◌, ◌<◌}
 use mathlib.Core.Path.{◌≡◌, refl, sym, ap, ◌∙◌}
 use mathlib.Core.List.{List, [], ◌∷◌, ◌++◌}
 use mathlib.Core.Bool.{Bool, true, false, ◌&&◌}
@@ -64,6 +64,3 @@ module _ (s : List ℕ) (i : ℕ) (h : i < length s) where
       by_bool (eqb (get_or s i 0) 61)
       (λ p. here ∙ allowed_equals (get_or s i 0) (drop (i + 1) s) p ∙ unpaired (sym (ap (λ (b : Bool). b && eqb (get_or s (i + 1) 0) 61) p) ∙ f))
       (λ p. here ∙ allowed_other (get_or s i 0) (drop (i + 1) s) p ∙ ap (λ (b : Bool). b && allowed (drop (i + 1) s)) e)
-
-pub none_left : (s : List ℕ) (i : ℕ) → length s ≤ i → allowed (drop i s) ≡ true
-none_left s i h = ap allowed (drop_of_length-le s h)

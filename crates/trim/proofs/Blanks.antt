@@ -1,21 +1,19 @@
 -- White_Space within a line: what stands before it and behind it is trimmed as if it were not there, and how much of it there is.
-use Prim.Native.Nat.{ℕ, suc, ◌+◌, ◌-◌, ◌<◌, ◌≤◌}
+use Prim.Native.Nat.{ℕ, suc, ◌+◌, ◌<◌, ◌≤◌}
 use mathlib.Core.Path.{◌≡◌, refl, sym, ap, ◌∙◌}
 use mathlib.Core.List.{List, [], ◌∷◌, ◌++◌, append_assoc, reverse, reverse-cons, reverse-append}
 use mathlib.Core.Bool.{true, false, not}
-use borrow.Author.Tests.{eq-eqb, ne_eqb}
+use borrow.Author.Tests.{eq-eqb}
 use native.Mathlib.Omega.{arith}
 use lib.Dec.{eqb}
 use lib.ListN.{length, get_or, drop, length-append, length-drop}
 use lib.Seq.{drop-drop}
 use Rattle.base.proofs.Tests.{false_true, and_left, and_right, by_bool}
-use Rattle.base.proofs.Bytes.{at1, at3}
 use Rattle.trim.specs.Trim.{white1, white2, white3, start_trimmed, back, end_trimmed}
-use Rattle.trim.specs.Code.Trims.{back2, back3, three_len}
-use Rattle.trim.specs.Code.Blank.{blank1, blanks_len, blanks1, blanks2, blanks_end, BlankAt}
+use Rattle.trim.specs.Code.Trims.{back2, back3}
+use Rattle.trim.specs.Code.Blank.{blank1, blanks_len, blanks1, blanks2, blanks_end}
 use Rattle.trim.proofs.White.{by_white3, not1, not2, not3}
 use Rattle.trim.proofs.Laws.{yes1, yes3}
-use Rattle.trim.proofs.Steps.{by_three}
 
 -- such characters, one after the other
 pub data Blank : List ℕ → Type 0 where
@@ -121,10 +119,7 @@ blanks s at h =
     }
 
 -- by the bytes that a text starts with
-pub blank_one : (a : ℕ) (t : List ℕ) → white1 a ≡ true → (a ≡ 10 → ⊥) → blanks_len (a ∷ t) ≡ suc (blanks_len t)
-blank_one a t e n = let b : blank1 a ≡ true = simp (e, ne_eqb a 10 n) in rw (b, blanks_len)
-
-pub at_feed : (a : ℕ) → a ≡ 10 → blank1 a ≡ false
+at_feed : (a : ℕ) → a ≡ 10 → blank1 a ≡ false
 at_feed a e = rw e refl
 
 on : (a : ℕ) (t : List ℕ) → blank1 a ≡ false → blanks_len (a ∷ t) ≡ blanks1 a t
@@ -136,14 +131,8 @@ wide_short a (b ∷ []) e h = on a (b ∷ []) e
 wide_short a (b ∷ c ∷ t) e h = absurd (omega arith)
 
 module _ (a b c : ℕ) (t : List ℕ) (e : blank1 a ≡ false) where
-  yes : white3 a b c ≡ true → blanks2 a b (c ∷ t) ≡ 3 + blanks_len t
-  yes f = rw (f, blanks2) (omega arith)
-
   no : white3 a b c ≡ false → blanks2 a b (c ∷ t) ≡ 0
   no f = rw (f, blanks2)
-
-  wide_yes : white3 a b c ≡ true → blanks_len (a ∷ b ∷ c ∷ t) ≡ 3 + blanks_len t
-  wide_yes f = on a (b ∷ c ∷ t) e ∙ yes f
 
   wide_no : white3 a b c ≡ false → blanks_len (a ∷ b ∷ c ∷ t) ≡ 0
   wide_no f = on a (b ∷ c ∷ t) e ∙ no f
@@ -153,26 +142,10 @@ no_blank a [] e h = wide_short a [] e (omega arith)
 no_blank a (b ∷ []) e h = wide_short a (b ∷ []) e (omega arith)
 no_blank a (b ∷ c ∷ t) e h = wide_no a b c t e (not3 a b c (λ p. omega arith))
 
--- what stands at a place
-module _ (s : List ℕ) (at : ℕ) where
-  pub none_here : blanks_len (drop at s) ≡ 0 → BlankAt s at 0
-  none_here e =
-      let z : at ≡ at + 0 = omega arith in
-      record { fits = omega arith; on = omega (arith, ap (λ (i : ℕ). blanks_len (drop i s)) z); none = λ _. e }
+pub blank_ascii : (t : List ℕ) → white1 (get_or t 0 0) ≡ false → get_or t 0 0 ≤ 0x7F → blanks_len t ≡ 0
+blank_ascii [] e h = refl
+blank_ascii (a ∷ t) e h = no_blank a t (simp e) h
 
-  pub some_here : (n : ℕ) → 0 < n → n ≤ length s - at → blanks_len (drop at s) ≡ n + blanks_len (drop (at + n) s) → BlankAt s at n
-  some_here n k h e = record { fits = h; on = e; none = λ z. absurd (omega arith) }
-
-  pub one_here : at < length s → white1 (get_or s at 0) ≡ true → (get_or s at 0 ≡ 10 → ⊥) → BlankAt s at 1
-  one_here h e n = some_here 1 (omega arith) (omega arith) (ap blanks_len (at1 s at h) ∙ blank_one (get_or s at 0) (drop (at + 1) s) e n ∙ omega arith)
-
-  pub three_here : (n : ℕ) → at < length s → 0x7F < get_or s at 0 → n ≡ three_len (drop at s) → BlankAt s at n
-  three_here n h k e =
-      let x = get_or s at 0 in
-      let y = get_or s (at + 1) 0 in
-      let z = get_or s (at + 2) 0 in
-      let b : blank1 x ≡ false = simp (not1 x k) in
-      by_three (BlankAt s at) s at n e
-      (λ l. none_here (ap blanks_len (at1 s at h) ∙ wide_short x (drop (at + 1) s) b (omega (arith, length-drop (at + 1) s))))
-      (λ l w. some_here 3 (omega arith) (omega arith) (ap blanks_len (at3 s at l) ∙ wide_yes x y z (drop (at + 3) s) b w))
-      (λ l w. none_here (ap blanks_len (at3 s at l) ∙ wide_no x y z (drop (at + 3) s) b w))
+pub blank_feed : (t : List ℕ) → get_or t 0 0 ≡ 10 → blanks_len t ≡ 0
+blank_feed [] e = refl
+blank_feed (a ∷ t) e = no_blank a t (at_feed a e) (omega arith)

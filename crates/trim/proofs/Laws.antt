@@ -44,6 +44,10 @@ module _ (two : ℕ → ℕ → Bool) (three : ℕ → ℕ → ℕ → Bool) whe
 pub start_stays : (a : ℕ) (t : List ℕ) → white1 a ≡ false → (a ≡ 0xC2 → ⊥) → (0xE1 ≤ a → a ≤ 0xE3 → ⊥) → start_trimmed (a ∷ t) ≡ a ∷ t
 start_stays a t e f g = no1 white2 white3 a t e (λ b. not2 a b (λ p. f p.0)) (λ b c. not3 a b c (λ p. g p.0 p.1))
 
+pub start_ascii : (t : List ℕ) → white1 (get_or t 0 0) ≡ false → get_or t 0 0 ≤ 0x7F → start_trimmed t ≡ t
+start_ascii [] e h = refl
+start_ascii (a ∷ t) e h = start_stays a t e (λ p. omega arith) (λ p q. omega arith)
+
 pub back_stays : (a : ℕ) (t : List ℕ) → white1 a ≡ false → (0x80 ≤ a → a ≤ 0xBF → ⊥) → back (a ∷ t) ≡ a ∷ t
 back_stays a t e f = no1 back2 back3 a t e (λ b. not2 b a (λ p. f p.1 p.2)) (λ b c. not3 c b a (λ p. f p.4 p.5))
 

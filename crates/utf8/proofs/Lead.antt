@@ -5,7 +5,7 @@ use mathlib.Core.List.{List, [], ◌∷◌}
 use mathlib.Core.Bool.{false, cond}
 use borrow.Author.Tests.{le-leb, lt-leb, ne_eqb}
 use native.Mathlib.Omega.{arith}
-use lib.ListN.{length}
+use lib.ListN.{length, get_or, drop}
 use Rattle.base.proofs.Tests.{below, above, choice}
 use Rattle.utf8.specs.Utf8.{utf8, after, after2, after3, utf8_1, utf8_2, utf8_3, utf8_4}
 
@@ -64,18 +64,25 @@ three_is a b c t g h = lead2 a b (c ∷ t) g ∙ after2_cons a b c t ∙ ap (con
 pub four_is : (a b c d : ℕ) (t : List ℕ) → 0xEF < a → utf8 (a ∷ b ∷ c ∷ d ∷ t) ≡ cond (utf8_4 a b c d) (utf8 t) false
 four_is a b c d t h = lead3 a b c (d ∷ t) h ∙ after3_cons a b c d t
 
+-- the same by the places of what stands behind the first byte
+pub two_at : (a : ℕ) (t : List ℕ) → 1 ≤ length t → 0x7F < a → a ≤ 0xDF → utf8 (a ∷ t) ≡ cond (utf8_2 a (get_or t 0 0)) (utf8 (drop 1 t)) false
+two_at a [] n g h = absurd (omega arith)
+two_at a (b ∷ t) n g h = two_is a b t g h
+
+pub three_at : (a : ℕ) (t : List ℕ) → 2 ≤ length t → 0xDF < a → a ≤ 0xEF → utf8 (a ∷ t) ≡ cond (utf8_3 a (get_or t 0 0) (get_or t 1 0)) (utf8 (drop 2 t)) false
+three_at a [] n g h = absurd (omega arith)
+three_at a (b ∷ []) n g h = absurd (omega arith)
+three_at a (b ∷ c ∷ t) n g h = three_is a b c t g h
+
+pub four_at : (a : ℕ) (t : List ℕ) → 3 ≤ length t → 0xEF < a → utf8 (a ∷ t) ≡ cond (utf8_4 a (get_or t 0 0) (get_or t 1 0) (get_or t 2 0)) (utf8 (drop 3 t)) false
+four_at a [] n h = absurd (omega arith)
+four_at a (b ∷ []) n h = absurd (omega arith)
+four_at a (b ∷ c ∷ []) n h = absurd (omega arith)
+four_at a (b ∷ c ∷ d ∷ t) n h = four_is a b c d t h
+
 -- a text that ends within its first character
-pub two_short : (a : ℕ) (t : List ℕ) → 0x7F < a → length t < 1 → utf8 (a ∷ t) ≡ false
-two_short a [] h n = lead a [] h
-two_short a (b ∷ t) h n = absurd (omega arith)
-
-pub three_short : (a : ℕ) (t : List ℕ) → 0xDF < a → length t < 2 → utf8 (a ∷ t) ≡ false
-three_short a [] h n = lead a [] (omega arith)
-three_short a (b ∷ []) h n = lead2 a b [] h
-three_short a (b ∷ c ∷ t) h n = absurd (omega arith)
-
-pub four_short : (a : ℕ) (t : List ℕ) → 0xEF < a → length t < 3 → utf8 (a ∷ t) ≡ false
-four_short a [] h n = lead a [] (omega arith)
-four_short a (b ∷ []) h n = lead2 a b [] (omega arith)
-four_short a (b ∷ c ∷ []) h n = lead3 a b c [] h
-four_short a (b ∷ c ∷ d ∷ t) h n = absurd (omega arith)
+pub four_short : (a : ℕ) (t : List ℕ) → length t < 3 → 0xEF < a → utf8 (a ∷ t) ≡ false
+four_short a [] n h = lead a [] (omega arith)
+four_short a (b ∷ []) n h = lead2 a b [] (omega arith)
+four_short a (b ∷ c ∷ []) n h = lead3 a b c [] h
+four_short a (b ∷ c ∷ d ∷ t) n h = absurd (omega arith)

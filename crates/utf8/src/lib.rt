@@ -1,18 +1,20 @@
 // Whether a text is UTF-8, by RFC 3629.
 #![tactic(auto)]
 
-ghost use Rattle.std.specs.Prelude.{◌≡◌, true, false, cond, ◌+◌, ◌≤◌, ◌<◌, length, get_or};
+ghost use Rattle.std.specs.Prelude.{◌≡◌, true, false, ◌+◌, ◌≤◌, ◌<◌, length, get_or};
+ghost use Rattle.base.specs.Lists.{all};
 ghost use Rattle.base.specs.Code.Skips.{SkipsTo, AllFrom};
-ghost use Rattle.utf8.specs.Utf8.{utf8, utf8_tail, utf8_2, utf8_3, utf8_4};
+ghost use Rattle.utf8.specs.Utf8.{utf8, utf8_1, utf8_tail, utf8_2, utf8_3, utf8_4};
 ghost use Rattle.utf8.specs.Code.From.{utf8_from, CharactersAt};
 ghost use Rattle.utf8.specs.Code.Windows.{opened, follows, Follow};
 
-use base::{both, either, in_range, pick};
+use base::{in_range, pick};
 
 pub fn is_utf8(s: &[u8]) -> bool
     ensures { result ≡ utf8 s.now }
 {
     let mut i: usize = 0;
+    // A step passes blocks or characters, so no iterator is plainer.
     while i < s.len() {
         let mut next = blocks(s, i);
         if next == i {
@@ -33,6 +35,7 @@ fn blocks(s: &[u8], at: usize) -> usize
     ensures { SkipsTo (utf8_from s.now) at (length s.now) result }
 {
     let mut i = at;
+    // A step passes 61 to 64 bytes, so no iterator is plainer.
     while i < s.len() {
         let n = block(s, i);
         if n == 0 {
@@ -52,37 +55,26 @@ fn block(s: &[u8], at: usize) -> usize
     if is_ascii(s, at, 64) {
         return 64;
     }
-    if at < 3 {
-        return 0;
-    }
-    if s.len() - at < 64 {
+    if at < 3 || s.len() - at < 64 {
         return 0;
     }
     let start = at - 3;
-    if is_open_at(s, start) {
-        return 0;
-    }
-    if !all_follow(s, start, 64) {
+    if is_open_at(s, start) || !all_follow(s, start, 64) {
         return 0;
     }
     let n = 64 - open_len(s[start + 64], s[start + 65], s[start + 66]);
-    if is_open_at(s, start + n) {
-        return 0;
-    }
-    n
+    if is_open_at(s, start + n) { 0 } else { n }
 }
 
-// Whether each of n bytes follows the three before it, of which the first stands at a position.
+// Whether each of n bytes follows the three before it, of which the first stands at a position. No branch: it compiles to vector code.
 fn all_follow(s: &[u8], at: usize, n: usize) -> bool
     requires { at + n + 3 ≤ length s.now }
     ensures { result ≡ true → Follow s.now at n }
 {
     let mut all = true;
-    let mut k: usize = 0;
-    while k < n {
+    for k in 0..n {
         let i = at + k;
-        all = both(all, does_follow(s[i], s[i + 1], s[i + 2], s[i + 3]));
-        k += 1;
+        all &= does_follow(s[i], s[i + 1], s[i + 2], s[i + 3]);
     }
     all
 }
@@ -92,14 +84,14 @@ fn does_follow(a: u8, b: u8, c: u8, d: u8) -> bool
 {
     let lo = pick(c == 0xE0, 0xA0, pick(c == 0xF0, 0x90, 0x80));
     let hi = pick(c == 0xED, 0x9F, pick(c == 0xF4, 0x8F, 0xBF));
-    let first = either(d <= 0x7F, in_range(0xC2, 0xF4, d));
-    choose(is_open(a, b, c), in_range(lo, hi, d), first)
+    let first = (d <= 0x7F) | in_range(0xC2, 0xF4, d);
+    pick(is_open(a, b, c), in_range(lo, hi, d), first)
 }
 
 fn is_open(a: u8, b: u8, c: u8) -> bool
     ensures { result ≡ opened a b c }
 {
-    either(either(0xC0 <= c, 0xE0 <= b), 0xF0 <= a)
+    (0xC0 <= c) | (0xE0 <= b) | (0xF0 <= a)
 }
 
 // Whether a character is not complete behind the three bytes at a position.
@@ -126,49 +118,28 @@ fn open_len(a: u8, b: u8, c: u8) -> usize
     0
 }
 
-fn choose(test: bool, yes: bool, no: bool) -> bool
-    ensures { result ≡ cond test yes no }
-{
-    if test { yes } else { no }
-}
-
 // Where the block of 64 bytes that starts at a position ends, or the text.
 fn block_end(s: &[u8], at: usize) -> usize
     requires { at < length s.now }
     ensures { (at < result) × (result ≤ length s.now) }
 {
-    if s.len() - at < 64 { s.len() } else { at + 64 }
+    s.len().min(at + 64)
 }
 
 // Whether n bytes follow that are all ASCII.
+#[tactic(auto, using(crate::proofs::Laws::ascii))]
 fn is_ascii(s: &[u8], at: usize, n: usize) -> bool
     requires { at < length s.now }
     ensures { result ≡ true → SkipsTo (utf8_from s.now) at (length s.now) (at + n) }
 {
-    if s.len() - at < n {
-        return false;
-    }
-    largest(s, at, n) <= 0x7F
+    n <= s.len() - at && all_ascii(&s[at..at + n])
 }
 
-// A bound of the n bytes from a position on: the largest of them.
-fn largest(s: &[u8], at: usize, n: usize) -> u8
-    requires { at + n ≤ length s.now }
-    ensures { AllFrom at n (λ i. get_or s.now i 0 ≤ result) }
+// No branch: 64 bytes compile to vector code, and eight to one test. std's `is_ascii` looks again at a block with another byte.
+fn all_ascii(s: &[u8]) -> bool
+    ensures { result ≡ all utf8_1 s.now }
 {
-    let mut most: u8 = 0;
-    let mut k: usize = 0;
-    while k < n {
-        most = larger(most, s[at + k]);
-        k += 1;
-    }
-    most
-}
-
-fn larger(a: u8, b: u8) -> u8
-    ensures { (a ≤ result) × (b ≤ result) }
-{
-    if a < b { b } else { a }
+    s.iter().fold(true, |all, a| all & (*a <= 0x7F))
 }
 
 // Passes characters up to end or over it, and stops before end only where none stands.
@@ -178,6 +149,7 @@ fn characters(s: &[u8], at: usize, end: usize) -> usize
         × (result < end → utf8_from s.now result ≡ false) }
 {
     let mut i = at;
+    // A step passes 1 to 8 bytes, so no iterator is plainer.
     while i < end {
         let n = step(s, i);
         if n == 0 {
@@ -196,57 +168,14 @@ fn step(s: &[u8], at: usize) -> usize
 {
     let a = s[at];
     if a <= 0x7F {
-        if is_ascii(s, at, 8) {
-            return 8;
-        }
-        return 1;
+        return if is_ascii(s, at, 8) { 8 } else { 1 };
     }
-    if a <= 0xDF {
-        return step2(s, at);
+    match &s[at + 1..] {
+        [b, ..] if a <= 0xDF => if is_two(a, *b) { 2 } else { 0 },
+        [b, c, ..] if a <= 0xEF => if is_three(a, *b, *c) { 3 } else { 0 },
+        [b, c, d, ..] if is_four(a, *b, *c, *d) => 4,
+        _ => 0,
     }
-    if a <= 0xEF {
-        return step3(s, at);
-    }
-    step4(s, at)
-}
-
-fn step2(s: &[u8], at: usize) -> usize
-    requires { (at < length s.now) × ((0x7F < get_or s.now at 0) × (get_or s.now at 0 ≤ 0xDF)) }
-    ensures { CharactersAt s.now at result }
-{
-    if s.len() - at < 2 {
-        return 0;
-    }
-    if is_two(s[at], s[at + 1]) {
-        return 2;
-    }
-    0
-}
-
-fn step3(s: &[u8], at: usize) -> usize
-    requires { (at < length s.now) × ((0xDF < get_or s.now at 0) × (get_or s.now at 0 ≤ 0xEF)) }
-    ensures { CharactersAt s.now at result }
-{
-    if s.len() - at < 3 {
-        return 0;
-    }
-    if is_three(s[at], s[at + 1], s[at + 2]) {
-        return 3;
-    }
-    0
-}
-
-fn step4(s: &[u8], at: usize) -> usize
-    requires { (at < length s.now) × (0xEF < get_or s.now at 0) }
-    ensures { CharactersAt s.now at result }
-{
-    if s.len() - at < 4 {
-        return 0;
-    }
-    if is_four(s[at], s[at + 1], s[at + 2], s[at + 3]) {
-        return 4;
-    }
-    0
 }
 
 fn is_tail(a: u8) -> bool
@@ -258,26 +187,23 @@ fn is_tail(a: u8) -> bool
 fn is_two(a: u8, b: u8) -> bool
     ensures { result ≡ utf8_2 a b }
 {
-    both(in_range(0xC2, 0xDF, a), is_tail(b))
+    in_range(0xC2, 0xDF, a) & is_tail(b)
 }
 
 // Of the first bytes of three-byte characters E0 and ED alone narrow the second byte.
 fn is_three(a: u8, b: u8, c: u8) -> bool
-    requires { (0xDF < a) × (a ≤ 0xEF) }
     ensures { result ≡ utf8_3 a b c }
 {
     let lo = pick(a == 0xE0, 0xA0, 0x80);
     let hi = pick(a == 0xED, 0x9F, 0xBF);
-    both(in_range(lo, hi, b), is_tail(c))
+    in_range(0xE0, 0xEF, a) & in_range(lo, hi, b) & is_tail(c)
 }
 
 // Of the first bytes of four-byte characters F0 and F4 narrow the range of the second.
 fn is_four(a: u8, b: u8, c: u8, d: u8) -> bool
-    requires { 0xEF < a }
     ensures { result ≡ utf8_4 a b c d }
 {
     let lo = pick(a == 0xF0, 0x90, 0x80);
     let hi = pick(a == 0xF4, 0x8F, 0xBF);
-    let tails = both(is_tail(c), is_tail(d));
-    both(a <= 0xF4, both(in_range(lo, hi, b), tails))
+    in_range(0xF0, 0xF4, a) & in_range(lo, hi, b) & is_tail(c) & is_tail(d)
 }

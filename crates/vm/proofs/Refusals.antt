@@ -1,4 +1,6 @@
 -- Which numbers the tests give, and which a run.
+use Rattle.std.specs.Prelude.{Result, Ok, Err}
+use Rattle.context.specs.declared.ContextError.{ContextError}
 use Prim.Native.Nat.{ℕ, ◌≤◌, ◌<◌}
 use native.Mathlib.Omega.{arith}
 use mathlib.Core.Path.{◌≡◌, ap}
@@ -9,14 +11,10 @@ use lib.Dec.{ltb, leb, eqb}
 use Rattle.base.specs.Need.{need}
 use Rattle.kinds.specs.Kinds.{operation}
 use Rattle.context.specs.declared.ContextError.TheVariants.{InvalidChainId, InvalidNetworkId, InvalidGenesisId, ProtocolMismatch, VmMismatch, GenesisMismatch}
-use Rattle.context.specs.declared.Gate.{Gate}
-use Rattle.context.specs.declared.Gate.TheVariants as gate
 use Rattle.machine.specs.Machine.{Fault, out_of_gas, stack_underflow, stack_limit_exceeded, division_by_zero, storage_limit_exceeded, outside_storage}
 use Rattle.machine.proofs.Faults.{Short}
 use Rattle.checks.specs.declared.VmError.{VmError}
 use Rattle.checks.specs.declared.VmError.TheVariants.{BufferLengths, EmptyProgram, ProgramTooLarge, StorageTooLarge, UnknownKind, JumpOutOfRange, OutOfGas, StackUnderflow, StackLimitExceeded, DivisionByZero, StorageLimitExceeded, OutsideStorage}
-use Rattle.checks.specs.declared.Check.{Check}
-use Rattle.checks.specs.declared.Check.TheVariants as check
 use Rattle.checks.specs.Verify.{then_check, buffers_fit, gate_check, target_fits, operation_check, operations_check, verify_of}
 use Rattle.perform.specs.Call.{Call}
 use Rattle.perform.specs.Run.{refusal_of}
@@ -24,26 +22,26 @@ use Rattle.vm.specs.Transition.{lengths_check, checks_of}
 use Rattle.vm.specs.Refusals.{refusal_number}
 
 -- a test refuses with 34 to 45
-abbrev pub Tested : Check → Type 0
-Tested check.Passed = Unit {0}
-Tested (check.Refused f) = (34 ≤ refusal_number f) × (refusal_number f ≤ 45)
+abbrev pub Tested : Result (Unit {0}) VmError → Type 0
+Tested (Ok tt) = Unit {0}
+Tested (Err f) = (34 ≤ refusal_number f) × (refusal_number f ≤ 45)
 
-need_tested : (b : Bool) (f : VmError) (c : Check) → Tested (check.Refused f) → Tested c → Tested (need b (check.Refused f) c)
+need_tested : (b : Bool) (f : VmError) (c : Result (Unit {0}) VmError) → Tested (Err f) → Tested c → Tested (need b (Err f) c)
 need_tested true f c p q = q
 need_tested false f c p q = p
 
-then_tested : (c d : Check) → Tested c → Tested d → Tested (then_check c d)
-then_tested check.Passed d p q = q
-then_tested (check.Refused f) d p q = p
+then_tested : (c d : Result (Unit {0}) VmError) → Tested c → Tested d → Tested (then_check c d)
+then_tested (Ok tt) d p q = q
+then_tested (Err f) d p q = p
 
-pub gate_tested : (g : Gate) → Tested (gate_check g)
-gate_tested gate.Passed = tt
-gate_tested (gate.Refused InvalidChainId) = omega arith
-gate_tested (gate.Refused InvalidNetworkId) = omega arith
-gate_tested (gate.Refused InvalidGenesisId) = omega arith
-gate_tested (gate.Refused ProtocolMismatch) = omega arith
-gate_tested (gate.Refused VmMismatch) = omega arith
-gate_tested (gate.Refused GenesisMismatch) = omega arith
+pub gate_tested : (g : Result (Unit {0}) ContextError) → Tested (gate_check g)
+gate_tested (Ok tt) = tt
+gate_tested (Err InvalidChainId) = omega arith
+gate_tested (Err InvalidNetworkId) = omega arith
+gate_tested (Err InvalidGenesisId) = omega arith
+gate_tested (Err ProtocolMismatch) = omega arith
+gate_tested (Err VmMismatch) = omega arith
+gate_tested (Err GenesisMismatch) = omega arith
 
 operations_tested : (n : ℕ) (ks vs : List ℕ) → Tested (operations_check n ks vs)
 unfolding operations_check
@@ -51,7 +49,7 @@ operations_tested n [] vs = tt
 operations_tested n (k ∷ ks) [] = tt
 operations_tested n (k ∷ ks) (v ∷ vs) =
     then_tested (operation_check n (operation k v)) (operations_check n ks vs)
-    (need_tested (leb k 15) UnknownKind _ (omega arith) (need_tested (target_fits n (operation k v)) JumpOutOfRange check.Passed (omega arith) tt))
+    (need_tested (leb k 15) UnknownKind _ (omega arith) (need_tested (target_fits n (operation k v)) JumpOutOfRange (Ok tt) (omega arith) tt))
     (operations_tested n ks vs)
 
 verify_tested : (ks vs : List ℕ) (used : ℕ) → Tested (verify_of ks vs used)
@@ -62,10 +60,10 @@ verify_tested ks vs used =
     (need_tested (leb used 65536) (StorageTooLarge used) _ (omega arith)
     (operations_tested (length ks) ks vs))))
 
-pub checks_tested : (before behind : Check) (x : Call) → Tested before → Tested behind → Tested (checks_of before behind x)
+pub checks_tested : (before behind : Result (Unit {0}) VmError) (x : Call) → Tested before → Tested behind → Tested (checks_of before behind x)
 checks_tested before behind x p q =
     then_tested (lengths_check x) _
-    (need_tested (buffers_fit (length x.kinds) (length x.operands) (length x.stack) (length x.work) (length x.storage) x.state.used) BufferLengths check.Passed (omega arith) tt)
+    (need_tested (buffers_fit (length x.kinds) (length x.operands) (length x.stack) (length x.work) (length x.storage) x.state.used) BufferLengths (Ok tt) (omega arith) tt)
     (then_tested before _ p (then_tested (verify_of x.kinds x.operands x.state.used) behind (verify_tested x.kinds x.operands x.state.used) q))
 
 -- a run refuses with 46 to 51

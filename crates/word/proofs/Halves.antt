@@ -1,10 +1,6 @@
 -- Products of numbers that are cut into halves of 32 bits.
-use Rattle.std.proofs.Common.{◌≡◌, ℕ, ◌+◌, ◌*◌, ◌/◌, ◌%◌, ◌^◌, ◌<◌, sym, ◌∙◌, ap₂, lt_of_le_of_lt, le_of_lt, mul_assoc, add-mul, mul-le-mul_left, mul-lt-mul_of_pos_right, mul-add, mul_right_comm, arith, lit<}
+use Rattle.std.proofs.Common.{◌≡◌, ℕ, ◌+◌, ◌*◌, ◌/◌, ◌%◌, ◌^◌, sym, ◌∙◌, ap₂, mul_assoc, add-mul, mul-add, mul_right_comm, arith}
 use native.Mathlib.Nat.{mul-mul-mul_comm}
-
--- a product of two halves fits a word
-pub fits : {a b : ℕ} → a < 2 ^ 32 → b < 2 ^ 32 → a * b < 2 ^ 64
-fits {a} {b} p q = lt_of_le_of_lt (mul-le-mul_left a (le_of_lt q)) (mul-lt-mul_of_pos_right p (lit< tt))
 
 -- a product by its halves
 columns : (h l k m c : ℕ) → (h * c + l) * (k * c + m) ≡ h * k * (c * c) + (h * m * c + l * k * c) + l * m

@@ -5,9 +5,6 @@ use mathlib.Core.List.{List, [], ◌∷◌, ◌++◌}
 use native.Mathlib.Omega.{arith}
 use lib.ListN.{length, length-append}
 use Rattle.decimal.specs.Decimal.{decimal}
-use Rattle.kinds.specs.Kinds.{operation}
-use Rattle.kinds.proofs.ByKind.{no_kind}
-use Rattle.mnemonic.specs.Written.{written}
 use Rattle.writer.specs.Code.Overwrites.{Overwrites}
 use Rattle.writer.proofs.Pieces.{overwrites_length, overwrites_then}
 
@@ -22,12 +19,5 @@ module _ (n : ℕ) {word out a : List ℕ} {at i : ℕ} (w : Overwrites out at w
   number_fits = omega (arith, line_length word n, w.next, overwrites_length w word_fits)
 
   module _ {b : List ℕ} {j : ℕ} (d : Overwrites a i (decimal n) b j) where
-    pub feed_fits : j + 1 ≤ length b
-    feed_fits = omega (arith, line_length word n, w.next, d.next, overwrites_length w word_fits, overwrites_length d number_fits)
-
     pub line_whole : {after : List ℕ} {r : ℕ} → Overwrites b j (10 ∷ []) after r → Overwrites out at (word ++ decimal n ++ 10 ∷ []) after r
     line_whole f = overwrites_then (overwrites_then w word_fits d) (omega (arith, line_length word n, length-append word (decimal n))) f
-
--- a kind above 15 has no word
-pub no_word : (k v : ℕ) → 16 ≤ k → written (operation k v) ≡ 10 ∷ []
-no_word k v h = rw (no_kind k h)

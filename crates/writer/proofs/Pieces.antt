@@ -9,11 +9,6 @@ use lib.ListN.{length, get_or, take, set, length-append}
 use lib.Seq.{slice, length-take-le, get_or-take, take_all, take-suc}
 use Rattle.base.specs.Overwrite.{overwrite}
 use Rattle.base.proofs.Overwrite.{overwrite_none, overwrite_one, overwrite-length, overwrite-before, overwrite_slice, overwrite_there, overwrite_then}
-use Rattle.decimal.specs.Decimal.{decimal}
-use Rattle.decimal.specs.Code.Digits.{written_at, buffer_after}
-use Rattle.decimal.specs.declared.Written.{Written}
-use Rattle.decimal.specs.declared.Written.TheVariants.{To, NoRoom}
-use Rattle.decimal.proofs.Buffer.{room}
 use Rattle.writer.specs.Code.Overwrites.{Overwrites}
 
 pub overwrites_none : (out : List ℕ) (at : ℕ) → Overwrites out at [] out at
@@ -75,11 +70,3 @@ module _ {out₀ : List ℕ} {at : ℕ} {bytes out : List ℕ} {j : ℕ} (f : Fi
   fill_all l =
       let t : take j bytes ≡ bytes = take_all j bytes l in
       rw t at f.put
-
--- a number that has room
-module _ (n at : ℕ) (out after : List ℕ) (w : Written) (h : at + length (decimal n) ≤ length out) (e : w ≡ written_at n at (length out)) (q : after ≡ buffer_after n at out) where
-  pub decimal_put : (end : ℕ) → w ≡ To end → Overwrites out at (decimal n) after end
-  decimal_put end t = let r = room n at out h in let z : To end ≡ To (at + length (decimal n)) = sym t ∙ e ∙ sym r.0 in record { is = q ∙ sym r.1; next = cc }
-
-  pub decimal_room : w ≡ NoRoom → ⊥
-  decimal_room t = let r = room n at out h in let x : NoRoom ≡ To (at + length (decimal n)) = sym t ∙ e ∙ sym r.0 in let z : ◌≡◌ {A = ℕ} 0 1 = cc in omega arith

@@ -7,30 +7,22 @@ ghost use Rattle.kinds.specs.Kinds.{operation};
 ghost use Rattle.mnemonic.specs.Written.{written};
 ghost use Rattle.writer.specs.Code.Overwrites.{Overwrites};
 
-use decimal::{Written, decimal_len, write_decimal};
+use decimal::{decimal_len, write_decimal};
 
 pub fn put_bytes(out: &mut [u8], at: usize, bytes: &[u8]) -> usize
     requires { at + length bytes.now ≤ length out.old }
     ensures { Overwrites out.old at bytes.now out.new result }
 {
-    let n = bytes.len();
-    let mut j: usize = 0;
-    while j < n {
-        out[at + j] = bytes[j];
-        j += 1;
-    }
-    at + n
+    let end = at + bytes.len();
+    out[at..end].copy_from_slice(bytes);
+    end
 }
 
 pub fn put_decimal(out: &mut [u8], at: usize, n: u64) -> usize
     requires { at + length (decimal n) ≤ length out.old }
     ensures { Overwrites out.old at (decimal n) out.new result }
 {
-    let written = write_decimal(n, out, at);
-    match written {
-        Written::To(end) => end,
-        Written::NoRoom => at,
-    }
+    write_decimal(n, out, at).unwrap_or(at)
 }
 
 // The line `Push n`.
@@ -38,12 +30,10 @@ pub fn put_push(out: &mut [u8], at: usize, n: u64) -> usize
     requires { at + length (written (operation 0 n)) ≤ length out.old }
     ensures { Overwrites out.old at (written (operation 0 n)) out.new result }
 {
-    let number = put_bytes(out, at, b"Push ");
-    let end = put_decimal(out, number, n);
-    put_bytes(out, end, b"\n")
+    put_with(out, at, b"Push ", n)
 }
 
-// The line of an operation as the assembler writes it. A kind above 15 has no word.
+// The line of an operation as the assembler writes it, its kind being the byte that C's buffer holds. One above 15 has no word.
 pub fn put_operation(out: &mut [u8], at: usize, kind: u8, operand: u64) -> usize
     requires { at + length (written (operation kind operand)) ≤ length out.old }
     ensures { Overwrites out.old at (written (operation kind operand)) out.new result }
@@ -56,11 +46,21 @@ pub fn put_operation(out: &mut [u8], at: usize, kind: u8, operand: u64) -> usize
         4 => put_bytes(out, at, b"Div\n"),
         5 => put_bytes(out, at, b"Dup\n"),
         6 => put_bytes(out, at, b"Swap\n"),
-        _ => put_from_seven(out, at, kind, operand),
+        7 => put_with(out, at, b"Jump ", operand),
+        8 => put_with(out, at, b"JumpIfNotZero ", operand),
+        9 => put_bytes(out, at, b"Eq\n"),
+        10 => put_bytes(out, at, b"Lt\n"),
+        11 => put_with(out, at, b"Load ", operand),
+        12 => put_with(out, at, b"Store ", operand),
+        13 => put_bytes(out, at, b"Caller\n"),
+        14 => put_with(out, at, b"JumpIfZero ", operand),
+        15 => put_bytes(out, at, b"Halt\n"),
+        _ => put_bytes(out, at, b"\n"),
     }
 }
 
 // How long that line is: the word and a line feed, and where an operand follows, a space and its digits.
+#[tactic(auto, using(decimal::proofs::Laws::length_word))]
 pub fn operation_len(kind: u8, operand: u64) -> usize
     ensures { result ≡ length (written (operation kind operand)) }
 {
@@ -74,35 +74,6 @@ pub fn operation_len(kind: u8, operand: u64) -> usize
         9 | 10 => 3,
         13 => 7,
         _ => 1,
-    }
-}
-
-// The kinds from 7 on.
-fn put_from_seven(out: &mut [u8], at: usize, kind: u8, operand: u64) -> usize
-    requires { (7 ≤ kind) × (at + length (written (operation kind operand)) ≤ length out.old) }
-    ensures { Overwrites out.old at (written (operation kind operand)) out.new result }
-{
-    match kind {
-        7 => put_with(out, at, b"Jump ", operand),
-        8 => put_with(out, at, b"JumpIfNotZero ", operand),
-        9 => put_bytes(out, at, b"Eq\n"),
-        10 => put_bytes(out, at, b"Lt\n"),
-        11 => put_with(out, at, b"Load ", operand),
-        _ => put_from_twelve(out, at, kind, operand),
-    }
-}
-
-// The kinds from 12 on.
-fn put_from_twelve(out: &mut [u8], at: usize, kind: u8, operand: u64) -> usize
-    requires { (12 ≤ kind) × (at + length (written (operation kind operand)) ≤ length out.old) }
-    ensures { Overwrites out.old at (written (operation kind operand)) out.new result }
-{
-    match kind {
-        12 => put_with(out, at, b"Store ", operand),
-        13 => put_bytes(out, at, b"Caller\n"),
-        14 => put_with(out, at, b"JumpIfZero ", operand),
-        15 => put_bytes(out, at, b"Halt\n"),
-        _ => put_bytes(out, at, b"\n"),
     }
 }
 

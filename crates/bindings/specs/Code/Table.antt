@@ -1,11 +1,9 @@
 -- How a table of bindings holds an environment.
+use Rattle.std.specs.Prelude.{Option, Some, None}
 use Rattle.std.specs.Prelude.{ℕ, zero, suc, ◌+◌, ◌-◌, ◌*◌, ◌%◌, ◌≤◌, min, ◌≡◌, List, [], ◌∷◌, Bool, true, false, not, cond, ◌&&◌, ◌||◌, eqb, leb, ltb, length, get_or, take, drop}
-use Rattle.std.proofs.Math.Option.{Option, some, none}
 use Rattle.base.specs.Equal.{equal}
 use Rattle.bindings.specs.declared.Bindings.{Bindings}
 use Rattle.bindings.specs.declared.Values.{Values}
-use Rattle.bindings.specs.declared.names.BoundName.{BoundName}
-use Rattle.bindings.specs.declared.names.BoundName.TheVariants.{At, Nothing}
 use Rattle.grammar.specs.Tree.{value_of, k_of, p_of}
 use Rattle.grammar.specs.Code.Lengths.{len_of}
 use Rattle.grammar.specs.Parse.{Binding, Env}
@@ -36,8 +34,8 @@ abbrev pub columns : Bindings → Values → Columns
 columns b v = columns_of b.count b.name_start b.name_len v.tag b.k b.p v.value v.none v.len
 
 abbrev pub value_unless_none : Bool → ℕ → Option ℕ
-value_unless_none true n = none
-value_unless_none false n = some n
+value_unless_none true n = None
+value_unless_none false n = Some n
 
 -- what is told of one binding: where its name starts, its length and its tag, k, p, value, whether that is none, the length of its text
 pub record Entry : Type 0 where
@@ -84,9 +82,9 @@ abbrev pub has_name : List ℕ → List ℕ → List ℕ → List ℕ → ℕ �
 has_name s names lens tags i w = eqb (get_or tags i 0) (tag_of w) && (leb (get_or names i 0 + get_or lens i 0) (length s) && equal w (take (get_or lens i 0) (drop (get_or names i 0) s)))
 
 -- the newest of the first n bindings that has the name w
-unfoldable pub found : ℕ → List ℕ → List ℕ → List ℕ → List ℕ → List ℕ → BoundName
-found zero s names lens tags w = Nothing
-found (suc n) s names lens tags w = elim (has_name s names lens tags n w) [ true ↦ At n | false ↦ found n s names lens tags w ]
+unfoldable pub found : ℕ → List ℕ → List ℕ → List ℕ → List ℕ → List ℕ → Option ℕ
+found zero s names lens tags w = None
+found (suc n) s names lens tags w = elim (has_name s names lens tags n w) [ true ↦ Some n | false ↦ found n s names lens tags w ]
 
 -- whether one of the n bindings from a place on has a tag
 unfoldable pub has_tag : List ℕ → ℕ → ℕ → ℕ → Bool

@@ -1,7 +1,7 @@
--- The verifier's look at the operations from an offset on.
-use Rattle.std.specs.Prelude.{ℕ, List, length, drop}
-use Rattle.checks.specs.declared.Check.{Check}
-use Rattle.checks.specs.Verify.{operations_check}
+-- The verifier's test of one operation, as the tests of a block join it.
+use Rattle.std.specs.Prelude.{ℕ, Bool, not, ◌&&◌, leb}
+use Rattle.kinds.specs.Kinds.{Operation}
+use Rattle.checks.specs.Verify.{target_fits}
 
-abbrev pub check_from : List ℕ → List ℕ → ℕ → Check
-check_from ks vs at = operations_check (length ks) (drop at ks) (drop at vs)
+abbrev pub is_bad : ℕ → Operation → Bool
+is_bad n o = not (leb o.kind 15 && target_fits n o)

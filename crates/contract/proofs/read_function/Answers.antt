@@ -1,21 +1,39 @@
--- `contract::read_function` meets its contract: by whether the vector has the expected value.
+-- `contract::read_function` meets its contract: the expected value, the parameters, the body, the last return.
 -- Assumes nothing.
-use Prim.Native.Nat.{ℕ}
-use mathlib.Core.Path.{sym, ap, subst, ◌∙◌}
-use Rattle.numbered.specs.declared.Numbered.{Numbered}
-use Rattle.base.specs.Outcome.{Outcome, and_then}
-use Rattle.grammar.specs.Tree.{Tree}
-use Rattle.scope.specs.Code.Held.{keyed_as}
-use Rattle.contract.specs.Assembled.{body_read}
-use Rattle.contract.specs.Code.Concluded.{Concludes, concluded}
-use Rattle.contract.proofs.Conclusion.{concludes_off}
+use mathlib.Core.Path.{sym, ◌∙◌}
+use Rattle.std.proofs.lemmas.Result.{err_from_is_err_and}
+use Rattle.contract.proofs.Conclusion.{params_within, body_within, number_on, params_off, params_represented, body_off, reached, last_off, last_on, concludes_off}
 use Rattle.contract.proofs.read_function.Goals as goal
 
-pub read_parameters_and_body-requires : goal.read_parameters_and_body-requires
-read_parameters_and_body-requires c = c.requires
+pub bind_parameters-requires : goal.bind_parameters-requires
+bind_parameters-requires c = let a = c.args in params_within a.contract.now a.vector.now a.places c.requires
 
-pub returns-in-Refused : goal.returns-in-Refused
-returns-in-Refused c = let a = c in let s = a.args.contract.now in let v = a.args.vector.now in let p = a.args.places in concludes_off c.rejected.ensures (ap (λ (k : Outcome Numbered ℕ). and_then k (λ expected. concluded expected (body_read s v p))) (sym (sym (ap keyed_as c.in-Refused.is) ∙ c.number_for-number.ensures)))
+pub returns-in_err-bind_parameters : goal.returns-in_err-bind_parameters
+returns-in_err-bind_parameters c =
+    let a = c.args in
+    let p = err_from_is_err_and c.from_residual-in_err-bind_parameters.result c.from_residual-in_err-bind_parameters.ensures.1 in
+    rw (p.1, p.2) (concludes_off a.contract.now a.vector.now a.places c.requires _ (number_on a.contract.now a.vector.now a.places c.requires c.number_for.ensures c.in_ok-expected.was) (params_off a.contract.now a.vector.now a.places c.requires c.started-state.ensures c.bind_parameters.ensures c.in_err-bind_parameters.was))
 
-pub returns-in-Is : goal.returns-in-Is
-returns-in-Is c = let a = c in let s = a.args.contract.now in let v = a.args.vector.now in let p = a.args.places in subst (λ (o : Outcome Numbered (ℕ × Tree)). Concludes s v o c.conclude.result) (ap (λ (k : Outcome Numbered ℕ). and_then k (λ expected. concluded expected (body_read s v p))) (sym (ap keyed_as c.in-Is.is) ∙ c.number_for-number.ensures)) (c.conclude.ensures.is s v p a.requires.found c.read_parameters_and_body.ensures.0 c.read_parameters_and_body.ensures.1)
+pub read_body-requires : goal.read_body-requires
+read_body-requires c =
+    let a = c.args in
+    (body_within a.contract.now a.vector.now a.places c.requires, params_represented a.contract.now a.vector.now a.places c.requires c.started-state.ensures c.bind_parameters.ensures c.in_ok-bind_parameters.was)
+
+pub returns-in_err-read_body : goal.returns-in_err-read_body
+returns-in_err-read_body c =
+    let a = c.args in
+    let p = err_from_is_err_and c.from_residual-in_err-read_body.result c.from_residual-in_err-read_body.ensures.1 in
+    rw (p.1, p.2) (concludes_off a.contract.now a.vector.now a.places c.requires _ (number_on a.contract.now a.vector.now a.places c.requires c.number_for.ensures c.in_ok-expected.was) (body_off a.contract.now a.vector.now a.places c.requires c.started-state.ensures c.bind_parameters.ensures c.in_ok-bind_parameters.was c.read_body.ensures.0 c.in_err-read_body.was))
+
+pub returns-in_err-returned : goal.returns-in_err-returned
+returns-in_err-returned c =
+    let a = c.args in
+    let q = reached a.contract.now a.vector.now a.places c.requires c.started-state.ensures c.bind_parameters.ensures c.in_ok-bind_parameters.was c.read_body.ensures.0 c.read_body.ensures.1 c.in_ok-read_body.was in
+    let p = err_from_is_err_and c.from_residual-in_err-returned.result c.from_residual-in_err-returned.ensures.1 in
+    rw (p.1, p.2) (last_off q _ (number_on a.contract.now a.vector.now a.places c.requires c.number_for.ensures c.in_ok-expected.was) (sym c.judged.ensures ∙ c.in_err-returned.was))
+
+pub returns : goal.returns
+returns c =
+    let a = c.args in
+    let q = reached a.contract.now a.vector.now a.places c.requires c.started-state.ensures c.bind_parameters.ensures c.in_ok-bind_parameters.was c.read_body.ensures.0 c.read_body.ensures.1 c.in_ok-read_body.was in
+    last_on q _ (number_on a.contract.now a.vector.now a.places c.requires c.number_for.ensures c.in_ok-expected.was) (sym c.judged.ensures ∙ c.in_ok-returned.was)

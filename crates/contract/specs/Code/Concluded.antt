@@ -1,62 +1,64 @@
 -- What the code's answer says: the tree that is accepted, or the refusal.
-use Rattle.std.specs.Prelude.{ℕ, ◌≤◌, ◌≡◌, List, length}
-use Rattle.std.proofs.Math.Option.{some}
+use Rattle.std.specs.Prelude.{ℕ, ◌≤◌, ◌≡◌, List, Option, Some, None, Result, Ok, Err, cond, eqb, length}
 use Rattle.source.specs.declared.function.Places.{Places}
-use Rattle.source.specs.declared.function.Function.TheVariants.{Found}
 use Rattle.source.specs.Function.{function_of}
 use Rattle.grammar.specs.Tree.{Tree}
 use Rattle.numbered.specs.declared.Numbered.{Numbered}
 use Rattle.base.specs.Outcome.{Outcome, is, refused, and_then}
 use Rattle.contract.specs.declared.CheckedContract.{CheckedContract}
 use Rattle.scope.specs.declared.refusal.AssembleError.{AssembleError}
-use Rattle.scope.specs.declared.state.Status.{Status}
-use Rattle.scope.specs.declared.state.Status.TheVariants.{Going, Refused}
+use Rattle.scope.specs.declared.refusal.AssembleError.TheVariants.{NoReturn, NoValue, NotExpected}
+use Rattle.scope.specs.declared.state.Returned.{Returned}
 use Rattle.scope.specs.declared.state.TableState as Code
 use Rattle.scope.specs.Scope.{Scope}
 use Rattle.scope.specs.Numbers.{assemble_error_numbered}
-use Rattle.scope.specs.Code.Stored.{refused_as, nothing_yet}
-use Rattle.body.specs.Code.LastReturn.{last_return, place_of, Standing}
-use Rattle.scope.specs.Code.Held.{LastIs, Represents, Simulates}
+use Rattle.body.specs.Code.LastReturn.{last_return, place_of}
+use Rattle.scope.specs.Code.Held.{ReturnIs, Represents}
 use Rattle.contract.specs.Assembled.{body_read, returned}
 
 -- the contract's body was read, and a is what it has come to
 pub record BodyReached (s vector : List ℕ) (a : Code.TableState) : Type 0 where
   pub places : Places
-  pub found : function_of s ≡ Found places
+  pub found : function_of s ≡ Ok places
   pub st : Scope
   pub read : body_read s vector places ≡ is st
   pub represents : Represents s a st
   pub place : place_of a.last ≡ last_return s places
 
--- the state's last return means the tree t, which is accepted
+-- the bindings and the last return that are accepted, as the state that they come from
+abbrev pub state_of : CheckedContract → Code.TableState
+state_of r = record { table = r.table; values = r.values; last = Some r.returned }
+
+-- the last return means the tree t, which is accepted
 pub record Accepts (s vector : List ℕ) (o : Outcome Numbered (ℕ × Tree)) (r : CheckedContract) : Type 0 where
-  pub reached : BodyReached s vector r.state
+  pub reached : BodyReached s vector (state_of r)
   pub t : Tree
-  pub last : reached.st.last ≡ some t
-  pub returned : LastIs s r.state.table r.state.values r.state.last (some t)
+  pub last : reached.st.last ≡ Some t
+  pub returned : ReturnIs s r.table r.values r.returned t
   pub accepts : o ≡ is (r.expected, t)
 
--- an assembly that is refused
-abbrev pub rejected_for : AssembleError → CheckedContract
-rejected_for why = record { state = refused_as nothing_yet why; expected = 0 }
+abbrev pub ConcludesBy : List ℕ → List ℕ → Outcome Numbered (ℕ × Tree) → Result CheckedContract AssembleError → Type 0
+ConcludesBy s vector o (Ok r) = Accepts s vector o r
+ConcludesBy s vector o (Err why) = o ≡ refused (assemble_error_numbered why)
 
-abbrev pub ConcludesBy : Status → List ℕ → List ℕ → Outcome Numbered (ℕ × Tree) → CheckedContract → Type 0
-ConcludesBy Going s vector o r = Accepts s vector o r
-ConcludesBy (Refused why) s vector o r = (o ≡ refused (assemble_error_numbered why)) × (r ≡ rejected_for why)
-
--- the answer r says o of the contract s and its vector: its state holds the tree that is accepted, or the refusal
-pub record Concludes (s vector : List ℕ) (o : Outcome Numbered (ℕ × Tree)) (r : CheckedContract) : Type 0 where
-  pub by : ConcludesBy r.state.status s vector o r
+-- the answer x says o of the contract s and its vector: it holds the tree that is accepted, or the refusal
+pub record Concludes (s vector : List ℕ) (o : Outcome Numbered (ℕ × Tree)) (x : Result CheckedContract AssembleError) : Type 0 where
+  pub by : ConcludesBy s vector o x
 
 -- what the body's last return makes of it
 abbrev pub concluded : ℕ → Outcome Numbered Scope → Outcome Numbered (ℕ × Tree)
 concluded expected o = and_then o (λ st. returned expected st.last)
 
--- what is made of a state and the expected value, wherever the state was read
-pub record ConcludesAll (a : Code.TableState) (expected : ℕ) (r : CheckedContract) : Type 0 where
-  pub is : (s vector : List ℕ) (p : Places) → function_of s ≡ Found p → Simulates s a (body_read s vector p) is → Standing s p a → Concludes s vector (concluded expected (body_read s vector p)) r
+-- the last return, if it has the expected value
+abbrev pub judged_value : Returned → ℕ → Option ℕ → Result Returned AssembleError
+judged_value l expected None = Err NoValue
+judged_value l expected (Some n) = cond (eqb n expected) (Ok l) (Err NotExpected)
+
+abbrev pub judged : Option Returned → ℕ → Result Returned AssembleError
+judged None expected = Err NoReturn
+judged (Some l) expected = judged_value l expected l.read.value
 
 -- where the contract's function stands
 pub record Located (s : List ℕ) (p : Places) : Type 0 where
   pub short : length s ≤ 65536
-  pub found : function_of s ≡ Found p
+  pub found : function_of s ≡ Ok p

@@ -1,12 +1,7 @@
-use Prim.Native.Nat.{◌-◌}
 use mathlib.Core.Path.{◌≡◌}
-use lib.ListN.{length}
 use Rattle.base.proofs.Lists.{end_from}
 use Rattle.decimal.specs.Decimal.{digit}
 use Rattle.decimal.proofs.digits_end.Given as goal
 
 abbrev pub invariant-loop-i : goal.invariant-loop-i
 invariant-loop-i l = end_from digit l.s l.at ≡ end_from digit l.s l.i
-
-abbrev pub decreases-loop-i : goal.decreases-loop-i
-decreases-loop-i l = length l.s - l.i

@@ -1,9 +1,19 @@
--- `decimal::zeros_at` meets its contract: a block that doesn't fit is none.
-use Rattle.base.proofs.Tests.{false_true}
+-- `decimal::zeros_at` meets its contract: a block that fits, and each of its bytes a zero.
+use Prim.Native.Nat.{ℕ, ◌+◌, ◌-◌}
+use mathlib.Core.Path.{◌≡◌, sym, ap, ◌∙◌}
+use native.Mathlib.Omega.{arith}
+use lib.Dec.{eqb}
+use lib.ListN.{take, drop}
+use Rattle.base.specs.Lists.{all}
+use Rattle.decimal.proofs.Runs.{zeros_passed}
 use Rattle.decimal.proofs.zeros_at.Goals as goal
 
-pub returns-then-s-lt-BLOCK : goal.returns-then-s-lt-BLOCK
-returns-then-s-lt-BLOCK c = record { fits = λ e. false_true e; zeros = λ e. false_true e }
-
-pub returns-then-s-at : goal.returns-then-s-at
-returns-then-s-at c = record { fits = λ e. false_true e; zeros = λ e. false_true e }
+pub returns : goal.returns
+returns c =
+    let a = c.args in
+    let n : a.at + 16 - a.at ≡ 16 = omega arith in
+    record {
+      fits = λ e. omega arith;
+      zeros = λ e. zeros_passed a.s.now 16 a.at (omega arith)
+          (ap (λ (m : ℕ). all (λ b. eqb b 48) (take m (drop a.at a.s.now))) (sym n) ∙ sym c.all_zeros.ensures ∙ e);
+    }

@@ -1,5 +1,5 @@
 -- `emission::expression` and `emission::binding` meet their contracts: the number of bindings falls at each name.
-use Rattle.std.proofs.Common.{ℕ, ◌+◌, refl, sym, ap, ◌∙◌}
+use Rattle.std.proofs.Common.{ℕ, ◌+◌, sym, ap, ◌∙◌}
 use native.Mathlib.Omega.{arith}
 use Rattle.writer.proofs.Pieces.{overwrites_length}
 use Rattle.emission.proofs.WrittenBindings.{kept_put, kept_mark, again_fits, again_put}
@@ -7,56 +7,56 @@ use Rattle.emission.proofs.Loop.{running_starts, running_as, factor_past, no_fac
 use Rattle.emission.proofs.+binding_expression.Goals as goal
 
 pub binding-put_again-requires : goal.binding-put_again-requires
-binding-put_again-requires t c = again_fits _ c.requires.keeps_written c.requires.b_in_bounds c.if-length-gt0.true
+binding-put_again-requires t c = again_fits _ c.requires.keeps c.requires.b_in_bounds c.in-Some.is
 
-pub binding-returns-then-length-gt0 : goal.binding-returns-then-length-gt0
-binding-returns-then-length-gt0 t c =
+pub binding-returns-in-Some : goal.binding-returns-in-Some
+binding-returns-in-Some t c =
     let q = c.requires in
-    let p = again_put _ q.keeps_written q.b_in_bounds c.if-length-gt0.true c.put_again.ensures in
-    record { wrote = p; keeps = kept_put q.keeps_written p q.b_in_bounds }
+    let p = again_put _ q.keeps q.b_in_bounds c.in-Some.is c.put_again.ensures in
+    record { wrote = p; keeps = kept_put q.keeps p q.b_in_bounds }
 
 pub binding-put_push-requires : goal.binding-put_push-requires
 binding-put_push-requires t c =
     let q = c.requires in
-    rw (parameter_text q.b_bound.0 q.b_bound.1 (sym c.wide-size.ensures.0 ∙ c.if-size-eq0.true)) at q.b_in_bounds
+    rw (parameter_text q.stand.0 q.stand.1 (sym c.from-size.ensures ∙ c.if-size-eq0.true)) at q.b_in_bounds
 
 pub binding-returns-then-size-eq0 : goal.binding-returns-then-size-eq0
 binding-returns-then-size-eq0 t c =
     let q = c.requires in
-    let e = parameter_text q.b_bound.0 q.b_bound.1 (sym c.wide-size.ensures.0 ∙ c.if-size-eq0.true) in
+    let e = parameter_text q.stand.0 q.stand.1 (sym c.from-size.ensures ∙ c.if-size-eq0.true) in
     let p = rw (← e) at c.put_push.ensures in
-    record { wrote = p; keeps = kept_put q.keeps_written p q.b_in_bounds }
+    record { wrote = p; keeps = kept_put q.keeps p q.b_in_bounds }
 
-pub binding-expression-behind-requires : goal.binding-expression-behind-requires
-binding-expression-behind-requires t c =
+pub binding-expression-end-requires : goal.binding-expression-end-requires
+binding-expression-end-requires t c =
     let q = c.requires in
-    let a = c.wide-start.ensures.0 in
-    let w = c.wide-size.ensures.0 in
-    let z = ap (λ (k : ℕ). c.wide-start.result + k) w in
+    let a = c.from-start.ensures in
+    let w = c.from-size.ensures in
+    let z = ap (λ (k : ℕ). c.from-start.result + k) w in
     let h = c.if-size-eq0.false in (
       omega arith,
-      (binding_means q.b_bound.0 q.b_bound.1 a z (omega (arith, w, h)), (rw (binding_text q.b_bound.0 q.b_bound.1 a z (omega (arith, w, h))) at q.b_in_bounds, q.keeps_written)),
+      (binding_means q.stand.0 q.stand.1 a z (omega (arith, w, h)), (rw (binding_text q.stand.0 q.stand.1 a z (omega (arith, w, h))) at q.b_in_bounds, q.keeps)),
     )
 
 pub binding-returns : goal.binding-returns
 binding-returns t c =
     let q = c.requires in
-    let a = c.wide-start.ensures.0 in
-    let w = c.wide-size.ensures.0 in
-    let z = ap (λ (k : ℕ). c.wide-start.result + k) w in
+    let a = c.from-start.ensures in
+    let w = c.from-size.ensures in
+    let z = ap (λ (k : ℕ). c.from-start.result + k) w in
     let h = c.if-size-eq0.false in
-    let e = c.expression-behind.ensures in
-    let t = binding_text q.b_bound.0 q.b_bound.1 a z (omega (arith, w, h)) in
+    let e = c.expression-end.ensures in
+    let t = binding_text q.stand.0 q.stand.1 a z (omega (arith, w, h)) in
     let p = rw (← t) at e.wrote in
-    record { wrote = p; keeps = kept_mark _ e.keeps p q.b_in_bounds q.b_bound.0 }
+    record { wrote = p; keeps = kept_mark _ e.keeps p q.b_in_bounds q.stand.0 }
 
 pub expression-loop-i-init : goal.expression-loop-i-init
 expression-loop-i-init t c =
     let q = c.requires in
-    running_starts q.means_tree q.end_in_bounds q.keeps_written refl
+    rw c.none_waiting-waiting.ensures (running_starts q.means_tree q.end_in_bounds q.keeps)
 
-pub expression-bounds-waiting-n : goal.expression-bounds-waiting-n
-expression-bounds-waiting-n t c =
+pub expression-push-requires : goal.expression-push-requires
+expression-push-requires t c =
     let v = running_as c.loop-i.invariant c.if-due.true in
     open_room v.fixed v.going c.factor_at-next.ensures c.in-Open.is
 
@@ -69,7 +69,7 @@ pub expression-loop-i-preserved-in-Open : goal.expression-loop-i-preserved-in-Op
 expression-loop-i-preserved-in-Open t c =
     let d = c.if-due.true in
     let v = running_as c.loop-i.invariant d in
-    running_as (record { fixed = v.fixed; going = opened v.fixed v.going c.factor_at-next.ensures c.in-Open.is; kept = v.kept }) (sym d)
+    rw c.push.ensures (running_as (record { fixed = v.fixed; going = opened v.fixed v.going c.factor_at-next.ensures c.in-Open.is; kept = v.kept }) (sym d))
 
 pub expression-put_push-to-requires : goal.expression-put_push-to-requires
 expression-put_push-to-requires t c =
@@ -135,19 +135,19 @@ expression-loop-i-preserved t c =
     let e = c.operate-next.ensures in
     record { fixed = v.fixed; going = turn_goes v.fixed v.going e; kept = kept_put v.kept e.put (turn_room v.fixed v.going) }
 
-pub expression-pop-last-requires : goal.expression-pop-last-requires
-expression-pop-last-requires t c =
+pub expression-write-requires : goal.expression-write-requires
+expression-write-requires t c =
     let v = c.loop-i.invariant in
-    (v.going.few, end_fits v.fixed v.going c.loop-i-test.false)
+    record { holds = v.going.holds; room = end_fits v.fixed v.going c.loop-i-test.false }
 
 pub expression-shape_of-out : goal.expression-shape_of-out
 expression-shape_of-out t c =
     let v = c.loop-i.invariant in
-    overwrites_length (end_put v.fixed v.going c.loop-i-test.false c.pop-last.ensures.put) v.fixed.room
+    overwrites_length (end_put v.fixed v.going c.loop-i-test.false c.write.ensures.put) v.fixed.room
 
 pub expression-returns : goal.expression-returns
 expression-returns t c =
     let v = c.loop-i.invariant in
     let l = c.loop-i-test.false in
-    let e = c.pop-last.ensures.put in
+    let e = c.write.ensures.put in
     record { wrote = end_put v.fixed v.going l e; keeps = kept_put v.kept e (end_fits v.fixed v.going l) }

@@ -1,6 +1,6 @@
 -- The number of bindings falls at each name.
 use Rattle.std.proofs.Common.{◌+◌, ◌-◌, ◌*◌}
-use Rattle.bindings.specs.Code.Source.{sources_of}
+use Rattle.emission.specs.Code.Emitted.{sources_known}
 use Rattle.emission.proofs.Loop.{Running}
 use Rattle.emission.proofs.+binding_expression.Given as goal
 
@@ -8,11 +8,11 @@ abbrev pub decreases-binding : goal.decreases-binding
 decreases-binding l = 2 * l.b + 1
 
 abbrev pub decreases-expression : goal.decreases-expression
-decreases-expression l = 2 * l.count
+decreases-expression l = 2 * l.known.count
 
 abbrev pub invariant-expression-loop-i : goal.invariant-expression-loop-i
 invariant-expression-loop-i l =
-    Running l.text (sources_of l.names l.lens l.tags l.starts l.sizes l.values) l.count l.start l.end l.initial.out l.at l.out l.to l.waiting l.n l.i l.due l.places l.lengths
+    Running l.known.text.now (sources_known l.known) l.known.count l.start l.end l.initial.out l.at l.out l.to l.waiting l.i l.due l.pieces
 
 abbrev pub decreases-expression-loop-i : goal.decreases-expression-loop-i
 decreases-expression-loop-i l = l.end - l.i

@@ -1,5 +1,4 @@
--- `emission::emit` meets its contract: nothing is marked at first.
-use mathlib.Core.Path.{refl}
+-- `emission::emit` meets its contract: nothing is kept at first.
 use Rattle.emission.proofs.WrittenBindings.{kept_none}
 use Rattle.emission.proofs.emit.Goals as goal
 
@@ -7,4 +6,4 @@ pub expression-requires : goal.expression-requires
 expression-requires c =
     let a = c.args in
     let q = c.requires in
-    record { means_tree = q.means_tree; end_in_bounds = q.end_in_bounds; keeps_written = kept_none a.text.now _ a.out.now a.at _ refl }
+    record { means_tree = q.means_tree; end_in_bounds = q.end_in_bounds; keeps = kept_none a.known.text.now _ a.out.now a.at }

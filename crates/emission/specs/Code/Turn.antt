@@ -1,6 +1,5 @@
 -- What an operator, a closing parenthesis or the end does to the operators that wait.
 use Rattle.std.specs.Prelude.{ℕ, ◌+◌, ◌<◌, ◌≤◌, min, ◌≡◌, List, ◌∷◌, cond, eqb, leb, length, take, drop}
-use Rattle.base.specs.Code.Stack.{stack_of}
 use Rattle.token.specs.Token.{tokens}
 use Rattle.token.specs.Code.Places.{token_at, first}
 use Rattle.grammar.specs.Grammar.{levels}
@@ -9,7 +8,8 @@ use Rattle.grammar.specs.Code.Operator.{level_of}
 use Rattle.writer.specs.Code.Overwrites.{Overwrites}
 use Rattle.emission.specs.Code.Lines.{operators_text}
 use Rattle.emission.specs.declared.operator.Turn.{Turn}
-use Rattle.emission.specs.Code.Waiting.{most, popped, left}
+use Rattle.emission.specs.Code.Waiting.{most, popped, left, stack, Holds}
+use Rattle.emission.specs.declared.waiting.Waiting.{Waiting}
 
 -- the sign at or after an offset, in an expression that ends at an offset of the text; 0 where no token is left
 abbrev pub sign_at : List ℕ → ℕ → ℕ → ℕ
@@ -24,18 +24,16 @@ abbrev pub stack_after : ℕ → List ℕ → List ℕ
 stack_after sign st = cond (leb (level_of sign) levels) (sign ∷ st) (cond (eqb sign 41) (drop 1 st) st)
 
 -- there is room for what is written and for one more operator, and a closing parenthesis has its mark
-pub record CanTurn (s : List ℕ) (end at : ℕ) (out : List ℕ) (to : ℕ) (waiting : List ℕ) (n : ℕ) : Type 0 where
+pub record CanTurn (s : List ℕ) (end at : ℕ) (out : List ℕ) (to : ℕ) (w : Waiting) : Type 0 where
   pub inside : end ≤ length s
-  pub few : n ≤ most
-  pub full : length waiting ≡ most
-  pub room : to + length (operators_text (popped (down_to (sign_at s end at)) (stack_of waiting n))) ≤ length out
-  pub operator : level_of (sign_at s end at) ≤ levels → length (left (down_to (sign_at s end at)) (stack_of waiting n)) < most
-  pub mark : sign_at s end at ≡ 41 → 0 < length (left (down_to (sign_at s end at)) (stack_of waiting n))
+  pub holds : Holds w
+  pub room : to + length (operators_text (popped (down_to (sign_at s end at)) (stack w))) ≤ length out
+  pub operator : level_of (sign_at s end at) ≤ levels → length (left (down_to (sign_at s end at)) (stack w)) < most
+  pub mark : sign_at s end at ≡ 41 → 0 < length (left (down_to (sign_at s end at)) (stack w))
 
-pub record Turns (s : List ℕ) (end at : ℕ) (out : List ℕ) (to : ℕ) (waiting : List ℕ) (n : ℕ) (out_after waiting_after : List ℕ) (r : Turn) : Type 0 where
-  pub put : Overwrites out to (operators_text (popped (down_to (sign_at s end at)) (stack_of waiting n))) out_after r.to
+pub record Turns (s : List ℕ) (end at : ℕ) (out : List ℕ) (to : ℕ) (w : Waiting) (out_after : List ℕ) (v : Waiting) (r : Turn) : Type 0 where
+  pub put : Overwrites out to (operators_text (popped (down_to (sign_at s end at)) (stack w))) out_after r.to
   pub next : r.at ≡ (token_at (take end s) at).end
-  pub stack : stack_of waiting_after r.waiting ≡ stack_after (sign_at s end at) (left (down_to (sign_at s end at)) (stack_of waiting n))
-  pub few : r.waiting ≤ most
-  pub full : length waiting_after ≡ most
+  pub stacked : stack v ≡ stack_after (sign_at s end at) (left (down_to (sign_at s end at)) (stack w))
+  pub holds : Holds v
   pub due : r.due ≡ leb (level_of (sign_at s end at)) levels

@@ -4,4 +4,4 @@ use Rattle.examples.proofs.Assembly.{sized}
 use Rattle.examples.proofs.e1.Goals as goal
 
 pub slice_bounds-out-end : goal.slice_bounds-out-end
-slice_bounds-out-end g c = omega (arith, sized c.tally.ensures.buffer)
+slice_bounds-out-end g c = omega (arith, sized c.tally-assembled.ensures.buffer)

@@ -1,21 +1,15 @@
 -- The figures of an expression that is read, and those of two that an operator joins.
 use Rattle.std.specs.Prelude.{◌≡◌, ℕ, ◌+◌, ◌*◌, ◌^◌, ◌<◌, ◌≤◌, max}
-use Rattle.std.proofs.Math.Option.{Option, some, none}
-use Rattle.figures.specs.declared.TreeValue.{TreeValue}
 use Rattle.figures.specs.declared.Figures.{Figures}
 use Rattle.grammar.specs.Tree.{Tree, applied, value_of, k_of, p_of}
 use Rattle.grammar.specs.Code.Lengths.{operator_length, len_of}
 use Rattle.grammar.specs.Parse.{operator}
 
-abbrev pub option_of : TreeValue → Option ℕ
-option_of (TreeValue.Is n) = some n
-option_of TreeValue.None = none
-
 -- they are those of the tree t; a line of text has at most 26 bytes, and an operator's at most 4
 pub record FiguresOf (t : Tree) (v : Figures) : Type 0 where
   pub k : v.k ≡ k_of t
   pub p : v.p ≡ p_of t
-  pub value : option_of v.value ≡ value_of t
+  pub value : v.value ≡ value_of t
   pub len : v.len ≡ len_of t
   pub short : len_of t + 4 ≤ 30 * k_of t
 
@@ -30,5 +24,5 @@ pub record Joined (a : ℕ) (v w r : Figures) : Type 0 where
   pub next : r.next ≡ w.next
   pub k : r.k ≡ v.k + w.k
   pub p : r.p ≡ max v.p (w.p + 1)
-  pub value : option_of r.value ≡ applied (operator a) (option_of v.value) (option_of w.value)
+  pub value : r.value ≡ applied (operator a) v.value w.value
   pub len : r.len ≡ v.len + w.len + operator_length (operator a)

@@ -1,18 +1,12 @@
--- `key::find_quoted` meets its contract: the search goes on from where the near places end.
-use mathlib.Core.Path.{sym, ◌∙◌}
-use native.Mathlib.Omega.{arith}
+-- `key::find_quoted` meets its contract: a vector that is too short has no place for the key, and behind the near places the search goes on.
+use Rattle.std.proofs.Common.{◌≤◌, ◌+◌, length, ◌∙◌, sym, arith}
 use Rattle.search.proofs.Laws.{no_room}
 use Rattle.key.specs.Key.{quoted}
 use Rattle.key.proofs.Quoted.{quoted-length}
 use Rattle.key.proofs.find_quoted.Goals as goal
 
-pub returns-then-s-key : goal.returns-then-s-key
-returns-then-s-key c =
+pub returns-in_err-stop : goal.returns-in_err-stop
+returns-in_err-stop c =
     let a = c.args in
-    sym (no_room (quoted a.key.now) a.s.now 0 (omega (arith, quoted-length a.key.now)))
-
-pub returns-in-At : goal.returns-in-At
-returns-in-At c = sym (rw c.in-At.is at c.quoted_before-found.ensures)
-
-pub returns-in-Nothing : goal.returns-in-Nothing
-returns-in-Nothing c = c.find_by_blocks-in-Nothing.ensures ∙ sym (rw c.in-Nothing.is at c.quoted_before-found.ensures)
+    let h : length a.key.now + 1 ≤ length a.s.now → ⊥ = c.in_err-stop.ensures in
+    c.from_residual.ensures ∙ sym (no_room (quoted a.key.now) a.s.now 0 (omega (arith, quoted-length a.key.now)))

@@ -1,23 +1,10 @@
--- `key::last_other` meets its contract: behind the place that is read there are quotes alone.
-use mathlib.Core.Path.{◌≡◌}
-use native.Mathlib.Omega.{arith}
-use Rattle.key.proofs.Quotes.{one_before}
+-- `key::last_other` meets its contract: where nothing else is found, quotes alone stand before the blocks as in them.
+use Rattle.std.proofs.Common.{arith, rules, tests}
+use Rattle.key.proofs.Quotes.{joined, of_part}
 use Rattle.key.proofs.last_other.Goals as goal
 
-pub loop-k-init : goal.loop-k-init
-loop-k-init c = c.quotes_start-k.ensures
-
-pub returns-then-s-k-ne34 : goal.returns-then-s-k-ne34
-returns-then-s-k-ne34 c = (omega arith, omega arith, c.if-s-k-ne34.true)
-
-pub loop-k-preserved : goal.loop-k-preserved
-loop-k-preserved c =
+pub returns-in_err-k : goal.returns-in_err-k
+returns-in_err-k c =
     let a = c.args in
-    let l = c.loop-k in
-    (omega arith, omega arith, one_before a.s.now l.k a.end (omega arith) c.if-s-k-ne34.false l.invariant.2)
-
-pub returns : goal.returns
-returns c =
-    let l = c.loop-k in
-    let z : l.k ≡ c.args.from = omega arith in
-    rw z at l.invariant.2
+    let m = c.quotes_start-quotes in
+    rw c.from_residual.ensures (joined a.s.now a.from m.result a.end (of_part a.s.now a.from m.result (omega arith) (omega arith) (search (rules, tests))) m.ensures.2)

@@ -1,22 +1,11 @@
--- `key::put_quoted` meets its contract: behind the opening quote stand the bytes of the key that are written.
-use native.Mathlib.Omega.{arith}
-use lib.ListN.{length-set}
-use Rattle.key.proofs.Quoted.{put_opening, put_byte, put_closing}
+-- `key::put_quoted` meets its contract: the array starts with the key between two quotes.
+use Rattle.std.proofs.Common.{◌∙◌, arith}
+use Rattle.key.proofs.Quoted.{written, written_size}
 use Rattle.key.proofs.put_quoted.Goals as goal
-
-pub loop-k-init : goal.loop-k-init
-loop-k-init c =
-    let a = c.args in
-    (omega arith, simp length-set c.requires.1, put_opening a.pattern.now a.key.now (omega arith))
-
-pub loop-k-preserved : goal.loop-k-preserved
-loop-k-preserved c =
-    let a = c.args in
-    let l = c.loop-k in
-    (omega arith, simp length-set l.invariant.1, put_byte l.pattern a.key.now l.k (omega arith) l.invariant.2 (omega arith))
 
 pub returns : goal.returns
 returns c =
     let a = c.args in
-    let l = c.loop-k in
-    record { size = simp length-set l.invariant.1; starts = put_closing l.pattern a.key.now l.k (omega arith) l.invariant.2 (omega arith) (omega arith) }
+    let p = a.pattern.now in
+    let w = c.copy_from_slice.ensures.after in
+    record { size = written_size p a.key.now _ _ (omega arith) w (omega arith) ∙ c.told-pattern; starts = written p a.key.now _ _ (omega arith) w (omega arith) }

@@ -1,31 +1,24 @@
 -- The lines that a cursor visits.
+use Rattle.std.specs.Prelude.{Option, Some, None, unwrap_or}
 use Rattle.std.specs.Prelude.{ℕ, ◌-◌, ◌<◌, ◌≤◌, ◌≡◌, List, [], ◌∷◌, length, get_or, take, drop}
 use Rattle.base.specs.Code.Cursor.{Visit, piece, no_piece}
-use Rattle.search.specs.declared.Found.{Found}
-use Rattle.search.specs.declared.Found.TheVariants.{At, Nothing}
 use Rattle.search.specs.First.{first_at}
 use Rattle.lines.specs.Lines.{lines}
 use Rattle.lines.specs.declared.Line.{Line}
-use Rattle.lines.specs.declared.Step.{Step}
-use Rattle.lines.specs.declared.Step.TheVariants.{Next, Done}
 use Rattle.lines.specs.Cursor.{line_at}
-
-abbrev pub place_or : ℕ → Found → ℕ
-place_or n (At i) = i
-place_or n Nothing = n
 
 -- the offset of the first line feed at or after an offset, or the text's end where there is none
 abbrev pub feed_from : List ℕ → ℕ → ℕ
-feed_from s at = place_or (length s) (first_at (10 ∷ []) s at)
+feed_from s at = unwrap_or (first_at (10 ∷ []) s at) (length s)
 
 -- the first of lines
 abbrev pub head_of : List (List ℕ) → List ℕ
 head_of ls = get_or ls 0 []
 
 -- what a cursor visits at an offset: the line there, and then the next place
-abbrev pub visit_of_line : List ℕ → Step → Visit (List ℕ)
-visit_of_line s (Next l) = piece (take (l.end - l.start) (drop l.start s)) l.next
-visit_of_line s Done = no_piece
+abbrev pub visit_of_line : List ℕ → Option Line → Visit (List ℕ)
+visit_of_line s (Some l) = piece (take (l.end - l.start) (drop l.start s)) l.next
+visit_of_line s None = no_piece
 
 abbrev pub visit_line : List ℕ → ℕ → Visit (List ℕ)
 visit_line s at = visit_of_line s (line_at s at)

@@ -1,4 +1,4 @@
-use Prim.Native.Nat.{◌+◌}
+use Prim.Native.Nat.{◌+◌, ◌-◌}
 use mathlib.Core.Path.{◌≡◌}
 use lib.ListN.{drop}
 use Rattle.lines.specs.Cursor.{line_at}
@@ -6,8 +6,5 @@ use Rattle.ops.specs.Ops.{start_of}
 use Rattle.ops.specs.Code.Numbered.{line_numbered}
 use Rattle.ops.proofs.nth_line.Given as goal
 
-abbrev pub invariant-loop-left : goal.invariant-loop-left
-invariant-loop-left l = line_numbered l.text l.line ≡ line_at l.text (l.at + start_of l.left (drop l.at l.text))
-
-abbrev pub decreases-loop-left : goal.decreases-loop-left
-decreases-loop-left l = l.left
+abbrev pub invariant-loop : goal.invariant-loop
+invariant-loop l = line_numbered l.text l.line ≡ line_at l.text (l.at + start_of (l.line - l.counter) (drop l.at l.text))

@@ -1,4 +1,6 @@
 -- The promises of the passes over a text.
+use Rattle.std.specs.Prelude.{Result}
+use Rattle.operation.specs.declared.OpsError.{OpsError}
 use Rattle.std.specs.Prelude.{ℕ, min, ◌≡◌, List, Bool, true, false, length}
 use Rattle.base.specs.Overwrite.{overwrite}
 use Rattle.base.specs.Outcome.{is, and_then}
@@ -6,7 +8,6 @@ use Rattle.lines.specs.Lines.{lines}
 use Rattle.kinds.specs.Kinds.{Operation}
 use Rattle.operation.specs.Line.{Rule}
 use Rattle.ops.specs.Ops.{Reading, read_lines, answer_of, ops_of, kinds_of, operands_of, not_empty}
-use Rattle.ops.specs.declared.ParsedOps.{ParsedOps}
 
 -- the lines of a text, with room for what the shorter buffer holds
 abbrev pub read_into : Rule → List ℕ → List ℕ → List ℕ → Reading
@@ -23,7 +24,7 @@ pub record Filled (rule : Rule) (text kinds operands kinds_after operands_after 
   pub in_operands : operands_after ≡ overwrite 0 (operands_of (ops_of (read_into rule text kinds operands))) operands
 
 -- one pass: the answer, and the buffers by whether it writes
-pub record PassOver (rule : Rule) (text kinds operands kinds_after operands_after : List ℕ) (writing : Bool) (r : ParsedOps) : Type 0 where
+pub record PassOver (rule : Rule) (text kinds operands kinds_after operands_after : List ℕ) (writing : Bool) (r : Result ℕ OpsError) : Type 0 where
   pub answer : r ≡ answer_of (and_then (read_into rule text kinds operands) not_empty)
   pub kept_kinds : writing ≡ false → kinds_after ≡ kinds
   pub kept_operands : writing ≡ false → operands_after ≡ operands

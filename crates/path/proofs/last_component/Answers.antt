@@ -8,9 +8,6 @@ use Rattle.path.proofs.Laws.{component_part, component-before}
 use borrow.Author.Rules.{rules}
 use Rattle.path.proofs.last_component.Goals as goal
 
-pub loop-end-init : goal.loop-end-init
-loop-end-init c = (search rules, ap component (sym (take-length c.args.path.now)))
-
 pub returns-then-not-is_ignored : goal.returns-then-not-is_ignored
 returns-then-not-is_ignored c = let l = c.loop-end in component_part c.args.path.now l.end c.part_start-start.result l.invariant.1 c.part_start-start.ensures (sym c.is_ignored.ensures ∙ c.if-not-is_ignored.true)
 

@@ -1,12 +1,12 @@
 -- The operations that stand in a text.
+use Rattle.std.specs.Prelude.{Option, Some, None}
+use Rattle.plain_op.specs.declared.PlainOp.{PlainOp}
 use Rattle.std.specs.Prelude.{ℕ, suc, ◌+◌, ◌<◌, ◌≡◌, List, [], ◌∷◌, ◌++◌, true, cond, length, drop}
 use Rattle.search.specs.First.{prefix_of}
 use Rattle.base.specs.Lists.{all}
 use Rattle.decimal.specs.Decimal.{digit, number_of}
-use Rattle.decimal.specs.declared.Number.TheVariants.{Is}
 use Rattle.kinds.specs.Kinds.{kind_of}
 use Rattle.mnemonic.specs.Kinds.{follows, line_with}
-use Rattle.plain_op.specs.declared.Plain.{Plain}
 
 -- an operation stands from an offset to another: its word, and behind it a space and the digits of its operand where one follows
 pub record OperationAt (text : List ℕ) (at k v end : ℕ) : Type 0 where
@@ -15,15 +15,15 @@ pub record OperationAt (text : List ℕ) (at k v end : ℕ) : Type 0 where
   pub below : k < 16
   pub all : all digit digits ≡ true
   pub some : 0 < length digits
-  pub is : number_of digits ≡ Is number
+  pub is : number_of digits ≡ Some number
   pub operand : v ≡ cond (follows (kind_of k).operand) number 0
   pub stands : drop at text ≡ line_with k digits ++ drop end text
   pub place : end ≡ at + length (line_with k digits)
 
--- an answer that is not Other is an operation that stands there
-abbrev pub PlainRead : List ℕ → ℕ → Plain → Type 0
-PlainRead text at (Plain.Op k v end) = OperationAt text at k v end
-PlainRead text at Plain.Other = Unit
+-- an answer is an operation that stands there
+abbrev pub PlainRead : List ℕ → ℕ → Option PlainOp → Type 0
+PlainRead text at (Some o) = OperationAt text at o.kind o.operand o.end
+PlainRead text at None = Unit
 
 -- the word of a kind with an operand stands at an offset, with a space, and what follows starts at another
 pub record WordAt (text : List ℕ) (at k digits : ℕ) : Type 0 where

@@ -1,6 +1,6 @@
 -- What the code's state says of an assembly. The names and expressions of its bindings stand in the text s.
-use Rattle.std.specs.Prelude.{ℕ, ◌<◌, ◌≤◌, ◌≡◌, List, Bool, true, false, length}
-use Rattle.std.proofs.Math.Option.{Option, some, none}
+use Rattle.scope.specs.declared.refusal.AssembleError.{AssembleError}
+use Rattle.std.specs.Prelude.{ℕ, ◌<◌, ◌≤◌, ◌≡◌, List, Option, Some, None, Result, Ok, Err, length}
 use Rattle.numbered.specs.declared.Numbered.{Numbered}
 use Rattle.base.specs.Outcome.{Outcome, is, refused}
 use Rattle.grammar.specs.Tree.{Tree}
@@ -11,12 +11,9 @@ use Rattle.bindings.specs.declared.Values.{Values}
 use Rattle.bindings.specs.Code.Table.{columns, TableFor}
 use Rattle.bindings.specs.Code.Source.{sources, env_of, AllInText}
 use Rattle.scope.specs.declared.state.Returned.{Returned}
-use Rattle.scope.specs.declared.state.LastReturned.{LastReturned}
-use Rattle.scope.specs.declared.state.Status.{Status}
-use Rattle.scope.specs.declared.state.Status.TheVariants.{Going, Refused}
 use Rattle.scope.specs.declared.state.TableState as Code
-use Rattle.scope.specs.declared.parameters.KeyNumber.{KeyNumber}
 use Rattle.scope.specs.Part.{part}
+use Rattle.scope.specs.Code.Stored.{Full}
 use Rattle.scope.specs.Scope.{Scope}
 use Rattle.scope.specs.Numbers.{assemble_error_numbered}
 
@@ -28,39 +25,36 @@ pub record ReturnIs (s : List ℕ) (table : Bindings) (values : Values) (l : Ret
   pub inside : l.end ≤ length s
   pub means : meaning (env_of s (sources table values) l.count) (part s l.start l.end) ≡ is t
 
-abbrev pub LastIs : List ℕ → Bindings → Values → LastReturned → Option Tree → Type 0
-LastIs s table values LastReturned.Nothing none = Unit {0}
-LastIs s table values LastReturned.Nothing (some t) = ⊥
-LastIs s table values (LastReturned.Is l) none = ⊥
-LastIs s table values (LastReturned.Is l) (some t) = ReturnIs s table values l t
+abbrev pub LastIs : List ℕ → Bindings → Values → Option Returned → Option Tree → Type 0
+LastIs s table values None None = Unit {0}
+LastIs s table values None (Some t) = ⊥
+LastIs s table values (Some l) None = ⊥
+LastIs s table values (Some l) (Some t) = ReturnIs s table values l t
 
 pub record Represents (s : List ℕ) (a : Code.TableState) (st : Scope) : Type 0 where
+  pub full : Full a.table a.values
   pub holds : TableFor s (columns a.table a.values) st.env
   pub stand : AllInText s (sources a.table a.values) a.table.count
   pub sources : st.env ≡ env_of s (sources a.table a.values) a.table.count
   pub last : LastIs s a.table a.values a.last st.last
-  pub going : a.status ≡ Going
 
-abbrev pub is_refused : Status → Bool
-is_refused Going = false
-is_refused (Refused why) = true
-
--- the assembly has not been refused
-pub record NotRefused (s : List ℕ) (a : Code.TableState) : Type 0 where
+-- a represents a state of the definition
+pub record Represented (s : List ℕ) (a : Code.TableState) : Type 0 where
   pub st : Scope
   pub represents : Represents s a st
 
-abbrev pub SimulatesBy : Status → List ℕ → Code.TableState → Outcome Numbered Scope → (Scope → Outcome Numbered Scope) → Type 0
-SimulatesBy Going s a whole rest = (st : Scope) × (Represents s a st × (whole ≡ rest st))
-SimulatesBy (Refused why) s a whole rest = whole ≡ refused (assemble_error_numbered why)
+abbrev pub SimulatesBy : Result (Unit {0}) AssembleError → List ℕ → Code.TableState → Outcome Numbered Scope → (Scope → Outcome Numbered Scope) → Type 0
+SimulatesBy (Ok u) s a whole rest = (st : Scope) × (Represents s a st × (whole ≡ rest st))
+SimulatesBy (Err why) s a whole rest = whole ≡ refused (assemble_error_numbered why)
 
--- a simulation: the code's state a represents one of the definition, from which the rest gives the whole; or a is refused as the whole is
-pub record Simulates (s : List ℕ) (a : Code.TableState) (whole : Outcome Numbered Scope) (rest : Scope → Outcome Numbered Scope) : Type 0 where
-  pub by : SimulatesBy a.status s a whole rest
+-- a simulation with the answer x: the code's state a represents one of the definition, from which the rest gives the whole; or x is the
+-- refusal of the whole, and says nothing of a
+pub record Simulates (s : List ℕ) (a : Code.TableState) (x : Result (Unit {0}) AssembleError) (whole : Outcome Numbered Scope) (rest : Scope → Outcome Numbered Scope) : Type 0 where
+  pub by : SimulatesBy x s a whole rest
 
--- one step of the simulation: r represents what f makes of a
-pub record SimulatesStep (s : List ℕ) (a : Code.TableState) (f : Scope → Outcome Numbered Scope) (t : List ℕ) (r : Code.TableState) : Type 0 where
-  pub leads : (st : Scope) → Represents s a st → Simulates t r (f st) is
+-- one step of the simulation: r represents what f makes of a, or x refuses as f does
+pub record SimulatesStep (s : List ℕ) (a : Code.TableState) (f : Scope → Outcome Numbered Scope) (t : List ℕ) (r : Code.TableState) (x : Result (Unit {0}) AssembleError) : Type 0 where
+  pub leads : (st : Scope) → Represents s a st → Simulates t r x (f st) is
 
 -- a part of a contract, whose offsets fit the table
 pub record Within (s : List ℕ) (start end : ℕ) : Type 0 where
@@ -69,6 +63,6 @@ pub record Within (s : List ℕ) (start end : ℕ) : Type 0 where
   pub fits : end < 65536
   pub inside : end ≤ length s
 
-abbrev pub keyed_as : KeyNumber → Outcome Numbered ℕ
-keyed_as (KeyNumber.Is n) = is n
-keyed_as (KeyNumber.Refused why) = refused (assemble_error_numbered why)
+abbrev pub keyed_as : Result ℕ AssembleError → Outcome Numbered ℕ
+keyed_as (Ok n) = is n
+keyed_as (Err why) = refused (assemble_error_numbered why)

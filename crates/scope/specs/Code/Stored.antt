@@ -1,18 +1,16 @@
 -- How a state is stored: what one more binding changes in the table and beside it.
-use Rattle.std.specs.Prelude.{ℕ, ◌+◌, ◌-◌, ◌^◌, ◌<◌, ◌≤◌, ◌≡◌, List, Bool, true, false, get_or, replicate}
+use Rattle.std.specs.Prelude.{ℕ, ◌+◌, ◌-◌, ◌^◌, ◌<◌, ◌≤◌, ◌≡◌, List, false, None, Some, is_none, Result, Ok, Err, length, get_or, replicate}
+use Rattle.std.specs.Option.{unwrap_or}
 use Rattle.source.specs.declared.parameters.Span.{Span}
 use Rattle.bindings.specs.declared.Bindings.{Bindings}
 use Rattle.bindings.specs.declared.Values.{Values}
+use Rattle.bindings.specs.declared.Row.{Row}
+use Rattle.bindings.specs.Code.Rows.{table_with, values_with}
 use Rattle.figures.specs.declared.Figures.{Figures}
-use Rattle.figures.specs.declared.TreeValue.{TreeValue}
-use Rattle.figures.specs.declared.TreeValue.TheVariants.{Is, None}
 use Rattle.bindings.specs.Code.Table.{tag_of}
 use Rattle.scope.specs.declared.refusal.AssembleError.{AssembleError}
 use Rattle.scope.specs.declared.refusal.AssembleError.TheVariants.{TooManyBindings}
 use Rattle.scope.specs.declared.state.TableState.{TableState}
-use Rattle.scope.specs.declared.state.Status.TheVariants as Status
-use Rattle.scope.specs.declared.state.LastReturned.TheVariants as Last
-use Rattle.scope.specs.declared.table.Row.{Row}
 
 -- no binding, no return; every array is zero
 abbrev pub no_bindings : Bindings
@@ -22,13 +20,10 @@ abbrev pub no_values : Values
 no_values = record { value = replicate 256 0; none = replicate 256 false; len = replicate 256 0; tag = replicate 256 0 }
 
 abbrev pub nothing_yet : TableState
-nothing_yet = record { table = no_bindings; values = no_values; last = Last.Nothing; status = Status.Going }
-
-abbrev pub refused_as : TableState → AssembleError → TableState
-refused_as a why = record { table = a.table; values = a.values; last = a.last; status = Status.Refused why }
+nothing_yet = record { table = no_bindings; values = no_values; last = None }
 
 abbrev pub returning : TableState → Span → Figures → TableState
-returning a expr v = record { table = a.table; values = a.values; last = Last.Is (record { start = expr.start; end = expr.end; count = a.table.count; read = v }); status = a.status }
+returning a expr v = record { table = a.table; values = a.values; last = Some (record { start = expr.start; end = expr.end; count = a.table.count; read = v }) }
 
 -- offsets and figures that fit the table's types
 pub record SpanFits (p : Span) : Type 0 where
@@ -39,6 +34,19 @@ pub record FiguresFit (v : Figures) : Type 0 where
   pub k : v.k < 65536
   pub p : v.p < 65536
   pub len : v.len < 2 ^ 32
+
+-- every array has its 256 entries, as its type says
+pub record Full (t : Bindings) (v : Values) : Type 0 where
+  pub name_start : length t.name_start ≡ 256
+  pub name_len : length t.name_len ≡ 256
+  pub expr_start : length t.expr_start ≡ 256
+  pub expr_len : length t.expr_len ≡ 256
+  pub ks : length t.k ≡ 256
+  pub ps : length t.p ≡ 256
+  pub value : length v.value ≡ 256
+  pub none : length v.none ≡ 256
+  pub len : length v.len ≡ 256
+  pub tag : length v.tag ≡ 256
 
 -- v stands at i, and all else is as before
 pub record Set {A : Type 0} (d : A) (before : List A) (i : ℕ) (v : A) (after : List A) : Type 0 where
@@ -54,14 +62,6 @@ pub record Put (t : Bindings) (name expr : Span) (k p : ℕ) (r : Bindings) : Ty
   pub ks : Set 0 t.k t.count k r.k
   pub ps : Set 0 t.p t.count p r.p
 
-abbrev pub number_in : TreeValue → ℕ
-number_in (Is n) = n
-number_in None = 0
-
-abbrev pub is_none : TreeValue → Bool
-is_none (Is n) = false
-is_none None = true
-
 -- one binding, with the name w, as the arrays hold it
 abbrev pub row_of : Span → Span → Figures → List ℕ → Row
 row_of name expr v w = record {
@@ -71,15 +71,23 @@ row_of name expr v w = record {
   expr_len = expr.end - expr.start;
   k = v.k;
   p = v.p;
-  value = number_in v.value;
-  none = is_none v.value;
+  value = v.value;
   len = v.len;
   tag = tag_of w;
 }
 
+-- a row behind the bindings that are there
+abbrev pub with_row : TableState → Row → TableState
+with_row a x = record { table = table_with a.table x; values = values_with a.values a.table.count x; last = a.last }
+
+-- the answer x and the state r after it: a 257th binding is refused
+pub record Binds (a : TableState) (name expr : Span) (v : Figures) (w : List ℕ) (r : TableState) (x : Result (Unit {0}) AssembleError) : Type 0 where
+  pub full : 256 ≤ a.table.count → (x ≡ Err TooManyBindings) × (r ≡ a)
+  pub more : a.table.count < 256 → (x ≡ Ok tt) × (r ≡ with_row a (row_of name expr v w))
+
 -- of a binding with the name w
 pub record PutValue (t : Values) (i : ℕ) (v : Figures) (w : List ℕ) (r : Values) : Type 0 where
-  pub value : Set 0 t.value i (number_in v.value) r.value
+  pub value : Set 0 t.value i (unwrap_or v.value 0) r.value
   pub none : Set false t.none i (is_none v.value) r.none
   pub len : Set 0 t.len i v.len r.len
   pub tag : Set 0 t.tag i (tag_of w) r.tag
@@ -89,8 +97,3 @@ pub record More (a : TableState) (name expr : Span) (v : Figures) (w : List ℕ)
   pub table : Put a.table name expr v.k v.p r.table
   pub values : PutValue a.values a.table.count v w r.values
   pub last : r.last ≡ a.last
-  pub status : r.status ≡ a.status
-
-pub record Bound (a : TableState) (name expr : Span) (v : Figures) (w : List ℕ) (r : TableState) : Type 0 where
-  pub full : 256 ≤ a.table.count → r ≡ refused_as a TooManyBindings
-  pub more : a.table.count < 256 → More a name expr v w r

@@ -1,38 +1,22 @@
 -- `search::find_far_byte` meets its contract: each block that is passed is without the byte.
--- Assumes nothing.
-use Prim.Native.Nat.{◌+◌, ◌≤◌}
-use mathlib.Core.Path.{refl, sym, ◌∙◌}
-use borrow.Author.Tests.{leb-true}
-use native.Mathlib.Omega.{arith}
-use lib.ListN.{length}
+use Rattle.std.proofs.Common.{◌≡◌, ◌∙◌, ap, [], ◌∷◌, ◌+◌, ◌*◌, length, Some, sym, arith}
+use Rattle.base.proofs.Parts.{take-length-drop}
+use Rattle.search.specs.First.{first_at}
+use Rattle.search.proofs.Blocks.{block_hit, block_miss}
 use Rattle.search.proofs.find_far_byte.Goals as goal
-use Rattle.search.proofs.find_far_byte.Goals.{In-loop-k}
-
-room : (c : In-loop-k) → c.loop-k.from + 64 ≤ length c.args.s.now
-room c = leb-true _ _ (sym c.has_room.ensures ∙ c.loop-k-test.true)
-
-pub loop-k-init : goal.loop-k-init
-loop-k-init c = refl
-
-pub place_in-k-requires : goal.place_in-k-requires
-place_in-k-requires c = omega (arith, room (goal.at.place_in-k-requires c).In-loop-k)
-
-pub overflow_add-result : goal.overflow_add-result
-overflow_add-result c = let w = c.place_in-k.ensures.within in omega (arith, room (goal.at.overflow_add-result c).In-loop-k)
 
 pub returns-then-k-lt64 : goal.returns-then-k-lt64
-returns-then-k-lt64 c = sym (c.loop-k.invariant ∙ (c.place_in-k.ensures.some c.if-k-lt64.true).1)
+returns-then-k-lt64 c =
+    let a = c.args in
+    let s = a.s.now in
+    let x = c.as_chunks.ensures in
+    let n = c.loop-n.n in
+    sym (c.loop-n.invariant ∙ block_hit a.b s a.at _ (take-length-drop s a.at) (omega arith) _ x.front x.front_len n _ c.loop-n-test.true c.place_in-k.ensures c.if-k-lt64.true
+    ∙ ap (λ k. Some (a.at + 64 * n + k)) (sym c.from.ensures))
 
-pub overflow_add-from : goal.overflow_add-from
-overflow_add-from c = omega (arith, room (goal.at.overflow_add-from c).In-loop-k)
-
-pub loop-k-smaller : goal.loop-k-smaller
-loop-k-smaller c = omega (arith, room (goal.at.loop-k-smaller c).In-loop-k)
-
-pub loop-k-preserved : goal.loop-k-preserved
-loop-k-preserved c =
-    let w = c.place_in-k.ensures.within in
-    c.loop-k.invariant ∙ c.place_in-k.ensures.none (omega arith)
-
-pub returns : goal.returns
-returns c = c.find_byte.ensures ∙ sym c.loop-k.invariant
+pub loop-n-preserved : goal.loop-n-preserved
+loop-n-preserved c =
+    let a = c.args in
+    let s = a.s.now in
+    let x = c.as_chunks.ensures in
+    c.loop-n.invariant ∙ block_miss a.b s a.at _ (take-length-drop s a.at) (omega arith) _ x.front x.front_len c.loop-n.n _ c.loop-n-test.true c.place_in-k.ensures c.if-k-lt64.false

@@ -1,10 +1,6 @@
-use Prim.Native.Nat.{◌-◌, ◌≤◌}
 use Rattle.base.specs.Code.Skips.{Skips}
 use Rattle.search.specs.First.{first_at}
 use Rattle.search.proofs.string_before.Given as goal
 
 abbrev pub invariant-loop-i : goal.invariant-loop-i
-invariant-loop-i l = (l.i ≤ l.end) × Skips (first_at l.p l.s) l.at l.i
-
-abbrev pub decreases-loop-i : goal.decreases-loop-i
-decreases-loop-i l = l.end - l.i
+invariant-loop-i l = Skips (first_at l.p l.s) l.at l.i

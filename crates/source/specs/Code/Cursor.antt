@@ -1,4 +1,5 @@
 -- Where the parameters stand in their text, one after the other.
+use Rattle.std.specs.Prelude.{Option, Some, None}
 use Rattle.std.specs.Prelude.{ℕ, ◌+◌, ◌-◌, ◌<◌, ◌≤◌, ◌≡◌, List, [], ◌∷◌, length, take, drop}
 use Rattle.base.specs.Code.Cursor.{Visit, piece, no_piece}
 use Rattle.base.specs.Lists.{is_not, take_while}
@@ -6,8 +7,6 @@ use Rattle.trim.specs.Trim.{trimmed, leading_blanks}
 use Rattle.source.specs.Parameters.{pieces, name, parameters}
 use Rattle.source.specs.declared.parameters.Span.{Span}
 use Rattle.source.specs.declared.parameters.Parameter.{Parameter}
-use Rattle.source.specs.declared.parameters.NextParameter.{NextParameter}
-use Rattle.source.specs.declared.parameters.NextParameter.TheVariants.{Is, Done}
 
 -- the text before the first b, or all of it where there is none
 abbrev pub before : ℕ → List ℕ → List ℕ
@@ -30,31 +29,31 @@ comma (p ∷ ps) = 1
 
 -- the parameter of the first piece, which starts at a place; a text always has one
 abbrev pub placed : ℕ → List (List ℕ) → Parameter
-placed at [] = record { start = at; end = at; next = at }
-placed at (p ∷ ps) = record { start = at + (name_span p).start; end = at + (name_span p).end; next = at + length p + comma ps }
+placed at [] = record { name = record { start = at; end = at }; next = at }
+placed at (p ∷ ps) = record { name = record { start = at + (name_span p).start; end = at + (name_span p).end }; next = at + length p + comma ps }
 
 -- the first parameter that is kept of pieces, the first of which starts at a place
-abbrev pub first_kept : ℕ → List (List ℕ) → NextParameter
-first_kept at [] = Done
-first_kept at (p ∷ ps) = elim (name p) [ [] ↦ first_kept (at + length p + 1) ps | a ∷ n ↦ Is (placed at (p ∷ ps)) ]
+abbrev pub first_kept : ℕ → List (List ℕ) → Option Parameter
+first_kept at [] = None
+first_kept at (p ∷ ps) = elim (name p) [ [] ↦ first_kept (at + length p + 1) ps | a ∷ n ↦ Some (placed at (p ∷ ps)) ]
 
 -- the next parameter from a place on
-abbrev pub parameter_at : List ℕ → ℕ → NextParameter
+abbrev pub parameter_at : List ℕ → ℕ → Option Parameter
 parameter_at s at = first_kept at (pieces (drop at s))
 
 -- what a cursor visits at a place: the next parameter, and then the place behind it
-abbrev pub visit_of_parameter : List ℕ → NextParameter → Visit (List ℕ)
-visit_of_parameter s (Is p) = piece (take (p.end - p.start) (drop p.start s)) p.next
-visit_of_parameter s Done = no_piece
+abbrev pub visit_of_parameter : List ℕ → Option Parameter → Visit (List ℕ)
+visit_of_parameter s (Some p) = piece (take (p.name.end - p.name.start) (drop p.name.start s)) p.next
+visit_of_parameter s None = no_piece
 
 abbrev pub visit_parameter : List ℕ → ℕ → Visit (List ℕ)
 visit_parameter s at = visit_of_parameter s (parameter_at s at)
 
 -- the parameter at a place lies within the text, and the parameters from that place on are it and those from the next place on
 pub record IsParameter (s : List ℕ) (at : ℕ) (p : Parameter) : Type 0 where
-  pub starts : at ≤ p.start
-  pub filled : p.start < p.end
-  pub before : p.end ≤ p.next
+  pub starts : at ≤ p.name.start
+  pub filled : p.name.start < p.name.end
+  pub before : p.name.end ≤ p.next
   pub on : at < p.next
   pub fits : p.next ≤ length s
-  pub is : parameters (drop at s) ≡ take (p.end - p.start) (drop p.start s) ∷ parameters (drop p.next s)
+  pub is : parameters (drop at s) ≡ take (p.name.end - p.name.start) (drop p.name.start s) ∷ parameters (drop p.next s)

@@ -1,5 +1,5 @@
 -- A step of trimming: White_Space at a text's start or at its end.
-use Rattle.std.specs.Prelude.{ℕ, ◌+◌, ◌-◌, ◌≤◌, ◌≡◌, List, [], ◌∷◌, reverse, Bool, cond, length, drop, take}
+use Rattle.std.specs.Prelude.{ℕ, ◌+◌, ◌-◌, ◌≤◌, ◌≡◌, List, reverse, Bool, length, drop, take}
 use Rattle.trim.specs.Trim.{white2, white3, start_trimmed, back}
 
 -- the tests of `back`
@@ -22,10 +22,3 @@ WhiteAt s at n = Trims start_trimmed (drop at s) (drop (at + n) s) (length s - a
 -- n bytes of White_Space end before a position, or n is 0 and none ends there
 abbrev pub WhiteBefore : List ℕ → ℕ → ℕ → Type 0
 WhiteBefore s e n = Trims back (reverse (take e s)) (reverse (take (e - n) s)) e n
-
--- how many bytes the White_Space character of three bytes has that a text starts with; 0 where it starts with none
-abbrev pub three_len : List ℕ → ℕ
-three_len [] = 0
-three_len (a ∷ []) = 0
-three_len (a ∷ b ∷ []) = 0
-three_len (a ∷ b ∷ c ∷ s) = cond (white3 a b c) 3 0

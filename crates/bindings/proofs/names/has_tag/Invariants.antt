@@ -1,10 +1,6 @@
-use Prim.Native.Nat.{◌-◌, ◌≤◌}
 use mathlib.Core.Path.{◌≡◌}
 use Rattle.bindings.specs.Code.Table.{has_tag}
 use Rattle.bindings.proofs.names.has_tag.Given as goal
 
 abbrev pub invariant-loop-i : goal.invariant-loop-i
-invariant-loop-i l = (l.i ≤ 16) × (l.any ≡ has_tag l.tags l.from l.i l.tag)
-
-abbrev pub decreases-loop-i : goal.decreases-loop-i
-decreases-loop-i l = 16 - l.i
+invariant-loop-i l = l.any ≡ has_tag l.tags l.from l.i l.tag

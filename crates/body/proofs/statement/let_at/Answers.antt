@@ -2,23 +2,17 @@
 -- Assumes nothing.
 use mathlib.Core.Path.{sym, ◌∙◌}
 use native.Mathlib.Omega.{arith}
-use Rattle.body.proofs.Places.{equals_inside, let-absent, let-found}
+use Rattle.body.proofs.Places.{equals_inside}
 use Rattle.body.proofs.statement.let_at.Goals as goal
 
-pub returns-in_default : goal.returns-in_default
-returns-in_default c = let a = c in sym (let-absent a.args.contract.now a.args.start a.args.end a.requires.0 a.requires.1 (sym c.find_byte-found.ensures ∙ c.in_default.is))
-
 pub overflow_add-equals : goal.overflow_add-equals
-overflow_add-equals c = let a = c in let e = equals_inside a.args.contract.now a.args.start a.args.end a.requires.0 a.requires.1 _ (sym c.find_byte-found.ensures ∙ c.in-At.is) in omega arith
+overflow_add-equals c = let a = c.args in let e = equals_inside a.contract.now a.text.start a.text.end c.requires.ordered c.requires.high _ (sym c.find_byte.ensures ∙ c.in-Some.is) in omega arith
 
-pub trimmed_part-name-requires : goal.trimmed_part-name-requires
-trimmed_part-name-requires c = let a = c in let e = equals_inside a.args.contract.now a.args.start a.args.end a.requires.0 a.requires.1 _ (sym c.find_byte-found.ensures ∙ c.in-At.is) in (omega arith, omega arith)
+pub overflow_add-expr : goal.overflow_add-expr
+overflow_add-expr c = let a = c.args in let e = equals_inside a.contract.now a.text.start a.text.end c.requires.ordered c.requires.high _ (sym c.find_byte.ensures ∙ c.in-Some.is) in omega arith
 
-pub overflow_add-equals-2 : goal.overflow_add-equals-2
-overflow_add-equals-2 c = let a = c in let e = equals_inside a.args.contract.now a.args.start a.args.end a.requires.0 a.requires.1 _ (sym c.find_byte-found.ensures ∙ c.in-At.is) in omega arith
+pub trimmed_part-requires : goal.trimmed_part-requires
+trimmed_part-requires c = let a = c.args in let e = equals_inside a.contract.now a.text.start a.text.end c.requires.ordered c.requires.high _ (sym c.find_byte.ensures ∙ c.in-Some.is) in record { low = omega arith; ordered = omega arith; high = omega arith }
 
-pub trimmed_part-expr-requires : goal.trimmed_part-expr-requires
-trimmed_part-expr-requires c = let a = c in let e = equals_inside a.args.contract.now a.args.start a.args.end a.requires.0 a.requires.1 _ (sym c.find_byte-found.ensures ∙ c.in-At.is) in (omega arith, omega arith)
-
-pub returns : goal.returns
-returns c = let a = c in let f = let-found a.args.contract.now a.args.start a.args.end a.requires.0 a.requires.1 _ (sym c.find_byte-found.ensures ∙ c.in-At.is) in cc
+pub trimmed_part-requires-2 : goal.trimmed_part-requires-2
+trimmed_part-requires-2 c = let a = c.args in let e = equals_inside a.contract.now a.text.start a.text.end c.requires.ordered c.requires.high _ (sym c.find_byte.ensures ∙ c.in-Some.is) in record { low = omega arith; ordered = omega arith; high = omega arith }

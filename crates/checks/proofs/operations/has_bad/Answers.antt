@@ -1,28 +1,18 @@
--- `operations::has_bad` meets its contract: while there is no hit, the operations passed pass.
-use Prim.Native.Nat.{◌+◌}
-use mathlib.Core.Path.{◌≡◌, sym, ◌∙◌}
-use native.Mathlib.Omega.{arith}
-use Rattle.base.specs.Code.Skips.{Skips}
-use Rattle.base.proofs.Skips.{either_more, skips_all}
-use Rattle.checks.specs.Code.Blocks.{check_from}
-use Rattle.checks.proofs.Blocks.{skips_passing}
+-- `operations::has_bad` meets its contract: no operation is one that the verifier refuses.
+use Rattle.std.proofs.Common.{rules, ◌∙◌, sym, false, ◌||◌}
+use Rattle.std.specs.List.{zip}
+use Rattle.std.proofs.lemmas.Iterator.{YieldsList-from_slice, YieldsList-from_zip}
+use Rattle.std.proofs.lemmas.Iterator.Consumers.{fold_from_yields_List}
+use Rattle.kinds.specs.Kinds.{operation}
+use Rattle.kinds.proofs.Folds.{fold_any}
+use Rattle.checks.specs.Code.Blocks.{is_bad}
+use Rattle.checks.proofs.Laws.{good_pass}
 use Rattle.checks.proofs.operations.has_bad.Goals as goal
 
-pub loop-k-init : goal.loop-k-init
-loop-k-init c = (omega arith, λ e k h. absurd (omega arith))
-
-pub loop-k-preserved : goal.loop-k-preserved
-loop-k-preserved c =
-    let a = c.args in
-    let p = c.requires in
-    let l = c.loop-k in (
-      omega arith,
-      λ e. either_more (λ i. Skips (check_from a.kinds.now a.operands.now) i (i + 1)) a.at l.k l.hit _ l.invariant.1
-          (λ f. skips_passing a.kinds.now a.operands.now (a.at + l.k) p.0 (omega arith) (c.is_bad.ensures f)) (sym c.either-hit.ensures ∙ e),
-    )
-
 pub returns : goal.returns
-returns c =
-    let a = c.args in
-    let l = c.loop-k in
-    let z : l.k ≡ a.n = omega arith in λ e. skips_all (check_from a.kinds.now a.operands.now) a.n a.at (rw z at (l.invariant.1 e))
+returns c e =
+    let n = c.args.size in
+    let ks = c.args.block.kinds.now in
+    let vs = c.args.block.operands.now in
+    let k = fold_from_yields_List _ (λ hit p. hit || is_bad n (operation p.0 p.1)) false _ c.fold.ensures.ran (YieldsList-from_zip (YieldsList-from_slice ks cc) (YieldsList-from_slice vs cc)) (λ a x b q h. search rules) ∙ fold_any (λ p. is_bad n (operation p.0 p.1)) false (zip ks vs) in
+    good_pass n ks vs (sym k ∙ e)

@@ -1,22 +1,17 @@
--- `operations::has_far` meets its contract: known kinds with operands below the program's length pass.
-use Prim.Native.Nat.{◌+◌}
-use mathlib.Core.Path.{sym, ◌∙◌}
-use native.Mathlib.Omega.{arith}
-use lib.ListN.{length, get_or}
-use Rattle.base.proofs.Skips.{skips_all}
-use Rattle.checks.specs.Code.Blocks.{check_from}
-use Rattle.checks.proofs.Blocks.{near_passes, skips_passing}
+-- `operations::has_far` meets its contract: no kind is above 15, and no operand at or above the length.
+use Rattle.std.proofs.Common.{rules, ◌∙◌, sym, false, ltb, leb, ◌||◌}
+use Rattle.std.proofs.lemmas.Iterator.{YieldsList-from_slice}
+use Rattle.std.proofs.lemmas.Iterator.Consumers.{fold_from_yields_List}
 use Rattle.base.proofs.Tests.{or_left, or_right}
+use Rattle.kinds.proofs.Folds.{fold_any}
+use Rattle.checks.proofs.Laws.{near_pass}
 use Rattle.checks.proofs.operations.has_far.Goals as goal
 
 pub returns : goal.returns
 returns c e =
-    let a = c.args in
-    let p = c.requires in
-    let f = sym c.either.ensures ∙ e in
-    let k = c.has_above-kind.ensures (or_left _ _ f) in
-    let v = c.has_from-operand.ensures (or_right c.has_above-kind.result _ f) in
-    let ks = a.kinds.now in
-    let vs = a.operands.now in
-    skips_all (check_from ks vs) a.n a.at
-    (λ j h. skips_passing ks vs (a.at + j) p.0 (omega arith) (near_passes (length ks) (get_or ks (a.at + j) 0) (get_or vs (a.at + j) 0) (k j h) (v j h)))
+    let n = c.args.size in
+    let ks = c.args.block.kinds.now in
+    let vs = c.args.block.operands.now in
+    let k = fold_from_yields_List _ (λ hit a. hit || ltb 15 a) false _ c.fold-unknown.ensures.ran (YieldsList-from_slice ks cc) (λ a x b q h. search rules) ∙ fold_any (ltb 15) false ks in
+    let v = fold_from_yields_List _ (λ hit a. hit || leb n a) false _ c.fold-far.ensures.ran (YieldsList-from_slice vs cc) (λ a x b q h. search rules) ∙ fold_any (leb n) false vs in
+    near_pass n ks vs (sym k ∙ or_left _ _ e) (sym v ∙ or_right c.fold-unknown.result _ e)

@@ -3,8 +3,8 @@ use mathlib.Core.Path.{sym, ap}
 use Rattle.emission.specs.Code.Factor.{named_by}
 use Rattle.emission.proofs.factor.named.Goals as goal
 
-pub returns-in-At : goal.returns-in-At
-returns-in-At c = sym (ap named_by c.in-At.is)
+pub returns-in-Some : goal.returns-in-Some
+returns-in-Some c = sym (ap named_by c.in-Some.is)
 
-pub returns-in-Nothing : goal.returns-in-Nothing
-returns-in-Nothing c = sym (ap named_by c.in-Nothing.is)
+pub returns-in-None : goal.returns-in-None
+returns-in-None c = sym (ap named_by c.in-None.is)

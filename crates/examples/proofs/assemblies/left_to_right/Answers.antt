@@ -4,4 +4,4 @@ use Rattle.examples.proofs.Bench.{bench}
 use Rattle.examples.proofs.assemblies.left_to_right.Goals as goal
 
 pub returns : goal.returns
-returns c = c.assemble.ensures.answer ∙ bench.e9_left
+returns c = c.answer.ensures ∙ bench.e9_left

@@ -5,4 +5,4 @@ use Rattle.examples.proofs.Bench.{bench}
 use Rattle.examples.proofs.readings.push_minus.Goals as goal
 
 pub returns : goal.returns
-returns c = ap parsed_ops_numbered c.read.ensures.answer ∙ bench.e7_minus
+returns c = ap parsed_ops_numbered c.answer.ensures ∙ bench.e7_minus

@@ -5,4 +5,4 @@ use Rattle.examples.proofs.Bench.{bench}
 use Rattle.examples.proofs.runs.div_price.Goals as goal
 
 pub returns : goal.returns
-returns c = ap run_answer_numbered c.plain.ensures.answer ∙ bench.e3_price
+returns c = ap run_answer_numbered c.answer.ensures ∙ bench.e3_price

@@ -5,4 +5,4 @@ use Rattle.examples.proofs.Bench.{bench}
 use Rattle.examples.proofs.runs.halt.Goals as goal
 
 pub returns : goal.returns
-returns c = ap run_answer_numbered c.plain.ensures.answer ∙ bench.e4
+returns c = ap run_answer_numbered c.answer.ensures ∙ bench.e4

@@ -5,4 +5,4 @@ use Rattle.examples.proofs.Bench.{bench}
 use Rattle.examples.proofs.runs.store_65536.Goals as goal
 
 pub returns : goal.returns
-returns c = ap run_answer_numbered c.on_four.ensures.answer ∙ bench.e6_beyond
+returns c = ap run_answer_numbered c.answer_on_four.ensures ∙ bench.e6_beyond

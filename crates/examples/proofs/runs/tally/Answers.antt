@@ -5,4 +5,4 @@ use Rattle.examples.proofs.Bench.{bench}
 use Rattle.examples.proofs.runs.tally.Goals as goal
 
 pub returns : goal.returns
-returns c = record { answer = ap run_answer_numbered c.limited.ensures.answer ∙ bench.e1_run; buffer = c.limited.ensures.stack ∙ bench.e1_stack }
+returns c = record { answer = ap run_answer_numbered c.plain.ensures.answer ∙ bench.e1_run; buffer = c.plain.ensures.stack ∙ bench.e1_stack }

@@ -5,4 +5,4 @@ use Rattle.examples.proofs.Bench.{bench}
 use Rattle.examples.proofs.runs.tally_short.Goals as goal
 
 pub returns : goal.returns
-returns c = ap run_answer_numbered c.limited.ensures.answer ∙ bench.e2
+returns c = ap run_answer_numbered c.answer.ensures ∙ bench.e2

@@ -3,6 +3,7 @@ use Rattle.std.proofs.Common.{ℕ, List, take, arith}
 use Rattle.machine.specs.Machine.{dup_of}
 use Rattle.base.proofs.Stack.{stack_pop}
 use Rattle.machine.proofs.Stack.{no_item}
+use Rattle.machine.specs.declared.Refusal.TheVariants.{StackUnderflow}
 use Rattle.machine.proofs.Effects.{fails_by}
 use Rattle.machine.proofs.operations.dup.Goals as goal
 
@@ -10,7 +11,7 @@ pub returns-then-n-lt1 : goal.returns-then-n-lt1
 returns-then-n-lt1 c =
     let a = c.args in
     λ w h.
-    fails_by 47 0 c.stop.ensures (omega arith) (omega arith) (omega arith) h
+    fails_by StackUnderflow c.stop.ensures (omega arith) (omega arith) h
     (no_item (λ (s : List ℕ). dup_of s (take a.r.used w)) a.stack.now a.r.items c.if-n-lt1.true)
 
 pub returns : goal.returns

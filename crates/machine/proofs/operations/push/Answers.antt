@@ -1,6 +1,7 @@
 -- `operations::push` meets its contract: room is left on the stack, or not.
 use Rattle.std.proofs.Common.{◌+◌, ◌<◌, ◌≤◌, length, arith, le-ltb, lt-ltb}
 use Rattle.base.proofs.Stack.{length_stack, stack_push}
+use Rattle.machine.specs.declared.Refusal.TheVariants.{StackLimitExceeded}
 use Rattle.machine.proofs.Effects.{fails_by, moves_by}
 use Rattle.machine.proofs.operations.push.Goals as goal
 use Rattle.machine.proofs.operations.push.Goals.{After-stop}
@@ -11,7 +12,7 @@ full c = omega arith
 
 pub returns-then-n-ge-MAX_STACK_ITEMS : goal.returns-then-n-ge-MAX_STACK_ITEMS
 returns-then-n-ge-MAX_STACK_ITEMS c =
-    λ w h. fails_by 48 0 c.stop.ensures (omega arith) (omega arith) (omega arith) h (simp (length_stack, le-ltb _ _ (full (goal.at.returns-then-n-ge-MAX_STACK_ITEMS c).After-stop)))
+    λ w h. fails_by StackLimitExceeded c.stop.ensures (omega arith) (omega arith) h (simp (length_stack, le-ltb _ _ (full (goal.at.returns-then-n-ge-MAX_STACK_ITEMS c).After-stop)))
 
 pub returns : goal.returns
 returns c =

@@ -1,7 +1,8 @@
 -- `operations::swap` meets its contract: the two top items change places.
-use Rattle.std.proofs.Common.{ℕ, ◌-◌, ◌≤◌, List, length, get_or, take, refl, arith, length-set}
+use Rattle.std.proofs.Common.{ℕ, ◌-◌, ◌≤◌, List, length, get_or, take, refl, arith}
 use Rattle.machine.specs.Machine.{swap_of}
 use Rattle.machine.proofs.Stack.{below_two, stack_two, stack_swap}
+use Rattle.machine.specs.declared.Refusal.TheVariants.{StackUnderflow}
 use Rattle.machine.proofs.Effects.{fails_by, moves_by}
 use Rattle.machine.proofs.operations.swap.Goals as goal
 
@@ -9,14 +10,8 @@ pub returns-then-n-lt2 : goal.returns-then-n-lt2
 returns-then-n-lt2 c =
     let a = c.args in
     λ w h.
-    fails_by 47 0 c.stop.ensures (omega arith) (omega arith) (omega arith) h
+    fails_by StackUnderflow c.stop.ensures (omega arith) (omega arith) h
     (below_two (λ (s : List ℕ). swap_of s (take a.r.used w)) a.stack.now a.r.items c.if-n-lt2.true (λ b. refl))
-
-pub bounds-stack-n-4 : goal.bounds-stack-n-4
-bounds-stack-n-4 c = simp length-set (omega arith)
-
-pub shape_of-stack : goal.shape_of-stack
-shape_of-stack c = simp length-set
 
 pub returns : goal.returns
 returns c =

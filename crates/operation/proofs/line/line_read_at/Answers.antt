@@ -1,16 +1,15 @@
 -- `line::line_read_at` meets its contract: what is known from the start on is what the line says.
--- Assumes nothing.
-use mathlib.Core.Path.{refl, sym, subst}
+use mathlib.Core.Path.{refl, sym, ap, ◌∙◌}
 use Rattle.operation.specs.Line.{from_str}
-use Rattle.operation.specs.Code.Fast.{FastRead}
+use Rattle.operation.specs.Code.Fast.{known_read}
 use Rattle.operation.proofs.line.line_read_at.Goals as goal
 
-pub returns-in-Op : goal.returns-in-Op
-returns-in-Op c =
-    let a = c.args in
-    sym (subst (FastRead a.text.now a.at) c.in-Op.is c.fast_line_at-known.ensures from_str (λ operand d e. refl) a.line)
+pub returns-in-Some-op : goal.returns-in-Some-op
+returns-in-Some-op c =
+    let k = c.in-Some.known in
+    sym (c.in-Some.ensures from_str (λ operand d e. refl) c.args.line ∙ ap (λ o. record { read = known_read o; next = k.next }) c.in-Some-op.is)
 
-pub returns-in-Skip : goal.returns-in-Skip
-returns-in-Skip c =
-    let a = c.args in
-    sym (subst (FastRead a.text.now a.at) c.in-Skip.is c.fast_line_at-known.ensures from_str (λ operand d e. refl) a.line)
+pub returns-in-None : goal.returns-in-None
+returns-in-None c =
+    let k = c.in-Some.known in
+    sym (c.in-Some.ensures from_str (λ operand d e. refl) c.args.line ∙ ap (λ o. record { read = known_read o; next = k.next }) c.in-None.is)

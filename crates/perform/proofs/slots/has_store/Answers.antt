@@ -1,14 +1,13 @@
--- `slots::has_store` meets its contract: a hit so far, or a Store in what is left of the program.
-use native.Mathlib.Omega.{arith}
-use mathlib.Core.Path.{refl, sym, ◌∙◌}
-use Rattle.perform.proofs.Needed.{store_next, store_end}
+-- `slots::has_store` meets its contract: the fold over the kinds is the test of all of them.
+use Rattle.std.proofs.Common.{rules, ◌∙◌, sym, false, eqb, ◌||◌}
+use Rattle.std.proofs.lemmas.Iterator.{YieldsList-from_slice}
+use Rattle.std.proofs.lemmas.Iterator.Consumers.{fold_from_yields_List}
+use Rattle.kinds.proofs.Folds.{fold_any}
+use Rattle.perform.proofs.Needed.{stores_any}
 use Rattle.perform.proofs.slots.has_store.Goals as goal
 
-pub loop-i-init : goal.loop-i-init
-loop-i-init c = (omega arith, refl)
-
-pub loop-i-preserved : goal.loop-i-preserved
-loop-i-preserved c = let l = c.loop-i in (omega arith, rw c.either-hit.ensures (store_next c.args.kinds.now l.hit l.i (omega arith) ∙ l.invariant.1))
-
 pub returns : goal.returns
-returns c = let l = c.loop-i in sym (store_end c.args.kinds.now l.hit l.i (omega arith)) ∙ l.invariant.1
+returns c =
+    let ks = c.args.kinds.now in
+    fold_from_yields_List _ (λ hit k. hit || eqb k 12) false _ c.fold.ensures.ran (YieldsList-from_slice ks cc) (λ a x b q h. search rules)
+    ∙ fold_any (λ k. eqb k 12) false ks ∙ sym (stores_any ks)

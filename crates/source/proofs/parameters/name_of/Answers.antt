@@ -1,12 +1,12 @@
 -- `source::parameters::name_of` meets its contract: the piece is trimmed, cut at the colon, and trimmed again.
-use Prim.Native.Nat.{◌+◌, ◌≤◌}
+use Prim.Native.Nat.{◌≤◌}
 use mathlib.Core.Path.{sym}
 use native.Mathlib.Omega.{arith}
 use lib.ListN.{length}
 use lib.Seq.{length-take-le}
 use Rattle.source.proofs.Names.{whole_fits, colon_fits, name_is, name_inside}
 use Rattle.source.proofs.parameters.name_of.Goals as goal
-use Rattle.source.proofs.parameters.name_of.Goals.{After-trimmed_span-name, After-trimmed_span-whole}
+use Rattle.source.proofs.parameters.name_of.Goals.{After-trimmed_span-whole}
 
 whole_here : (c : After-trimmed_span-whole) → let w = c.trimmed_span-whole.result in (w.start ≤ w.end) × (w.end ≤ length c.args.piece.now)
 whole_here c = whole_fits c.args.piece.now c.trimmed_span-whole.result c.trimmed_span-whole.ensures
@@ -26,27 +26,10 @@ slice_bounds-trimmed_span-end c =
     let k = c.cut-colon in
     sym (length-take-le _ _ (colon_fits w.args.piece.now w.trimmed_span-whole.result w.trimmed_span-whole.ensures k.result k.ensures))
 
-inside : (c : After-trimmed_span-name) →
-    let w = c.trimmed_span-whole.result in
-    let n = c.trimmed_span-name.result in
-    let p = c.args.piece.now in
-    (w.start + n.start ≤ length p) × (w.start + n.end ≤ length p)
-inside c =
-    let k = c.cut-colon in
-    let w = c in
-    name_inside w.args.piece.now w.trimmed_span-whole.result w.trimmed_span-whole.ensures k.result k.ensures
-    c.trimmed_span-name.result c.trimmed_span-name.ensures
-
-pub overflow_add-result : goal.overflow_add-result
-overflow_add-result c = let i = inside (goal.at.overflow_add-result c).After-trimmed_span-name in omega arith
-
-pub overflow_add-result-2 : goal.overflow_add-result-2
-overflow_add-result-2 c = let i = inside (goal.at.overflow_add-result-2 c).After-trimmed_span-name in omega arith
+pub behind-requires : goal.behind-requires
+behind-requires c =
+    let i = name_inside c.args.piece.now c.trimmed_span-whole.result c.trimmed_span-whole.ensures c.cut-colon.result c.cut-colon.ensures c.trimmed_span.result c.trimmed_span.ensures in
+    (omega arith, omega arith)
 
 pub returns : goal.returns
-returns c =
-    let n = c in
-    let k = n.cut-colon in
-    let w = n in
-    name_is w.args.piece.now w.trimmed_span-whole.result w.trimmed_span-whole.ensures k.result k.ensures
-    n.trimmed_span-name.result n.trimmed_span-name.ensures
+returns c = rw c.behind.ensures (name_is c.args.piece.now c.trimmed_span-whole.result c.trimmed_span-whole.ensures c.cut-colon.result c.cut-colon.ensures c.trimmed_span.result c.trimmed_span.ensures)

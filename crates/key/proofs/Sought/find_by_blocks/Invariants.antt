@@ -1,0 +1,11 @@
+use Prim.Native.Nat.{◌-◌, ◌≤◌}
+use mathlib.Core.Path.{◌≡◌}
+use Rattle.search.specs.First.{first_at}
+use Rattle.key.specs.Key.{quoted}
+use Rattle.key.proofs.Sought.find_by_blocks.Given as goal
+
+abbrev pub invariant-loop-i : goal.invariant-loop-i
+invariant-loop-i l = (l.i ≤ l.self.stop) × (first_at (quoted l.self.key.now) l.self.s.now l.at ≡ first_at (quoted l.self.key.now) l.self.s.now l.i)
+
+abbrev pub decreases-loop-i : goal.decreases-loop-i
+decreases-loop-i l = l.self.stop - l.i

@@ -1,0 +1,109 @@
+// The verifier, the machine and the transitions. The lent stack and work buffers hold 9 before the call.
+use crate::answer::Told;
+use crate::call::RunCall;
+use crate::case::Case;
+use crate::gate;
+use crate::list::List;
+use checks::VmError;
+use kinds::Program;
+use numbered::Answer;
+use perform::{Run, State, Success};
+use std::io;
+
+pub fn verify(rt: &(impl Print + AllocGlobal), case: Case) -> io::Result<()> {
+    let kinds = case.bytes(rt.alloc(), 2)?;
+    let operands = case.numbers(rt.alloc(), 3)?;
+    let program = Program {
+        kinds: &kinds,
+        operands: &operands,
+    };
+    rt.print(Told(checks::verify(program, case.number(4) as usize).numbered()))
+}
+
+pub fn run(rt: &(impl Print + AllocGlobal), call: RunCall, case: Case) -> io::Result<()> {
+    let kinds = case.bytes(rt.alloc(), 2)?;
+    let operands = case.numbers(rt.alloc(), 3)?;
+    let mut stack = [9; 4100];
+    let mut work = [9; 65540];
+    let mut storage = case.numbers(rt.alloc(), 9)?;
+    let texts = case.text(rt.alloc(), 10)?;
+    let run = Run {
+        program: Program {
+            kinds: &kinds,
+            operands: &operands,
+        },
+        caller: case.number(5),
+        gas_limit: case.number(6),
+        state: State {
+            used: case.number(4) as usize,
+        },
+    };
+    replayed(
+        rt,
+        call,
+        case.is_of_document(),
+        run,
+        &texts,
+        &mut stack[..case.length(7, 4100)],
+        &mut work[..case.length(8, 65540)],
+        &mut storage,
+    )
+}
+
+// What the original has after the call: the items and the used slots. Document 01 says it of all three buffers whole.
+fn replayed(
+    rt: &impl Print,
+    call: RunCall,
+    whole: bool,
+    run: Run,
+    texts: &[u8],
+    stack: &mut [u64],
+    work: &mut [u64],
+    storage: &mut [u64],
+) -> io::Result<()> {
+    let answer = called(call, run, texts, stack, work, storage);
+    rt.print(Told(answer.numbered()))?;
+    if whole {
+        return print!(rt; " | {} | {} | {}", List(stack), List(storage), List(work));
+    }
+    let (items, used) = match answer {
+        Ok(success) => (success.items, success.state.used),
+        Err(_) => (0, run.state.used),
+    };
+    print!(rt;
+        " | {} | {}",
+        List(front(stack, items)),
+        List(front(storage, used))
+    )
+}
+
+fn called(
+    call: RunCall,
+    run: Run,
+    texts: &[u8],
+    stack: &mut [u64],
+    work: &mut [u64],
+    storage: &mut [u64],
+) -> Result<Success, VmError> {
+    let gate = gate::of_texts(texts);
+    match call {
+        RunCall::RunWithGas => vm::run_with_gas(run, stack, work, storage),
+        RunCall::ExecuteStateTransitionWithGas => {
+            vm::execute_state_transition_with_gas(gate, run, stack, work, storage)
+        }
+        RunCall::ExecuteStateTransition => vm::execute_state_transition(
+            gate,
+            run.program,
+            run.caller,
+            run.state,
+            stack,
+            work,
+            storage,
+        ),
+    }
+}
+
+// The first n entries, or all where there are fewer.
+fn front(s: &[u64], n: usize) -> &[u64] {
+    &s[..n.min(s.len())]
+}

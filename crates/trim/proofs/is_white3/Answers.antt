@@ -1,6 +1,0 @@
--- `trim::is_white3` meets its contract: the tests are joined as the definition joins them.
--- Assumes nothing.
-use Rattle.trim.proofs.is_white3.Goals as goal
-
-pub returns : goal.returns
-returns c = cc
