@@ -41,7 +41,8 @@ fn is_given(rt: &impl Env, i: usize) -> bool {
     }
 }
 
-// Each file is read up to one byte more than a contract or a vector may have, so the buffers are fixed.
+// Each file is read up to one byte more than a contract or a vector may have, so the buffers are fixed. Contract, vector and stem stay
+// three slices: each has a bound and a refusal of its own.
 fn read(
     rt: &impl Files,
     stdout: &mut impl Write,

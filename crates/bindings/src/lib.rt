@@ -60,6 +60,7 @@ impl Bindings {
     }
 }
 
+// An index is asked to be below 256 at each call: a type for it would be made anew where a count gives it, and is no plainer.
 impl Values {
     // The other part of a row, that of binding i.
     pub fn set(&mut self, i: usize, row: Row)

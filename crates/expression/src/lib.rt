@@ -80,7 +80,8 @@ pub fn parse(text: &[u8], at: usize, table: Bindings, values: Values) -> Result<
     whole(text, expression(known, at, DEPTH)?.figures)
 }
 
-// Sums joined by < and ==. Room is how many more parentheses may be open. The three levels differ in the sign's test and in the level
+// Sums joined by < and ==. Room is how many more parentheses may be open; it and the offset differ from call to call, and `CanParse` is
+// one fact of `known`. The three levels differ in the sign's test and in the level
 // that they call; they are three functions since the project's rules give the cycle that form, and a cycle goes through no closure.
 #[cycle(expression_factor_sum_term)]
 fn expression(known: Known, at: usize, room: usize) -> Result<Operand, ExprError>

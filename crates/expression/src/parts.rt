@@ -1,4 +1,5 @@
 // Signs of an expression: a token of one byte or ==, and the operators among them.
+// Offsets stay beside the slice, since the contracts speak of places in the whole text.
 ghost use Rattle.std.specs.Prelude.{◌≡◌};
 ghost use Rattle.grammar.specs.Parse.{symbol, term, sum, expression, is_operator_at};
 ghost use Rattle.expression.specs.Code.Parts.{sign_at};

@@ -52,6 +52,7 @@ pub fn find_quoted(s: &[u8], key: &[u8]) -> Option<usize>
     sought.find_by_blocks(near)
 }
 
+// An offset differs from call to call, so `at ≤ stop` is asked of each, and is no fact of the struct.
 impl<'a> Sought<'a> {
     // To try the near places of a block costs at most 32 comparisons for each byte of the key. It is done as often as makes 4 comparisons
     // for each byte of s, and some. The step varies, so the loop is a `while`.

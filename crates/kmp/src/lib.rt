@@ -1,4 +1,5 @@
 // The first occurrence of a byte string in time linear in both lengths: the search of Knuth, Morris and Pratt (1977).
+// Offsets stay beside the slice, since the contracts speak of places in the whole text.
 #![tactic(auto)]
 
 ghost use Rattle.std.specs.Prelude.{◌≡◌, ◌+◌, ◌<◌, ◌≤◌, length};

@@ -1,4 +1,5 @@
 // What one line of a text says.
+// Offsets stay beside the slice, since the contracts speak of places in the whole text.
 ghost use Rattle.std.specs.Prelude.{◌≡◌, ◌+◌, ◌-◌, ◌^◌, ◌<◌, ◌≤◌, length, take, drop};
 ghost use Rattle.kinds.specs.Kinds.{kind_of};
 ghost use Rattle.operation.specs.Line.{from_str, bad_number, operand_of, skipped, line_of};

@@ -100,7 +100,7 @@ fn start(gas_limit: u64, used: usize) -> Regs
     }
 }
 
-// The answer of a run that is over, and what it leaves in the buffers.
+// The answer of a run that is over, and what it leaves in the buffers. `Lent` speaks of the `&mut` buffers too, so no struct holds it.
 fn finish(
     run: Run,
     r: Regs,

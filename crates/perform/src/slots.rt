@@ -1,5 +1,6 @@
 // Copies, between storage and work buffer, of the used slots that a run needs. `Run::perform` and `finish` call them behind the
 // test of lengths (34).
+// How much is used stays beside the buffers: what lies past it is theirs too, and each promise speaks of it.
 ghost use Rattle.std.specs.Prelude.{◌≡◌, ◌&&◌, ◌≤◌, ltb, length};
 ghost use Rattle.kinds.specs.Kinds.{operation};
 ghost use Rattle.kinds.specs.Program.{Paired};

@@ -1,5 +1,6 @@
 // The first occurrence of a byte, and of a byte string, in a slice starting at an offset.
 // Whole blocks of offsets are passed by tests that have no branch and compile to vector code.
+// Offsets stay beside the slice, since the contracts speak of places in the whole text.
 #![tactic(auto)]
 
 ghost use Rattle.std.specs.Prelude.{◌≡◌, [], ◌∷◌, true, false, ◌+◌, ◌<◌, ◌≤◌, ◌^◌, ℕ, length, drop};

@@ -1,4 +1,5 @@
 // The parameters of a function, one after the other, by their places.
+// Offsets stay beside the slice, since the contracts speak of places in the whole text.
 ghost use Rattle.std.specs.Prelude.{◌≡◌, ◌+◌, ◌^◌, ◌<◌, ◌≤◌, length, take, drop};
 ghost use Rattle.source.specs.Parameters.{pieces};
 ghost use Rattle.source.specs.Code.Cursor.{before, trimmed_span, name_span, placed, parameter_at};

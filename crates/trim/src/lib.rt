@@ -1,4 +1,5 @@
 // A text without the White_Space at its start and its end, as a part of what was lent.
+// Offsets stay beside the slice, since the contracts speak of places in the whole text.
 #![tactic(auto)]
 
 ghost use Rattle.std.specs.Prelude.{◌≡◌, ◌-◌, ◌≤◌, ◌<◌, length, get_or, drop};
