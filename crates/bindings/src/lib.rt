@@ -44,7 +44,8 @@ pub struct Row {
 }
 
 impl Bindings {
-    // The table's part of a row, behind the bindings that are there.
+    // The table's part of a row, behind the bindings that are there. `TableState::bind` of crate `scope` calls it where there are fewer
+    // than 256 (21).
     pub fn push(&mut self, row: Row)
         requires { self.old.count < 256 }
         ensures { self.new ≡ table_with self.old row }
@@ -62,7 +63,7 @@ impl Bindings {
 
 // An index is asked to be below 256 at each call: a type for it would be made anew where a count gives it, and is no plainer.
 impl Values {
-    // The other part of a row, that of binding i.
+    // The other part of a row, that of binding i. `TableState::bind` calls it with the count, where that is below 256 (21).
     pub fn set(&mut self, i: usize, row: Row)
         requires { i < 256 }
         ensures { self.new ≡ values_with self.old i row }
@@ -73,7 +74,7 @@ impl Values {
         self.tag[i] = row.tag;
     }
 
-    // The value of binding i.
+    // The value of binding i, which its callers have from `lookup`.
     pub fn value_of(&self, i: usize) -> Option<u64>
         requires { i < 256 }
         ensures { result ≡ value_unless_none (get_or self.now.none i false) (get_or self.now.value i 0) }

@@ -15,7 +15,8 @@ pub struct Known<'a> {
 }
 
 impl<'a> Known<'a> {
-    // The newest binding that has a name. The loop goes from it to older ones, past whole blocks: no iterator is plainer.
+    // The newest binding that has a name. Its callers have at most 256 bindings, from a table's count. The loop goes to older ones, past
+    // whole blocks: no iterator is plainer.
     pub fn lookup(self, name: &[u8]) -> Option<usize>
         requires { Few self }
         ensures { result ≡ known_found self.entry name.now }
