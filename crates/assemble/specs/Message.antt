@@ -7,7 +7,6 @@ use Rattle.ops.specs.Ops.{nth_line}
 use Rattle.numbered.specs.declared.Numbered.{Numbered}
 use Rattle.scope.specs.declared.refusal.AssembleError.{AssembleError}
 use Rattle.scope.specs.Numbers.{assemble_error_numbered}
-use Rattle.assemble.specs.declared.message.Refusal.{Refusal}
 
 -- by their numbers, from 1
 abbrev pub words : List (List ℕ)
@@ -61,5 +60,5 @@ abbrev pub refusal_message : Numbered → List ℕ
 refusal_message r = message_of r.number (get_or r.words 0 0)
 
 -- the same of the code's refusal
-abbrev pub refusal_of : AssembleError → Refusal
-refusal_of why = let r = assemble_error_numbered why in record { number = r.number; value = get_or r.words 0 0 }
+abbrev pub message : AssembleError → List ℕ
+message why = refusal_message (assemble_error_numbered why)

@@ -89,6 +89,6 @@ fn assemble_into(
 ) -> ExitCode {
     match say::say(contract, vector, stem, out) {
         Ok(n) => report::text(stdout, stderr, &out[..n]),
-        Err(refusal) => report::refused(stderr, refusal),
+        Err(why) => report::refused(stderr, why),
     }
 }

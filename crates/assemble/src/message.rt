@@ -1,64 +1,39 @@
 // What the program says of a refusal.
 ghost use Rattle.std.specs.Prelude.{◌≡◌, Some};
-ghost use Rattle.base.specs.Range.{within};
-ghost use Rattle.assemble.specs.Message.{words_of, message_of, refusal_of};
+ghost use Rattle.assemble.specs.Message.{words_of, message};
 
 use numbered::Answer;
 use scope::refusal::AssembleError;
 use std::fmt;
 
-// Document 01's number, and the place of a key or the number of a line that it carries, or 0.
 #[derive(Clone, Copy, Debug, PartialEq, Eq)]
-pub struct Refusal {
-    pub number: u64,
-    pub value: u64,
-}
-
-impl From<AssembleError> for Refusal {
-    ghost from_gives = { λ why refusal. refusal ≡ refusal_of why };
-
-    fn from(why: AssembleError) -> Refusal {
-        let refusal = why.numbered();
-        Refusal {
-            number: refusal.number,
-            value: refusal.words[0],
-        }
-    }
-}
+pub struct Message(pub AssembleError);
 
 // A line. The place of `expected` is 0.
-impl fmt::Display for Refusal {
-    ghost output = { λ refusal. Some (message_of refusal.number refusal.value) };
+impl fmt::Display for Message {
+    ghost output = { λ said. Some (message said.0) };
 
     fn fmt<W: fmt::Write>(&self, f: &mut fmt::Formatter<W>) -> fmt::Result {
-        let Refusal { number, value } = *self;
+        let number = self.0.numbered().number;
         let words = words(number);
-        if carries_key(number) {
-            if value == 0 {
-                return writeln!(f, "assemble: {number}: {words}, key expected");
+        match self.0 {
+            AssembleError::Key(_, place) => {
+                if place == 0 {
+                    return writeln!(f, "assemble: {number}: {words}, key expected");
+                }
+                writeln!(f, "assemble: {number}: {words}, key {place}")
             }
-            return writeln!(f, "assemble: {number}: {words}, key {value}");
+            AssembleError::NoEquals(line)
+            | AssembleError::Expression(_, line)
+            | AssembleError::TooLong(line) => {
+                writeln!(f, "assemble: {number}: {words}, line {line}")
+            }
+            _ => writeln!(f, "assemble: {number}: {words}"),
         }
-        if carries_line(number) {
-            return writeln!(f, "assemble: {number}: {words}, line {value}");
-        }
-        writeln!(f, "assemble: {number}: {words}")
     }
 }
 
-fn carries_key(number: u64) -> bool
-    ensures { result ≡ within 8 11 number }
-{
-    matches!(number, 8..=11)
-}
-
-fn carries_line(number: u64) -> bool
-    ensures { result ≡ within 12 20 number }
-{
-    matches!(number, 12..=20)
-}
-
-// Document 01's words for a number.
+// Document 01's words, which it has in a table by the number: over the enums they would be parted among four matches.
 fn words(number: u64) -> &'static str
     ensures { result.now ≡ words_of number }
 {

@@ -1,5 +1,6 @@
 // What the program writes, and its exit status. A write to standard output that fails is named on standard error.
-use crate::message::Refusal;
+use crate::message::Message;
+use scope::refusal::AssembleError;
 use std::io::Write;
 use std::process::ExitCode;
 
@@ -11,8 +12,8 @@ pub fn text(stdout: &mut impl Write, stderr: &mut impl Write, out: &[u8]) -> Exi
     ExitCode::SUCCESS
 }
 
-pub fn refused(stderr: &mut impl Write, refusal: Refusal) -> ExitCode {
-    let _ = write!(stderr, "{refusal}");
+pub fn refused(stderr: &mut impl Write, why: AssembleError) -> ExitCode {
+    let _ = write!(stderr, "{}", Message(why));
     ExitCode::SUCCESS
 }
 

@@ -82,16 +82,16 @@ pub stem_refused : {s vector : List ℕ} {o : Outcome Numbered (ℕ × Tree)} {a
 stem_refused stem out acc f = rw acc.accepts (simp f (record { answer = refl; buffer = refl }))
 
 module _ {s vector : List ℕ} {o : Outcome Numbered (ℕ × Tree)} {a : Code.CheckedContract} (acc : Accepts s vector o a) where
-  between : part s a.returned.start a.returned.end ≡ drop a.returned.start (take a.returned.end s)
-  between = take-drop_slice s a.returned.start a.returned.end acc.returned.ordered acc.returned.inside
+  between : part s a.returned.expr.start a.returned.expr.end ≡ drop a.returned.expr.start (take a.returned.expr.end s)
+  between = take-drop_slice s a.returned.expr.start a.returned.expr.end acc.returned.ordered acc.returned.inside
 
-  is_tree : meaning (env_of s (sources a.table a.values) a.returned.count) (drop a.returned.start (take a.returned.end s)) ≡ is acc.t
+  is_tree : meaning (env_of s (sources a.table a.values) a.returned.count) (drop a.returned.expr.start (take a.returned.expr.end s)) ≡ is acc.t
   is_tree = ap (meaning (env_of s (sources a.table a.values) a.returned.count)) (sym between) ∙ acc.returned.means
 
-  same_tree : tree_between s (sources a.table a.values) a.returned.count a.returned.start a.returned.end ≡ acc.t
+  same_tree : tree_between s (sources a.table a.values) a.returned.count a.returned.expr.start a.returned.expr.end ≡ acc.t
   same_tree = ap tree_or0 is_tree
 
-  pub means : MeansTree s (sources a.table a.values) a.returned.count a.returned.start a.returned.end
+  pub means : MeansTree s (sources a.table a.values) a.returned.count a.returned.expr.start a.returned.expr.end
   means = record {
     few = omega (arith, acc.returned.few, acc.reached.represents.holds.room);
     stand = λ i h. acc.reached.represents.stand i (omega (arith, acc.returned.few));
@@ -99,7 +99,7 @@ module _ {s vector : List ℕ} {o : Outcome Numbered (ℕ × Tree)} {a : Code.Ch
     is = is_tree ∙ ap is (sym same_tree);
   }
 
-  pub text_size : length (text_of (tree_between s (sources a.table a.values) a.returned.count a.returned.start a.returned.end)) ≡ a.returned.read.len
+  pub text_size : length (text_of (tree_between s (sources a.table a.values) a.returned.count a.returned.expr.start a.returned.expr.end)) ≡ a.returned.read.len
   text_size = ap (λ (t : Tree). length (text_of t)) same_tree ∙ text_length acc.t ∙ sym acc.returned.figures.len
 
   module _ (stem out : List ℕ) (f : stem_fits stem ≡ true) where
@@ -113,14 +113,14 @@ module _ {s vector : List ℕ} {o : Outcome Numbered (ℕ × Tree)} {a : Code.Ch
 
     pub written_whole : length (header stem a.expected) + a.returned.read.len + 5 ≤ length out
         → {mid after : List ℕ} {n w : ℕ}
-        → Overwrites out 0 (header stem a.expected ++ text_of (tree_between s (sources a.table a.values) a.returned.count a.returned.start a.returned.end)) mid n
+        → Overwrites out 0 (header stem a.expected ++ text_of (tree_between s (sources a.table a.values) a.returned.count a.returned.expr.start a.returned.expr.end)) mid n
         → Overwrites mid n halt_line after w
         → Assembles (with_stem o stem (length out)) out after (Ok (record { written = w; k = a.returned.read.k; p = a.returned.read.p; value = a.expected }))
     written_whole h {mid} {after} {n} {w} p r =
         let b = le-leb (length (output stem a.expected acc.t)) (length out) (omega (arith, size)) in
-        let y = length-append (header stem a.expected) (text_of (tree_between s (sources a.table a.values) a.returned.count a.returned.start a.returned.end)) in
+        let y = length-append (header stem a.expected) (text_of (tree_between s (sources a.table a.values) a.returned.count a.returned.expr.start a.returned.expr.end)) in
         let x = overwrites_then p (omega (arith, y, text_size)) r in
-        let e : (header stem a.expected ++ text_of (tree_between s (sources a.table a.values) a.returned.count a.returned.start a.returned.end)) ++ halt_line ≡ output stem a.expected acc.t = ap (λ (t : Tree). (header stem a.expected ++ text_of t) ++ halt_line) same_tree ∙ sym (output_text stem a.expected acc.t) in
+        let e : (header stem a.expected ++ text_of (tree_between s (sources a.table a.values) a.returned.count a.returned.expr.start a.returned.expr.end)) ++ halt_line ≡ output stem a.expected acc.t = ap (λ (t : Tree). (header stem a.expected ++ text_of t) ++ halt_line) same_tree ∙ sym (output_text stem a.expected acc.t) in
         let z : Overwrites out 0 (output stem a.expected acc.t) after w = rw e at x in
         let m : w ≡ length (output stem a.expected acc.t) = omega (arith, z.next) in
         rw acc.accepts (simp (f, b) (record { answer = cc (m, acc.returned.figures.k, acc.returned.figures.p); buffer = z.is }))

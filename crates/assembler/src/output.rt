@@ -34,7 +34,7 @@ pub fn write_output(
         count: returned.count,
     };
     let first = put_header(out, stem, expected);
-    let halt = emit(known, returned.start, returned.end, out, first);
+    let halt = emit(known, returned.expr, out, first);
     let written = put_bytes(out, halt, b"Halt\n");
     Ok(Assembly {
         written,

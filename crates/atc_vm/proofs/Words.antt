@@ -9,7 +9,7 @@ use Rattle.numbered.specs.declared.Numbered.{Numbered}
 use Rattle.numbered.specs.Numbered.{plain, carrying}
 use Rattle.lines.specs.declared.Line.{Line}
 use Rattle.trim.specs.Trim.{trimmed, leading_blanks}
-use Rattle.source.specs.declared.parameters.Span.{Span}
+use Rattle.base.specs.declared.span.Span.{Span}
 use Rattle.source.specs.Code.Cursor.{trimmed_span}
 use Rattle.ops.specs.Code.Numbered.{line_numbered}
 use Rattle.ops.proofs.LineStarts.{numbered_text, numbered_place, numbered_none, none_place}
@@ -27,11 +27,11 @@ told of e p t = record {
 pub none_told : (text : List ℕ) (n : ℕ) {m : Numbered} {words : List ℕ} {r : ℕ} → line_numbered text n ≡ None → m ≡ plain 0 → Tells m words r → Tells (place_numbered text n) words r
 none_told text n e p t = told (carrying 0) (ap₂ (λ (a b : ℕ). a ∷ b ∷ []) (sym (none_place text n e)) (sym (ap length (numbered_none text n e)))) p t
 
-pub line_told : (text : List ℕ) (n : ℕ) {m : Numbered} {words : List ℕ} {r : ℕ} {l : Line} {p : Span} {a b : ℕ} → line_numbered text n ≡ Some l → p ≡ trimmed_span (take (l.end - l.start) (drop l.start text)) → a ≡ l.start + p.start → b ≡ p.end - p.start → m ≡ carrying 0 (a ∷ b ∷ []) → Tells m words r → Tells (place_numbered text n) words r
+pub line_told : (text : List ℕ) (n : ℕ) {m : Numbered} {words : List ℕ} {r : ℕ} {l : Line} {p : Span} {a b : ℕ} → line_numbered text n ≡ Some l → p ≡ trimmed_span (take (l.text.end - l.text.start) (drop l.text.start text)) → a ≡ l.text.start + p.start → b ≡ p.end - p.start → m ≡ carrying 0 (a ∷ b ∷ []) → Tells m words r → Tells (place_numbered text n) words r
 line_told text n {m} {words} {r} {l} {p} {a} {b} e q f g h t =
-    let line = take (l.end - l.start) (drop l.start text) in
+    let line = take (l.text.end - l.text.start) (drop l.text.start text) in
     let u : p.start ≡ leading_blanks line = ap (λ (x : Span). x.start) q in
     let v : p.end ≡ leading_blanks line + length (trimmed line) = ap (λ (x : Span). x.end) q in
     let w : b ≡ length (trimmed line) = omega (arith, g, u, v) in
-    let y : a ≡ l.start + leading_blanks line = omega (arith, f, u) in
+    let y : a ≡ l.text.start + leading_blanks line = omega (arith, f, u) in
     told (carrying 0) (ap₂ (λ (a b : ℕ). a ∷ b ∷ []) (y ∙ sym (numbered_place text n l e)) (w ∙ ap length (numbered_text text n l e))) h t

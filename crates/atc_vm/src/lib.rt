@@ -58,8 +58,8 @@ pub fn atc_trimmed_line(text: &[u8], line: u64, answer: &mut [u64; 8]) -> u64
     let Some(l) = ops::nth_line(text, line as usize) else {
         return tell(answer, plain(0));
     };
-    let span = trimmed_span(&text[l.start..l.end]);
-    let place = l.start + span.start;
+    let span = trimmed_span(&text[l.text.start..l.text.end]);
+    let place = l.text.start + span.start;
     let len = span.end - span.start;
     tell(answer, carrying(0, [place as u64, len as u64]))
 }
@@ -78,6 +78,7 @@ pub fn atc_execution_gate(
         protocol_version.now vm_version.now computed_genesis_id.now
         expected_protocol.now expected_vm.now)).number }
 {
+    // Written out here and below: a function would take the same eight texts.
     let gate = Gate {
         context: ChainContext {
             chain_id,

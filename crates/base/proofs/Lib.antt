@@ -6,4 +6,5 @@ pub mod Bytes
 pub mod Overwrite
 pub mod Outcome
 pub mod Lists
+pub mod Equal
 pub mod Stack

@@ -2,11 +2,12 @@
 use Prim.Native.Nat.{ℕ, zero, suc, ◌+◌, ◌<◌, ◌≤◌}
 use mathlib.Core.Path.{◌≡◌, refl, sym, ap, ◌∙◌}
 use mathlib.Core.List.{List, [], ◌∷◌, ◌++◌, append-nil}
-use mathlib.Core.Bool.{Bool, true, false, ◌&&◌, and_assoc, and-true}
+use mathlib.Core.Bool.{Bool, true, false, not, ◌&&◌, ◌||◌, and_assoc, and-true}
 use native.Mathlib.Omega.{arith}
 use lib.ListN.{length, get_or, take, drop, take-append-drop, drop_of_length-le, get_or-eq_default}
-use Rattle.std.specs.List.{fold, prefix_len}
-use Rattle.base.specs.Lists.{all, take_while}
+use lib.Dec.{eqb}
+use Rattle.std.specs.List.{fold, list_any, prefix_len}
+use Rattle.base.specs.Lists.{without, all, take_while}
 use Rattle.base.proofs.Tests.{false_true, by_bool, by_leb, and_left, and_right, and_both}
 use Rattle.base.proofs.Parts.{drop_cons_at}
 
@@ -116,3 +117,16 @@ fold_all test b (a ∷ s) = fold_all test (b && test a) s ∙ and_assoc b (test 
 pub prefix_len_is : (test : ℕ → Bool) (s : List ℕ) → prefix_len test s ≡ length (take_while test s)
 prefix_len_is test [] = refl
 prefix_len_is test (a ∷ s) = let h = prefix_len_is test s in by_bool (test a) (λ e. simp e (omega arith)) (λ e. simp e refl)
+
+-- a fold that tests each element against one byte
+pub fold_without : (b : ℕ) (free : Bool) (s : List ℕ) → fold (λ p a. p && not (eqb a b)) free s ≡ (free && without b s)
+fold_without b free [] = sym (and-true free)
+fold_without b free (a ∷ s) = fold_without b (free && not (eqb a b)) s ∙ joined free (eqb a b) (list_any (λ x. eqb x b) s)
+  where
+    joined : (p q r : Bool) → ((p && not q) && not r) ≡ (p && not (q || r))
+    joined true true r = refl
+    joined true false r = refl
+    joined false q r = refl
+
+pub none_there : (b : ℕ) (s : List ℕ) → without b s ≡ true → list_any (λ a. eqb a b) s ≡ false
+none_there b s h = by_bool (list_any (λ a. eqb a b) s) (λ e. absurd (false_true (sym (ap not e) ∙ h))) (λ e. e)

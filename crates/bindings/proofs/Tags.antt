@@ -2,30 +2,24 @@
 use Prim.Native.Nat.{ℕ, zero, suc, ◌+◌, ◌-◌, ◌<◌, ◌≤◌}
 use mathlib.Core.Path.{◌≡◌, refl, sym, ap, ◌∙◌}
 use mathlib.Core.List.{List, [], ◌∷◌}
-use mathlib.Core.Bool.{Bool, true, false, not, ◌&&◌, ◌||◌}
-use native.Mathlib.Numerals.{add-one}
+use mathlib.Core.Bool.{false, ◌&&◌}
 use native.Mathlib.Omega.{arith}
-use borrow.Author.Tests.{eqb-true, eq-eqb, lt-ltb, le-ltb, ltb-false, not-true}
-use lib.Dec.{eqb, ltb}
-use lib.ListN.{length, get_or}
+use borrow.Author.Tests.{eq-eqb}
+use lib.Dec.{eqb}
+use lib.ListN.{length, get_or, take, drop, length-drop}
+use Rattle.std.specs.List.{list_any}
+use Rattle.std.proofs.lemmas.List.{get_or-take, get_or-drop}
+use Rattle.std.proofs.lemmas.List.Folds.{list_any_at}
 use Rattle.base.specs.Equal.{equal}
-use Rattle.base.proofs.Tests.{false_true, and_left, and_right, by_bool, by_cond, or_left, or_right}
-use Rattle.bindings.specs.Code.Table.{Passes, tag_of, has_name, found, has_tag, is_free}
-
-same_is : (v w : List ℕ) → equal v w ≡ true → v ≡ w
-same_is [] [] e = refl
-same_is [] (b ∷ w) e = false_true e
-same_is (a ∷ v) [] e = false_true e
-same_is (a ∷ v) (b ∷ w) e =
-    let p = eqb-true a b (and_left (eqb a b) (equal v w) e) in
-    let q = same_is v w (and_right (eqb a b) (equal v w) e) in
-    cc
+use Rattle.base.proofs.Equal.{equal_true}
+use Rattle.base.proofs.Tests.{false_true, by_bool, by_leb}
+use Rattle.bindings.specs.Code.Table.{Passes, tag_of, has_name, found}
 
 -- where a name has its tag, the tag's test changes no answer
 pub tag_same : (t : ℕ) (w name : List ℕ) → t ≡ tag_of name → (eqb t (tag_of w) && equal w name) ≡ equal w name
 tag_same t w name e =
     by_bool (equal w name)
-    (λ h. simp (eq-eqb t (tag_of w) (e ∙ ap tag_of (sym (same_is w name h)))))
+    (λ h. simp (eq-eqb t (tag_of w) (e ∙ ap tag_of (sym (equal_true w name h)))))
     (λ h. by_bool (eqb t (tag_of w)) (λ g. simp g) (λ g. simp (g, h)))
 
 pub tag_empty : (w : List ℕ) → length w ≡ 0 → 0 ≡ tag_of w
@@ -33,48 +27,34 @@ unfolding tag_of
 tag_empty [] e = refl
 tag_empty (a ∷ w) e = absurd (omega arith)
 
--- a block of bindings
-module _ (tags : List ℕ) (from tag : ℕ) where
-  pub has_none : false ≡ has_tag tags from 0 tag
-  unfolding has_tag
-  has_none = refl
-
-  pub has_more : (i : ℕ) → has_tag tags from (i + 1) tag ≡ (has_tag tags from i tag || eqb (get_or tags (from + i) 0) tag)
-  unfolding has_tag
-  has_more i = ap (λ (n : ℕ). has_tag tags from n tag) (add-one i)
-
-pub free_few : (tags : List ℕ) (left tag : ℕ) → left < 16 → false ≡ is_free tags left tag
-free_few tags left tag h = sym (simp (lt-ltb left 16 h))
-
-pub free_block : (tags : List ℕ) (left tag : ℕ) {r : Bool} → 16 ≤ left → r ≡ has_tag tags (left - 16) 16 tag → not r ≡ is_free tags left tag
-free_block tags left tag h e = ap not e ∙ sym (simp (le-ltb left 16 h))
+-- one block of other tags more, behind the first n bindings
+pub one_block : (tag : ℕ) (t rest : List ℕ) (n : ℕ) → n + 16 ≡ length rest → rest ≡ take (length rest) t → list_any (λ a. eqb a tag) (drop n rest) ≡ false
+    → ((k : ℕ) → length rest ≤ k → k < length t → eqb (get_or t k 0) tag ≡ false) → (k : ℕ) → n ≤ k → k < length t → eqb (get_or t k 0) tag ≡ false
+one_block tag t rest n e p q f k a b =
+    by_leb (length rest) k
+    (λ h. f k h b)
+    (λ h.
+    let y : n + (k - n) ≡ k = omega arith in
+    let z : get_or t k 0 ≡ get_or (drop n rest) (k - n) 0 =
+    sym (get_or-take (length rest) t k 0 h) ∙ ap (λ (u : List ℕ). get_or u k 0) (sym p) ∙ ap (λ (u : ℕ). get_or rest u 0) (sym y) ∙ sym (get_or-drop n rest (k - n) 0) in
+    by_bool (eqb (get_or t k 0) tag)
+    (λ g. false_true (sym q ∙ list_any_at (λ a. eqb a tag) (drop n rest) (k - n) 0 (omega (arith, length-drop n rest)) (ap (λ (u : ℕ). eqb u tag) (sym z) ∙ g)))
+    (λ g. g))
 
 module _ (s names lens tags w : List ℕ) where
-  without_tag : (from n : ℕ) → has_tag tags from n (tag_of w) ≡ false → found (from + n) s names lens tags w ≡ found from s names lens tags w
-  unfolding found has_tag
-  without_tag from zero e = let p : from + 0 ≡ from = omega arith in ap (λ (x : ℕ). found x s names lens tags w) p
-  without_tag from (suc n) e =
+  without_tag : (from n : ℕ) → ((k : ℕ) → from ≤ k → k < from + n → eqb (get_or tags k 0) (tag_of w) ≡ false) → found (from + n) s names lens tags w ≡ found from s names lens tags w
+  unfolding found
+  without_tag from zero f = let p : from + 0 ≡ from = omega arith in ap (λ (x : ℕ). found x s names lens tags w) p
+  without_tag from (suc n) f =
       let p : from + suc n ≡ suc (from + n) = omega arith in
-      let t = or_right (has_tag tags from n (tag_of w)) (eqb (get_or tags (from + n) 0) (tag_of w)) e in
+      let t = f (from + n) (omega arith) (omega arith) in
       let q : has_name s names lens tags (from + n) w ≡ false = simp t in
-      let f : found (suc (from + n)) s names lens tags w ≡ found (from + n) s names lens tags w = rw (q, found) in
-      ap (λ (x : ℕ). found x s names lens tags w) p ∙ f ∙ without_tag from n (or_left (has_tag tags from n (tag_of w)) (eqb (get_or tags (from + n) 0) (tag_of w)) e)
+      let g : found (suc (from + n)) s names lens tags w ≡ found (from + n) s names lens tags w = rw (q, found) in
+      ap (λ (x : ℕ). found x s names lens tags w) p ∙ g ∙ without_tag from n (λ k a b. f k a (omega arith))
 
-module _ (tags : List ℕ) (left tag : ℕ) (e : is_free tags left tag ≡ true) where
-  pub free_room : 16 ≤ left
-  free_room =
-      by_cond (ltb left 16) false (not (has_tag tags (left - 16) 16 tag)) e
-      (λ p q. false_true q)
-      (λ p q. ltb-false left 16 p)
-
-  free_same : (s names lens w : List ℕ) → tag ≡ tag_of w → found left s names lens tags w ≡ found (left - 16) s names lens tags w
-  free_same s names lens w g =
-      by_cond (ltb left 16) false (not (has_tag tags (left - 16) 16 tag)) e
-      (λ p q. false_true q)
-      (λ p q.
-      let n : left ≡ (left - 16) + 16 = let h = free_room in omega arith in
-      let f : has_tag tags (left - 16) 16 (tag_of w) ≡ false = ap (has_tag tags (left - 16) 16) (sym g) ∙ not-true _ q in
-      ap (λ (x : ℕ). found x s names lens tags w) n ∙ without_tag s names lens tags w (left - 16) 16 f)
-
-  pub free_passes : {n : ℕ} → Passes tags n tag left → Passes tags n tag (left - 16)
-  free_passes h = record { fewer = omega (arith, h.fewer); same = λ s names lens w g. h.same s names lens w g ∙ free_same s names lens w g }
+  -- a name with the tag is found among the others alone
+  pub passes_same : (n tag r : ℕ) → length (take n tags) ≡ n → Passes (take n tags) tag r → tag ≡ tag_of w → found n s names lens tags w ≡ found r s names lens tags w
+  passes_same n tag r m h e =
+      let z : n ≡ r + (n - r) = omega (arith, h.fewer, m) in
+      ap (λ (x : ℕ). found x s names lens tags w) z
+      ∙ without_tag r (n - r) (λ k a b. ap (λ (u : ℕ). eqb u (tag_of w)) (sym (get_or-take n tags k 0 (omega (arith, h.fewer, m)))) ∙ ap (eqb (get_or (take n tags) k 0)) (sym e) ∙ h.others k a (omega (arith, h.fewer, m)))

@@ -19,7 +19,8 @@ pub struct Bindings {
     pub count: usize,
 }
 
-// What a binding needs beside the table. A value is none where its flag says so: tried as an array of options, the struct, which
+// What a binding needs beside the table, in arrays as there: an index means the same binding in all of them, and the tags stand side by
+// side, since a lookup compares 16 at once. A value is none where its flag says so: tried as an array of options, the struct, which
 // travels by value, grows from 3,584 bytes to 5,376, and the tally takes 1.28 of its time.
 #[derive(Clone, Copy)]
 pub struct Values {

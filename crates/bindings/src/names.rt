@@ -1,9 +1,10 @@
 // Names of bindings, found in the text that the table points into.
-ghost use Rattle.std.specs.Prelude.{◌≡◌, ◌≤◌, ◌<◌};
-ghost use Rattle.bindings.specs.Code.Table.{tag_of, mix, has_tag, is_free, Passes};
+ghost use Rattle.std.specs.Prelude.{◌≡◌, ◌≤◌, ◌<◌, length};
+ghost use Rattle.bindings.specs.Code.Table.{tag_of, mix, Passes};
 ghost use Rattle.bindings.specs.Code.Known.{Few, known_found, known_name};
 
 use crate::{Bindings, Values};
+use base::lacks;
 
 // What a name may mean: the first count bindings of a table, whose names stand in a text.
 #[derive(Clone, Copy)]
@@ -23,13 +24,13 @@ impl<'a> Known<'a> {
     {
         let tag = tag_of(name);
         let tags = &self.values.tag;
-        let mut left = passed(tags, self.count, tag);
+        let mut left = passed(&tags[..self.count], tag);
         while 0 < left {
             let i = left - 1;
             if self.is_called(i, name, tag) {
                 return Some(i);
             }
-            left = passed(tags, i, tag);
+            left = passed(&tags[..i], tag);
         }
         None
     }
@@ -51,17 +52,19 @@ impl<'a> Known<'a> {
     }
 }
 
-// So many of the first bindings, of at most 256, without the newest blocks of 16 that all have another tag. It steps
-// back by 16: no iterator is plainer.
-fn passed(tags: &[u8; 256], count: usize, tag: u8) -> usize
-    requires { count ≤ 256 }
-    ensures { Passes tags.now count tag result }
+// How many of some bindings come before the newest blocks of 16 that all have another tag. A block is compared at once, with no
+// branch.
+fn passed(tags: &[u8], tag: u8) -> usize
+    ensures { Passes tags.now tag result }
 {
-    let mut left = count;
-    while is_free(tags, left, tag) {
-        left -= 16;
+    let mut rest = tags;
+    while let Some((older, block)) = rest.split_last_chunk::<16>() {
+        if !lacks(&block[..], tag) {
+            break;
+        }
+        rest = older;
     }
-    left
+    rest.len()
 }
 
 // A byte that most names differ in: a mix of the first byte and the last two.
@@ -82,24 +85,4 @@ fn mixed(first: u8, before: u8, last: u8) -> u8
         .wrapping_mul(3)
         .wrapping_add(before.wrapping_mul(16))
         .wrapping_add(last)
-}
-
-// Whether the 16 bindings before left, of at most 256, all have another tag.
-fn is_free(tags: &[u8; 256], left: usize, tag: u8) -> bool
-    requires { left ≤ 256 }
-    ensures { result ≡ is_free tags.now left tag }
-{
-    left >= 16 && !has_tag(tags, left - 16, tag)
-}
-
-// Whether one of 16 bindings has a tag. Without a branch, all 16 are compared at once.
-fn has_tag(tags: &[u8; 256], from: usize, tag: u8) -> bool
-    requires { from ≤ 240 }
-    ensures { result ≡ has_tag tags.now from 16 tag }
-{
-    let mut any = false;
-    for i in 0..16 {
-        any |= tags[from + i] == tag;
-    }
-    any
 }

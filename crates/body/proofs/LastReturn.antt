@@ -14,9 +14,10 @@ use Rattle.base.proofs.Outcome.{not_is}
 use Rattle.base.proofs.Tests.{by_leb}
 use Rattle.lines.specs.declared.Line.{Line}
 use Rattle.lines.specs.Cursor.{line_from, line_at}
+use Rattle.lines.proofs.Cursor.{step_line}
 use Rattle.numbered.specs.declared.Numbered.{Numbered}
 use Rattle.numbered.specs.Numbered.{plain}
-use Rattle.source.specs.declared.parameters.Span.{Span}
+use Rattle.base.specs.declared.span.Span.{Span}
 use Rattle.source.specs.Vector.{vector_number}
 use Rattle.bindings.specs.declared.Bindings.{Bindings}
 use Rattle.bindings.specs.declared.Values.{Values}
@@ -50,13 +51,13 @@ module _ {s : List ℕ} {start end : ℕ} (w : Within s start end) {first : Code
     unfolding lines_met
     met_done e = record { is = λ g. sym (m.is ∙ ap (lines_met s end (met_of a) at) e) }
 
-    pub met_next : {l : Line} {r : Code.TableState} {x : Result (Unit {0}) AssembleError} → line_at (take end s) at ≡ Some l → MeetsLine s at l.end a r x → x ≡ Ok tt → Meeting s start end first l.next r
+    pub met_next : {l : Line} {r : Code.TableState} {x : Result (Unit {0}) AssembleError} → line_at (take end s) at ≡ Some l → MeetsLine s l.text.start l.text.end a r x → x ≡ Ok tt → Meeting s start end first l.next r
     unfolding lines_met
     met_next {l} {r} e f g = record {
       is = m.is
           ∙ ap (lines_met s end (met_of a) at) (line_item s start end w at l e).is
-          ∙ ap (λ (x : Line). lines_met s end (meeting s (met_of a) (statement_at s at x.end)) x.next (lines_from s end l.next)) (line_is (ltb at (length (take end s))) (line_from (take end s) at) l e)
-          ∙ ap (λ (x : Met). lines_met s end x l.next (lines_from s end l.next)) (sym (f.is g));
+          ∙ ap (λ (x : Line). lines_met s end (meeting s (met_of a) (statement_at s at x.text.end)) x.next (lines_from s end l.next)) (line_is (ltb at (length (take end s))) (line_from (take end s) at) l e)
+          ∙ ap (λ (x : Met). lines_met s end x l.next (lines_from s end l.next)) (sym (f.is g ∙ ap (λ (k : ℕ). meeting s (met_of a) (statement_at s k l.text.end)) (step_line (take end s) at l e).starts));
     }
 
 pub met_off : {s : List ℕ} {start end : ℕ} {first r : Code.TableState} {x : Result (Unit {0}) AssembleError} {why : AssembleError} → x ≡ Err why → ReadsBody s start end first r x

@@ -8,7 +8,7 @@ use native.Mathlib.Omega.{arith}
 use borrow.Author.Tests.{le-leb}
 use lib.ListN.{take, drop}
 use lib.Seq.{length-take-le}
-use Rattle.source.specs.declared.parameters.Span.{Span}
+use Rattle.base.specs.declared.span.Span.{Span}
 use Rattle.figures.specs.declared.Figures.{Figures}
 use Rattle.grammar.specs.Tree.{Tree, k_of}
 use Rattle.grammar.specs.Parse.{Env, meaning}

@@ -14,7 +14,7 @@ use Rattle.search.proofs.Prefix.{fits}
 use Rattle.source.proofs.Found.{by_found, in_text}
 use Rattle.trim.specs.Trim.{leading_blanks, trimmed}
 use Rattle.source.proofs.Trimmed.{trimmed_place_lem, trimmed_fits}
-use Rattle.source.specs.declared.parameters.Span.{Span}
+use Rattle.base.specs.declared.span.Span.{Span}
 use Rattle.scope.specs.Part.{part}
 use Rattle.body.specs.declared.statement.StatementSpans.{StatementSpans}
 use Rattle.body.specs.declared.statement.StatementSpans.TheVariants.{Skipped, NoEquals, Let, Return}

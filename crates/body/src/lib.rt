@@ -1,4 +1,5 @@
 // The body of a function, line by line.
+// Offsets stay beside the slice, since the contracts speak of places in the whole text.
 #![tactic(auto)]
 
 mod statement;
@@ -13,42 +14,32 @@ ghost use Rattle.body.specs.Code.LastReturn.{MeetsLine, ReadToLast, ReadsBody};
 ghost use Rattle.body.specs.Code.Checked.{ChecksAll};
 ghost use Rattle.scope.specs.Code.Held.{Represented, SimulatesStep, Within};
 
+use base::Span;
 use expression::parse;
 use figures::Figures;
-use lines::line_at;
+use lines::Lines;
 use scope::refusal::AssembleError;
 use scope::state::{Returned, TableState};
-use source::parameters::Span;
 use statement::{StatementSpans, statement_at};
 
 // An expression's k is at most this (20).
 const MAX_K: u64 = 32768;
 
-// The lines from start to end of the contract. `read_function` calls it with the offsets that `find_function` found in a
+// The lines of a part of the contract. `read_function` calls it with the offsets that `find_function` found in a
 // contract of at most 65,536 bytes, and with a state in which the parameters are bound.
-pub fn read_body(
-    contract: &[u8],
-    start: usize,
-    end: usize,
-    state: &mut TableState,
-) -> Result<(), AssembleError>
-    requires { Within contract.now start end × Represented (take start contract.now) state.old }
-    ensures { SimulatesStep (take start contract.now) state.old
-        (λ st. each line_read 1 st (lines (part contract.now start end)))
-        (take end contract.now) state.new result
-        × ReadsBody contract.now start end state.old state.new result }
+pub fn read_body(contract: &[u8], body: Span, state: &mut TableState) -> Result<(), AssembleError>
+    requires { Within contract.now body.start body.end × Represented (take body.start contract.now) state.old }
+    ensures { SimulatesStep (take body.start contract.now) state.old
+        (λ st. each line_read 1 st (lines (part contract.now body.start body.end)))
+        (take body.end contract.now) state.new result
+        × ReadsBody contract.now body.start body.end state.old state.new result }
 {
-    let mut at = start;
-    let mut line: usize = 0;
-    // Each line says where the next one starts: no iterator has its offsets.
-    while let Some(l) = line_at(&contract[..end], at) {
-        line += 1;
-        let span = Span {
-            start: at,
-            end: l.end,
-        };
-        read_line(contract, span, line, state)?;
-        at = l.next;
+    let lines = Lines {
+        text: &contract[..body.end],
+        at: body.start,
+    };
+    for (number, line) in (1..).zip(lines) {
+        read_line(contract, line.text, number, state)?;
     }
     Ok(())
 }
@@ -77,8 +68,7 @@ fn read_line(
         StatementSpans::Return(expr) => {
             let read = check(contract, expr, line, state)?;
             state.last = Some(Returned {
-                start: expr.start,
-                end: expr.end,
+                expr,
                 count: state.table.count,
                 read,
             });

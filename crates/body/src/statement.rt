@@ -2,8 +2,9 @@
 ghost use Rattle.std.specs.Prelude.{◌≡◌, length};
 ghost use Rattle.body.specs.Code.Places.{Inside, trimmed_in, let_at, trimmed_at, statement_at};
 
-use search::{find_byte, starts_with};
-use source::parameters::{Span, trimmed_span};
+use base::Span;
+use search::find_byte;
+use source::parameters::trimmed_span;
 
 // A let has a name and an expression, a return an expression. Four cases, one arm of `read_line` each: a Result of an Option of the two
 // would nest three matches, and is no plainer.
@@ -27,17 +28,17 @@ pub fn statement_at(contract: &[u8], line: Span) -> StatementSpans
     trimmed_at(contract, trimmed_part(contract, line))
 }
 
-// A line that is trimmed.
+// A line that is trimmed. `strip_prefix` gives what follows a word and not its place, so it is no plainer here.
 fn trimmed_at(contract: &[u8], line: Span) -> StatementSpans
     requires { Inside 0 (length contract.now) line }
     ensures { result ≡ trimmed_at contract.now line.start line.end }
 {
     let text = &contract[line.start..line.end];
-    if starts_with(text, b"let ", 0) {
+    if text.starts_with(b"let ") {
         let start = line.start + 4;
         return let_at(contract, Span { start, ..line });
     }
-    if starts_with(text, b"return ", 0) {
+    if text.starts_with(b"return ") {
         let start = line.start + 7;
         return StatementSpans::Return(trimmed_part(contract, Span { start, ..line }));
     }
@@ -69,9 +70,5 @@ fn trimmed_part(contract: &[u8], part: Span) -> Span
     requires { Inside 0 (length contract.now) part }
     ensures { result ≡ trimmed_in contract.now part.start part.end }
 {
-    let span = trimmed_span(&contract[part.start..part.end]);
-    Span {
-        start: part.start + span.start,
-        end: part.start + span.end,
-    }
+    trimmed_span(&contract[part.start..part.end]).behind(part.start)
 }

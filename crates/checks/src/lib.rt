@@ -12,6 +12,7 @@ mod operations;
 use kinds::{MAX_PROGRAM_OPS, MAX_STACK_ITEMS, MAX_STORAGE_SLOTS, Program};
 use numbered::{Answer, Numbered, carrying, plain};
 
+// One flat enum, since the original's public one is. `perform` turns the machine's six refusals into these.
 #[derive(Clone, Copy, Debug, PartialEq, Eq)]
 pub enum VmError {
     BufferLengths,

@@ -17,7 +17,7 @@ use perform::{Run, State, Success};
 use scope::refusal::AssembleError;
 
 // A refusal of assembly or reading ends the call.
-#[derive(Clone, Copy)]
+#[derive(Clone, Copy, Debug, PartialEq, Eq)]
 pub enum CompileError {
     NotAssembled(AssembleError),
     NotRead(OpsError),
@@ -67,7 +67,8 @@ impl Answer for Compiled {
     }
 }
 
-// Reading takes exactly the bytes written, the transition all of both program buffers.
+// Reading takes exactly the bytes written, the transition all of both program buffers. The parameters are those of the three calls in
+// document 01's order: six are `&mut`, and a struct of them would have to say what each field held at entry.
 pub fn compile(
     contract: &[u8],
     vector: &[u8],

@@ -1,20 +1,33 @@
--- What the test of two texts says: that they are equal.
+-- The gate, by its two calls.
+use Rattle.std.specs.Prelude.{Result, Ok, Err}
+use Rattle.std.specs.Result.{result_and}
 use Prim.Native.Nat.{ℕ}
-use mathlib.Core.Path.{◌≡◌, refl, ap₂}
-use mathlib.Core.List.{List, [], ◌∷◌}
-use mathlib.Core.Bool.{true}
-use lib.Dec.{eqb}
-use borrow.Author.Tests.{eq-eqb, eqb-true}
-use Rattle.base.proofs.Tests.{false_true, and_left, and_right}
+use mathlib.Core.Path.{◌≡◌, refl, sym, ap}
+use mathlib.Core.List.{List}
+use mathlib.Core.Bool.{Bool, true, false}
+use Rattle.base.specs.Ascii.{ascii}
 use Rattle.base.specs.Equal.{equal}
+use Rattle.base.specs.Need.{need}
+use Rattle.base.proofs.Equal.{equal_refl}
+use Rattle.context.specs.declared.ContextError.{ContextError}
+use Rattle.context.specs.declared.ContextError.TheVariants.{InvalidChainId, InvalidNetworkId, InvalidGenesisId, ProtocolMismatch, VmMismatch}
+use Rattle.context.specs.Gate.{is_network, is_genesis_id, genesis_of, gate_of}
 
-pub equal_refl : (s : List ℕ) → equal s s ≡ true
-equal_refl [] = refl
-equal_refl (a ∷ s) = rw (eq-eqb a a refl) (equal_refl s)
+need_then : (b : Bool) (e : ContextError) (x y g : Result (Unit {0}) ContextError) → x ≡ result_and y g → need b (Err e) x ≡ result_and (need b (Err e) y) g
+need_then true e x y g h = h
+need_then false e x y g h = refl
 
-pub equal_true : (s t : List ℕ) → equal s t ≡ true → s ≡ t
-equal_true [] [] e = refl
-equal_true [] (b ∷ t) e = false_true e
-equal_true (a ∷ s) [] e = false_true e
-equal_true (a ∷ s) (b ∷ t) e =
-    ap₂ ◌∷◌ (eqb-true a b (and_left (eqb a b) (equal s t) e)) (equal_true s t (and_right (eqb a b) (equal s t) e))
+-- a genesis id is its own
+pub own : (genesis : List ℕ) → genesis_of genesis genesis ≡ Ok tt
+own genesis = rw (equal_refl genesis) refl
+
+-- the context is valid, and then its genesis id is the computed one
+pub valid_then : (chain network genesis protocol vm computed expected_protocol expected_vm : List ℕ)
+    → gate_of chain network genesis protocol vm computed expected_protocol expected_vm ≡ result_and (gate_of chain network genesis protocol vm genesis expected_protocol expected_vm) (genesis_of genesis computed)
+valid_then chain network genesis protocol vm computed expected_protocol expected_vm =
+    let g = genesis_of genesis computed in
+    need_then (equal chain (ascii "atc")) InvalidChainId _ _ g
+    (need_then (is_network network) InvalidNetworkId _ _ g
+    (need_then (is_genesis_id genesis) InvalidGenesisId _ _ g
+    (need_then (equal protocol expected_protocol) ProtocolMismatch _ _ g
+    (need_then (equal vm expected_vm) VmMismatch _ _ g (ap (λ (r : Result (Unit {0}) ContextError). result_and r g) (sym (own genesis)))))))

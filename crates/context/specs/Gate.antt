@@ -22,17 +22,7 @@ is_hex_digit a = within 48 57 a || (within 65 70 a || within 97 102 a)
 abbrev pub is_genesis_id : List ℕ → Bool
 is_genesis_id s = eqb (length s) 64 && all is_hex_digit s
 
--- what a context is beside the versions that are expected
-abbrev pub valid_of : ChainContext → (expected_protocol expected_vm : List ℕ) → Result (Unit {0}) ContextError
-valid_of c expected_protocol expected_vm =
-    need (equal c.chain_id.now (ascii "atc")) (Err InvalidChainId)
-    (need (is_network c.network_id.now) (Err InvalidNetworkId)
-    (need (is_genesis_id c.genesis_id.now) (Err InvalidGenesisId)
-    (need (equal c.protocol_version.now expected_protocol) (Err ProtocolMismatch)
-    (need (equal c.vm_version.now expected_vm) (Err VmMismatch)
-    (Ok tt)))))
-
--- what its genesis id is beside the computed one
+-- what a context's genesis id is beside the computed one
 abbrev pub genesis_of : (genesis computed : List ℕ) → Result (Unit {0}) ContextError
 genesis_of genesis computed = need (equal genesis computed) (Err GenesisMismatch) (Ok tt)
 
@@ -43,8 +33,12 @@ gate_of chain network genesis protocol vm computed expected_protocol expected_vm
     (need (is_genesis_id genesis) (Err InvalidGenesisId)
     (need (equal protocol expected_protocol) (Err ProtocolMismatch)
     (need (equal vm expected_vm) (Err VmMismatch)
-    (need (equal genesis computed) (Err GenesisMismatch)
-    (Ok tt))))))
+    (genesis_of genesis computed)))))
+
+-- what a context is beside the versions that are expected: the gate's answer where its own genesis id is the computed one
+abbrev pub valid_of : ChainContext → (expected_protocol expected_vm : List ℕ) → Result (Unit {0}) ContextError
+valid_of c expected_protocol expected_vm =
+    gate_of c.chain_id.now c.network_id.now c.genesis_id.now c.protocol_version.now c.vm_version.now c.genesis_id.now expected_protocol expected_vm
 
 -- the same of a gate's texts
 abbrev pub gate_at : Gate → Result (Unit {0}) ContextError

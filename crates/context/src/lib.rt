@@ -3,7 +3,6 @@
 
 ghost use Rattle.std.specs.Prelude.{◌≡◌};
 ghost use Rattle.context.specs.Gate.{is_hex_digit, is_network, is_genesis_id, valid_of, genesis_of, gate_at, context_error_numbered};
-ghost use Rattle.base.specs.Equal.{equal};
 ghost use Rattle.base.specs.Lists.{all};
 ghost use Rattle.numbered.specs.Numbered.{Answered, unit_numbered, result_numbered};
 
@@ -48,10 +47,11 @@ pub struct ChainContext<'a> {
 
 impl<'a> ChainContext<'a> {
     // Refuses with the first of document 01's 35 to 39 that applies.
+    #[tactic(auto, using(crate::proofs::Laws::own))]
     pub fn validate(self, expected_protocol: &[u8], expected_vm: &[u8]) -> Result<(), ContextError>
         ensures { result ≡ valid_of self.entry expected_protocol.now expected_vm.now }
     {
-        if !same(self.chain_id, &CHAIN_ID) {
+        if self.chain_id != &CHAIN_ID[..] {
             return Err(ContextError::InvalidChainId);
         }
         if !is_network(self.network_id) {
@@ -60,10 +60,10 @@ impl<'a> ChainContext<'a> {
         if !is_genesis_id(self.genesis_id) {
             return Err(ContextError::InvalidGenesisId);
         }
-        if !same(self.protocol_version, expected_protocol) {
+        if self.protocol_version != expected_protocol {
             return Err(ContextError::ProtocolMismatch);
         }
-        if !same(self.vm_version, expected_vm) {
+        if self.vm_version != expected_vm {
             return Err(ContextError::VmMismatch);
         }
         Ok(())
@@ -73,7 +73,7 @@ impl<'a> ChainContext<'a> {
     pub fn verify_genesis_id(self, computed: &[u8]) -> Result<(), ContextError>
         ensures { result ≡ genesis_of self.entry.genesis_id.now computed.now }
     {
-        if !same(self.genesis_id, computed) {
+        if self.genesis_id != computed {
             return Err(ContextError::GenesisMismatch);
         }
         Ok(())
@@ -90,6 +90,7 @@ pub struct Gate<'a> {
 }
 
 // Tests the context of a transition. It refuses with the first of document 01's 35 to 40 that applies.
+#[tactic(auto, using(crate::proofs::Laws::valid_then))]
 pub fn execution_gate(gate: Gate) -> Result<(), ContextError>
     ensures { Answered (result_numbered unit_numbered context_error_numbered) (gate_at gate.entry) result }
 {
@@ -98,17 +99,10 @@ pub fn execution_gate(gate: Gate) -> Result<(), ContextError>
     gate.context.verify_genesis_id(gate.computed_genesis_id)
 }
 
-// A function, since `==` takes no slice beside an array such as `b"devnet"`.
-fn same(a: &[u8], b: &[u8]) -> bool
-    ensures { result ≡ equal a.now b.now }
-{
-    a == b
-}
-
 fn is_network(s: &[u8]) -> bool
     ensures { result ≡ is_network s.now }
 {
-    same(s, b"devnet") || same(s, b"testnet") || same(s, b"mainnet")
+    s == &b"devnet"[..] || s == &b"testnet"[..] || s == &b"mainnet"[..]
 }
 
 fn is_genesis_id(s: &[u8]) -> bool

@@ -59,14 +59,8 @@ fn read_function(
 {
     let expected = number_for(vector, b"expected", 0)?;
     let mut state = started();
-    bind_parameters(
-        contract,
-        vector,
-        places.params.start,
-        places.params.end,
-        &mut state,
-    )?;
-    read_body(contract, places.body.start, places.body.end, &mut state)?;
+    bind_parameters(contract, vector, places.params, &mut state)?;
+    read_body(contract, places.body, &mut state)?;
     let returned = judged(state.last, expected)?;
     Ok(CheckedContract {
         table: state.table,

@@ -120,5 +120,5 @@ first_zero =
 pub round_trip : (n : ℕ) → n < 2 ^ 64 → number_of (decimal n) ≡ Some n
 round_trip n h =
     let b = between_decimal n 0 (length_positive n) in
-    ap from_digits (sym (not_signed (decimal n) (λ e. omega arith)))
+    ap from_digits (sym (not_signed (decimal n) (λ rest e. omega (arith, ap (λ (s : List ℕ). get_or s 0 0) e))))
     ∙ simp (lt-ltb 0 (length (decimal n)) (length_positive n), decimal-digits n, value-decimal n, lt-ltb n (2 ^ 64) h)

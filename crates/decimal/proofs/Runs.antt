@@ -7,8 +7,11 @@ use mathlib.Core.Bool.{true, ◌&&◌, false}
 use borrow.Author.Tests.{lt-ltb, le-ltb, eqb-true}
 use native.Mathlib.Omega.{arith}
 use lib.ListN.{length, get_or, take, drop, length-drop}
+use lib.Seq.{drop-drop}
+use Rattle.std.specs.List.{prefix_len}
+use Rattle.std.specs.Simd.{first_chunks}
 use Rattle.base.specs.Lists.{all, take_while}
-use Rattle.base.proofs.Tests.{and_left, and_right, between}
+use Rattle.base.proofs.Tests.{by_bool, and_left, and_right, between}
 use Rattle.base.proofs.Parts.{drop_cons_at}
 use lib.Dec.{eqb}
 use Rattle.base.proofs.Lists.{length-take_while, take_while_more, take_while_none, end_from, passes_inside, end_more}
@@ -70,6 +73,17 @@ zeros_passed s (suc n) at h e =
     let one = one_zero s at (at + 1) (omega arith) (eqb-true _ 48 (and_left _ _ z)) refl in
     let more = zeros_passed s n (at + 1) (omega arith) (and_right (eqb (get_or s at 0) 48) _ z) in
     rw (← m) (more_zeros s at (at + 1) (at + 1 + n) one more)
+
+-- the blocks of zeros that come first
+pub blocks_passed : (n : ℕ) (s : List ℕ) (k at : ℕ) → at + k * n ≤ length s → ZerosTo s at (at + n * prefix_len (all (λ c. eqb c 48)) (first_chunks n k (drop at s)))
+blocks_passed n s zero at h = no_zeros s at (at + n * 0) (omega arith)
+blocks_passed n s (suc k) at h =
+    by_bool (all (λ c. eqb c 48) (take n (drop at s)))
+    (λ e.
+    let q = prefix_len (all (λ c. eqb c 48)) (first_chunks n k (drop (at + n) s)) in
+    let z : at + n + n * q ≡ at + n * (1 + q) = omega arith in
+    rw (e, drop-drop n at s, ← z) (more_zeros s at (at + n) (at + n + n * q) (zeros_passed s n at (omega arith) e) (blocks_passed n s k (at + n) (omega arith))))
+    (λ e. rw e (no_zeros s at (at + n * 0) (omega arith)))
 
 module _ (s : List ℕ) (at first : ℕ) (r : Digits) (z : ZerosTo s at first) (e : r ≡ digits_at s first) where
   behind_length : first - at + r.len ≡ length (take_while digit (drop at s))

@@ -2,13 +2,14 @@
 // Offsets stay beside the slice, since the contracts speak of places in the whole text.
 #![tactic(auto)]
 
-ghost use Rattle.std.specs.Prelude.{◌≡◌, ◌==◌, ◌+◌, ◌*◌, ◌^◌, ◌<◌, ◌≤◌, ltb, length, get_or, drop};
+ghost use Rattle.std.specs.Prelude.{◌≡◌, ◌==◌, ◌+◌, ◌*◌, ◌^◌, ◌<◌, ◌≤◌, true, length, get_or, drop, MatchOption};
+ghost use Rattle.std.specs.List.{prefix_len};
 ghost use Rattle.base.specs.Overwrite.{overwrite};
 ghost use Rattle.decimal.specs.Decimal.{digit, without_plus, number_of, decimal};
 ghost use Rattle.base.specs.Lists.{all, take_while};
 ghost use Rattle.decimal.specs.Code.Digits.{digits_at};
 ghost use Rattle.decimal.specs.Code.Digits.{written_at, buffer_after};
-ghost use Rattle.decimal.specs.Code.Zeros.{ZerosTo, ZerosAt};
+ghost use Rattle.decimal.specs.Code.Zeros.{ZerosTo};
 
 use base::in_range;
 
@@ -20,9 +21,6 @@ pub struct Digits {
 
 // How many zeros a block has.
 const BLOCK: usize = 16;
-
-// 2^64 - 1 is ten times this and 5.
-const TENTH: u64 = 1844674407370955161;
 
 // The digits starting at an offset: how many, and the number they write or that it is too large.
 pub fn digits_at(s: &[u8], at: usize) -> Digits
@@ -44,11 +42,11 @@ pub fn few_digits_at(s: &[u8], at: usize) -> Digits
     let mut i = at;
     while is_digit_at(s, i) {
         let d = u64::from(s[i] - b'0');
-        if !next_fits(acc, d) {
+        let Some(more) = with_digit(acc, d) else {
             let len = digits_end(s, i) - at;
             return Digits { len, value: None };
-        }
-        acc = acc * 10 + d;
+        };
+        acc = more;
         i += 1;
     }
     let len = i - at;
@@ -62,9 +60,9 @@ pub fn few_digits_at(s: &[u8], at: usize) -> Digits
 pub fn from_str(s: &[u8]) -> Option<u64>
     ensures { result ≡ number_of s.now }
 {
-    let at = plus_len(s);
-    let run = digits_at(s, at);
-    if run.len == 0 || run.len < s.len() - at {
+    let digits = s.strip_prefix(b"+").unwrap_or(s);
+    let run = digits_at(digits, 0);
+    if run.len == 0 || run.len < digits.len() {
         return None;
     }
     run.value
@@ -101,12 +99,15 @@ fn digits_end(s: &[u8], at: usize) -> usize
     requires { at ≤ length s.now }
     ensures { result ≡ at + length (take_while digit (drop at s.now)) }
 {
-    for i in at..s.len() {
-        if !in_range(b'0', b'9', s[i]) {
-            return i;
-        }
-    }
-    s.len()
+    at + digits_len(&s[at..])
+}
+
+// How many digits a text starts with.
+fn digits_len(s: &[u8]) -> usize
+    ensures count { result ≡ prefix_len digit s.now }
+    ensures within { result ≤ length s.now }
+{
+    s.iter().take_while(|a| in_range(b'0', b'9', **a)).count()
 }
 
 // Passes blocks of zeros. Most numbers don't start with one.
@@ -116,26 +117,25 @@ fn pass_zeros(s: &[u8], at: usize) -> usize
     if !is_zero_at(s, at) {
         return at;
     }
-    // From any offset, by blocks; the test has the bounds, so no iterator is plainer.
-    let mut i = at;
-    while zeros_at(s, i) {
-        i += BLOCK;
-    }
-    i
+    let (blocks, _) = s[at..].as_chunks::<BLOCK>();
+    at + BLOCK * zero_blocks(blocks)
 }
 
-fn is_zero_at(s: &[u8], at: usize) -> bool {
-    at < s.len() && s[at] == b'0'
-}
-
-// Whether a block of zeros stands at an offset.
-fn zeros_at(s: &[u8], at: usize) -> bool
-    ensures { ZerosAt s.now at 16 result }
+// How many blocks of zeros come first.
+fn zero_blocks(blocks: &[[u8; BLOCK]]) -> usize
+    ensures few { result ≤ length blocks.now }
+    ensures zeros { result ≡ prefix_len (all (λ c. c == 48)) blocks.now }
 {
-    if s.len() < at || s.len() - at < BLOCK {
-        return false;
-    }
-    all_zeros(&s[at..at + BLOCK])
+    blocks
+        .iter()
+        .take_while(|block| all_zeros(&block[..]))
+        .count()
+}
+
+fn is_zero_at(s: &[u8], at: usize) -> bool
+    ensures { result ≡ true → at < length s.now }
+{
+    at < s.len() && s[at] == b'0'
 }
 
 fn all_zeros(block: &[u8]) -> bool
@@ -144,25 +144,11 @@ fn all_zeros(block: &[u8]) -> bool
     block.iter().fold(true, |zeros, c| zeros & (*c == b'0'))
 }
 
-// Whether a number with one digit more is below 2^64.
-fn next_fits(acc: u64, d: u64) -> bool
-    requires { d ≤ 9 }
-    ensures { result ≡ ltb (acc * 10 + d) (2 ^ 64) }
+// A number with one digit more, where that is below 2^64.
+fn with_digit(n: u64, d: u64) -> Option<u64>
+    ensures { MatchOption result (2 ^ 64 ≤ n * 10 + d) (λ more. (more < 2 ^ 64) × (more ≡ n * 10 + d)) }
 {
-    if acc < TENTH {
-        return true;
-    }
-    if acc > TENTH {
-        return false;
-    }
-    d <= 5
-}
-
-// How many bytes the plus takes that a text may start with.
-fn plus_len(s: &[u8]) -> usize
-    ensures { (result ≤ length s.now) × (drop result s.now ≡ without_plus s.now) }
-{
-    if !s.is_empty() && s[0] == b'+' { 1 } else { 0 }
+    n.checked_mul(10)?.checked_add(d)
 }
 
 // The len digits of a number, from the last to the first, two in a turn. What is left of the number says when it ends; no iterator has

@@ -1,9 +1,9 @@
 pub mod Again
+pub mod Signs
 pub mod Stack
 pub mod Walk
 pub mod Postfix
 pub mod WaitingLoop
-pub mod Factors
 pub mod OperatorStep
 pub mod Names
 pub mod WalkStep

@@ -10,9 +10,9 @@ use borrow.Author.Tests.{eq-eqb, ne_eqb}
 use Rattle.base.specs.Outcome.{is}
 use Rattle.base.specs.Code.Stack.{stack_of}
 use Rattle.base.proofs.Parts.{take-drop_slice}
-use Rattle.base.proofs.Stack.{length_stack, stack_push}
+use Rattle.base.proofs.Stack.{length_stack}
 use Rattle.token.specs.Token.{tokens, scan}
-use Rattle.token.specs.Code.Places.{token_at}
+use Rattle.token.specs.Code.Places.{end_at}
 use Rattle.grammar.specs.Tree.{num}
 use Rattle.grammar.specs.Grammar.{levels}
 use Rattle.grammar.specs.Parse.{meaning}
@@ -21,18 +21,20 @@ use Rattle.grammar.specs.Code.Texts.{text_of}
 use Rattle.writer.specs.Code.Overwrites.{Overwrites}
 use Rattle.emission.specs.Code.Lines.{push_text, operators_text}
 use Rattle.writer.proofs.Pieces.{overwrites_none, overwrites_then, overwrites_length}
-use Rattle.std.specs.Prelude.{Option}
-use Rattle.emission.specs.declared.Piece.{Piece}
-use Rattle.emission.specs.declared.factor.Factor.{Factor}
-use Rattle.emission.specs.declared.factor.Factor.TheVariants.{Open, Literal, Name, Nothing}
-use Rattle.emission.specs.declared.factor.FactorAt.{FactorAt}
+use Rattle.std.specs.Prelude.{Option, None, Ok, Err, map}
+use Rattle.base.specs.declared.span.Span.{Span}
+use Rattle.expression.specs.declared.ExprError.{ExprError}
+use Rattle.expression.specs.declared.factors.Factor.{Factor}
+use Rattle.expression.specs.declared.factors.Factor.TheVariants.{Open, Literal, Name}
+use Rattle.expression.specs.declared.factors.FactorAt.{FactorAt}
 use Rattle.emission.specs.declared.operator.Turn.{Turn}
-use Rattle.emission.specs.Code.Factor.{factor_at}
+use Rattle.expression.specs.Code.Factor.{first_factor, factor_at}
 use Rattle.emission.specs.declared.waiting.Waiting.{Waiting}
-use Rattle.emission.specs.Code.Waiting.{most, popped, stack, pushed, none_waiting, Holds}
-use Rattle.emission.specs.Code.Turn.{sign_at, down_to, CanTurn, Turns}
+use Rattle.emission.specs.Code.Waiting.{most, sign_of, popped, stack, pushed, none_waiting, Holds}
+use Rattle.emission.specs.Code.Turn.{symbol_at, down_to, CanTurn, Turns}
 use Rattle.emission.specs.Code.Emitted.{tree_between, MeansTree, KeepsWritten}
-use Rattle.emission.proofs.Stack.{text_num}
+use Rattle.emission.proofs.Stack.{text_num, stack_pushed}
+use Rattle.expression.proofs.FirstToken.{ended_as, ended_refused}
 use Rattle.emission.proofs.Walk.{Walks}
 use Rattle.emission.proofs.Postfix.{postfix}
 use Rattle.emission.proofs.WalkStep.{token_past, Factored, onward, Operated, factor_step, operator_step}
@@ -53,16 +55,16 @@ module _ (s : List ℕ) (c : Sources) (count end : ℕ) (whole out₀ : List ℕ
     pub room : at + length whole ≤ length out₀
 
 -- the loop's invariant
-pub record Running (s : List ℕ) (c : Sources) (count start end : ℕ) (out₀ : List ℕ) (at : ℕ) (out : List ℕ) (to : ℕ) (waiting : Waiting) (i : ℕ) (due : Bool) (pieces : List (Option Piece)) : Type 0 where
+pub record Running (s : List ℕ) (c : Sources) (count start end : ℕ) (out₀ : List ℕ) (at : ℕ) (out : List ℕ) (to : ℕ) (waiting : Waiting) (i : ℕ) (due : Bool) (pieces : List (Option Span)) : Type 0 where
   pub fixed : Fixed s c count end (text_of (tree_between s c count start end)) out₀ at
   pub going : Going s c count end (text_of (tree_between s c count start end)) out₀ at out to waiting i due
   pub kept : KeepsWritten s c out to pieces
 
-pub running_as : {s : List ℕ} {c : Sources} {count start end : ℕ} {out₀ : List ℕ} {at : ℕ} {out : List ℕ} {to : ℕ} {waiting : Waiting} {i : ℕ} {due d : Bool} {pieces : List (Option Piece)} → Running s c count start end out₀ at out to waiting i due pieces → due ≡ d → Running s c count start end out₀ at out to waiting i d pieces
+pub running_as : {s : List ℕ} {c : Sources} {count start end : ℕ} {out₀ : List ℕ} {at : ℕ} {out : List ℕ} {to : ℕ} {waiting : Waiting} {i : ℕ} {due d : Bool} {pieces : List (Option Span)} → Running s c count start end out₀ at out to waiting i due pieces → due ≡ d → Running s c count start end out₀ at out to waiting i d pieces
 running_as {s} {c} {count} {start} {end} {out₀} {at} {out} {to} {waiting} {i} {due} {d} {pieces} r e = subst (λ (b : Bool). Running s c count start end out₀ at out to waiting i b pieces) e r
 
 -- a token is behind the place, or the end is
-past : (s : List ℕ) (end i : ℕ) → end ≤ length s → i < end → {j : ℕ} → j ≡ (token_at (take end s) i).end → end - j < end - i
+past : (s : List ℕ) (end i : ℕ) → end ≤ length s → i < end → {j : ℕ} → j ≡ end_at (take end s) i → end - j < end - i
 past s end i h l e = omega (arith, token_past (take end s) i (omega (arith, length-take-le end s h)))
 
 -- it starts with nothing written
@@ -77,7 +79,7 @@ going_starts {s} {c} {count} {start} {end} {out} {at} m = record {
   walks = postfix (env_of s c count) (drop start (take end s)) (tree_between s c count start end) m.is;
 }
 
-pub running_starts : {s : List ℕ} {c : Sources} {count start end : ℕ} {out : List ℕ} {at : ℕ} {pieces : List (Option Piece)} → MeansTree s c count start end → at + length (text_of (tree_between s c count start end)) ≤ length out → KeepsWritten s c out at pieces → Running s c count start end out at out at none_waiting start true pieces
+pub running_starts : {s : List ℕ} {c : Sources} {count start end : ℕ} {out : List ℕ} {at : ℕ} {pieces : List (Option Span)} → MeansTree s c count start end → at + length (text_of (tree_between s c count start end)) ≤ length out → KeepsWritten s c out at pieces → Running s c count start end out at out at none_waiting start true pieces
 running_starts m r k = record { fixed = record { stand = m.stand; inside = m.inside; room = r }; going = going_starts m; kept = k }
 
 module _ {s : List ℕ} {c : Sources} {count end : ℕ} {whole out₀ : List ℕ} {at : ℕ} (x : Fixed s c count end whole out₀ at) {out : List ℕ} {to : ℕ} {waiting : Waiting} {i : ℕ} where
@@ -107,26 +109,30 @@ module _ {s : List ℕ} {c : Sources} {count end : ℕ} {whole out₀ : List ℕ
       }
 
   -- a factor
-  module _ (g : Going s c count end whole out₀ at out to waiting i true) {next : FactorAt} (e : next ≡ factor_at s end i count c.names c.lens c.tags) where
-    behind : next.end ≡ (token_at (take end s) i).end
-    behind = ap (λ (y : FactorAt). y.end) e
+  module _ (g : Going s c count end whole out₀ at out to waiting i true) where
+    step : Factored s c count (onward s c count (take end s) i (stack waiting) g.rest) (stack waiting) g.rest (first_factor s count c.names c.lens c.tags (tokens (drop i (take end s))))
+    step = factor_step s c count x.stand (take end s) i (stack waiting) g.rest g.walks
 
-    step : (f : Factor) → next.factor ≡ f → Factored s c count (onward s c count (take end s) i (stack waiting) g.rest) (stack waiting) g.rest f
-    step f q = subst (Factored s c count (onward s c count (take end s) i (stack waiting) g.rest) (stack waiting) g.rest) (sym (ap (λ (y : FactorAt). y.factor) e) ∙ q) (factor_step s c count x.stand (take end s) i (stack waiting) g.rest g.walks)
+    pub no_factor : {x : ExprError} → factor_at s (take end s) i count c.names c.lens c.tags ≡ Err x → ⊥
+    no_factor e = rw (ended_refused _ _ e) at step
 
-    there : (due : Bool) (st o : List ℕ) → Walks (env_of s c count) due st (tokens (drop (token_at (take end s) i).end (take end s))) o → Walks (env_of s c count) due st (tokens (drop next.end (take end s))) o
+  module _ (g : Going s c count end whole out₀ at out to waiting i true) {next : FactorAt} (e : factor_at s (take end s) i count c.names c.lens c.tags ≡ Ok next) where
+    behind : next.end ≡ end_at (take end s) i
+    behind = (ended_as _ _ e).1
+
+    read : (f : Factor) → next.factor ≡ f → Factored s c count (onward s c count (take end s) i (stack waiting) g.rest) (stack waiting) g.rest (Ok f)
+    read f q = subst (Factored s c count (onward s c count (take end s) i (stack waiting) g.rest) (stack waiting) g.rest) ((ended_as _ _ e).0 ∙ ap Ok q) (step g)
+
+    there : (due : Bool) (st o : List ℕ) → Walks (env_of s c count) due st (tokens (drop (end_at (take end s) i) (take end s))) o → Walks (env_of s c count) due st (tokens (drop next.end (take end s))) o
     there due st o w = subst (λ (j : ℕ). Walks (env_of s c count) due st (tokens (drop j (take end s))) o) (sym behind) w
 
     pub factor_past : i < end → end - next.end < end - i
     factor_past l = past s end i x.inside l behind
 
-    pub no_factor : next.factor ≡ Nothing → ⊥
-    no_factor q = step Nothing q
-
     pub open_room : next.factor ≡ Open → waiting.count < most
-    open_room q = omega (arith, (step Open q).0, length_stack waiting.signs waiting.count)
+    open_room q = omega (arith, (read Open q).0, length_stack (map sign_of waiting.operators) waiting.count)
 
-    pub opened : next.factor ≡ Open → Going s c count end whole out₀ at out to (pushed waiting 40) next.end true
+    pub opened : next.factor ≡ Open → Going s c count end whole out₀ at out to (pushed waiting None) next.end true
     opened q =
         let l = open_room q in
         record {
@@ -135,45 +141,42 @@ module _ {s : List ℕ} {c : Sources} {count end : ℕ} {whole out₀ : List ℕ
           all = g.all;
           put = g.put;
           holds = record { few = omega arith; full = simp length-set g.holds.full };
-          walks = rw (stack_push waiting.signs waiting.count 40 (omega (arith, g.holds.full))) (there true (40 ∷ stack waiting) g.rest (step Open q).1);
+          walks = rw (stack_pushed waiting None (omega (arith, g.holds.full))) (there true (40 ∷ stack waiting) g.rest (read Open q).1);
         }
 
     module _ (v : ℕ) (q : next.factor ≡ Literal v) where
       pub literal_fits : to + length (push_text v) ≤ length out
-      literal_fits = let w = step (Literal v) q in fits g (push_text v) w.0 w.1.0
+      literal_fits = let w = read (Literal v) q in fits g (push_text v) w.0 w.1.0
 
       pub literal_goes : {new : List ℕ} {r : ℕ} → Overwrites out to (push_text v) new r → Going s c count end whole out₀ at new r waiting next.end false
-      literal_goes p = let w = step (Literal v) q in goes g (push_text v) w.0 w.1.0 p g.holds (there false (stack waiting) w.0 w.1.1)
+      literal_goes p = let w = read (Literal v) q in goes g (push_text v) w.0 w.1.0 p g.holds (there false (stack waiting) w.0 w.1.1)
 
     module _ (b : ℕ) (q : next.factor ≡ Name b) where
       pub name_below : b < count
-      name_below = (step (Name b) q).0
+      name_below = (read (Name b) q).0
 
       pub name_stands : AllInText s c (b + 1)
       name_stands j l = x.stand j (omega (arith, name_below))
 
       pub name_fits : to + length (text_of (tree_of s c b)) ≤ length out
-      name_fits = let w = (step (Name b) q).1 in fits g (text_of (tree_of s c b)) w.0 w.1.0
+      name_fits = let w = (read (Name b) q).1 in fits g (text_of (tree_of s c b)) w.0 w.1.0
 
       pub name_goes : {new : List ℕ} {r : ℕ} → Overwrites out to (text_of (tree_of s c b)) new r → Going s c count end whole out₀ at new r waiting next.end false
-      name_goes p = let w = (step (Name b) q).1 in goes g (text_of (tree_of s c b)) w.0 w.1.0 p g.holds (there false (stack waiting) w.0 w.1.1)
+      name_goes p = let w = (read (Name b) q).1 in goes g (text_of (tree_of s c b)) w.0 w.1.0 p g.holds (there false (stack waiting) w.0 w.1.1)
 
   -- an operator
   module _ (g : Going s c count end whole out₀ at out to waiting i false) where
-    turn : Operated s c count (take end s) i (stack waiting) g.rest (sign_at s end i)
+    turn : Operated s c count (take end s) i (stack waiting) g.rest (symbol_at (take end s) i)
     turn = operator_step s c count (take end s) i (stack waiting) g.rest g.walks
 
-    pub turn_ready : CanTurn s end i out to waiting
-    turn_ready = record { inside = x.inside; holds = g.holds; room = fits g (operators_text (popped (down_to (sign_at s end i)) (stack waiting))) turn.o' turn.text; operator = turn.room; mark = turn.mark }
+    pub turn_ready : i < end → CanTurn (take end s) i out to waiting
+    turn_ready l = record { before = omega (arith, length-take-le end s x.inside); holds = g.holds; room = fits g (operators_text (popped (down_to (symbol_at (take end s) i)) (stack waiting))) turn.o' turn.text; operator = turn.room; mark = turn.mark; last = turn.last }
 
-    pub turn_room : to + length (operators_text (popped (down_to (sign_at s end i)) (stack waiting))) ≤ length out
-    turn_room = fits g (operators_text (popped (down_to (sign_at s end i)) (stack waiting))) turn.o' turn.text
+    pub turn_room : to + length (operators_text (popped (down_to (symbol_at (take end s) i)) (stack waiting))) ≤ length out
+    turn_room = fits g (operators_text (popped (down_to (symbol_at (take end s) i)) (stack waiting))) turn.o' turn.text
 
-    pub turn_past : {new : List ℕ} {waiting' : Waiting} {r : Turn} → i < end → Turns s end i out to waiting new waiting' r → end - r.at < end - i
-    turn_past l t = past s end i x.inside l t.next
-
-    pub turn_goes : {new : List ℕ} {waiting' : Waiting} {r : Turn} → Turns s end i out to waiting new waiting' r → Going s c count end whole out₀ at new r.to waiting' r.at r.due
-    turn_goes t = goes g (operators_text (popped (down_to (sign_at s end i)) (stack waiting))) turn.o' turn.text t.put t.holds (rw (t.next, t.stacked, t.due) turn.walks)
+    pub turn_goes : {new : List ℕ} {waiting' : Waiting} {r : Turn} → Turns (take end s) i out to waiting new waiting' r → Going s c count end whole out₀ at new r.to waiting' r.at r.due
+    turn_goes t = goes g (operators_text (popped (down_to (symbol_at (take end s) i)) (stack waiting))) turn.o' turn.text t.put t.holds (rw (t.next, t.stacked, t.due) turn.walks)
 
   -- the end
   module _ {due : Bool} (g : Going s c count end whole out₀ at out to waiting i due) (l : end ≤ i) where

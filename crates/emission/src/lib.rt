@@ -8,64 +8,59 @@ ghost use Rattle.grammar.specs.Code.Texts.{text_of};
 ghost use Rattle.writer.specs.Code.Overwrites.{Overwrites};
 ghost use Rattle.emission.specs.Code.Emitted.{known_tree, binding_tree, KnownMeans, KnownStand, Keeps, Before};
 
-mod factor;
 mod operator;
 mod waiting;
 
+use base::Span;
 use bindings::names::Known;
-use factor::{Factor, factor_at};
+use expression::factors::{Factor, factor_at};
+use expression::parts::Level;
 use operator::operate;
-use waiting::{LEVELS, none_waiting};
+use waiting::none_waiting;
 use writer::put_push;
 
-// Where what a binding wrote stands in the output.
-#[derive(Clone, Copy)]
-struct Piece {
-    pub start: usize,
-    pub end: usize,
-}
-
-// Writes the expression from start to end of the text at an offset of the output, where there is room for it, and returns the offset
+// Writes, at an offset of the output, the expression in a span of the text, where there is room for it, and returns the offset
 // behind it. Assembly calls it with the last return of a contract that it accepts, whose expressions were all parsed, and only where
 // the output's length, added up in parsing, fits (26).
-pub fn emit(known: Known, start: usize, end: usize, out: &mut [u8], at: usize) -> usize
-    requires means_tree { KnownMeans known start end }
-    requires end_in_bounds { at + length (text_of (known_tree known start end)) ≤ length out.old }
-    ensures { Overwrites out.old at (text_of (known_tree known.entry start end)) out.new result }
+pub fn emit(known: Known, expr: Span, out: &mut [u8], at: usize) -> usize
+    requires means_tree { KnownMeans known expr }
+    requires end_in_bounds { at + length (text_of (known_tree known expr)) ≤ length out.old }
+    ensures { Overwrites out.old at (text_of (known_tree known.entry expr)) out.new result }
 {
+    // Where what a binding wrote stands in the output, for each that there may be: memory is fixed.
     let mut pieces = [None; 256];
-    expression(known, start, end, out, at, &mut pieces)
+    expression(known, expr, out, at, &mut pieces)
 }
 
 // Parentheses are no recursion: the operators wait on one flat stack.
 #[cycle(binding_expression)]
 fn expression(
     known: Known,
-    start: usize,
-    end: usize,
+    expr: Span,
     out: &mut [u8],
     at: usize,
-    pieces: &mut [Option<Piece>; 256],
+    pieces: &mut [Option<Span>; 256],
 ) -> usize
-    requires means_tree { KnownMeans known start end }
-    requires end_in_bounds { at + length (text_of (known_tree known start end)) ≤ length out.old }
+    requires means_tree { KnownMeans known expr }
+    requires end_in_bounds { at + length (text_of (known_tree known expr)) ≤ length out.old }
     requires keeps { Keeps known out.old at pieces.old }
-    ensures wrote { Overwrites out.old at (text_of (known_tree known.entry start end)) out.new result }
+    ensures wrote { Overwrites out.old at (text_of (known_tree known.entry expr)) out.new result }
     ensures keeps { Keeps known.entry out.new result pieces.new }
 {
+    let text = &known.text[..expr.end];
     let mut waiting = none_waiting();
     let mut due = true;
-    let mut i = start;
+    let mut i = expr.start;
     let mut to = at;
     // A turn passes a token, and the next factor or operator says where it ends: no iterator is plainer.
-    while i < end {
+    while i < expr.end {
         if due {
-            let next = factor_at(known, end, i);
+            let Ok(next) = factor_at(known, text, i) else {
+                return to;
+            };
             i = next.end;
             match next.factor {
-                Factor::Open => {
-                    waiting.push(b'(');
-                }
+                Factor::Open => waiting.push(None),
                 Factor::Literal(value) => {
                     to = put_push(out, to, value);
                     due = false;
@@ -74,18 +69,15 @@ fn expression(
                     to = binding(known, b, out, to, pieces);
                     due = false;
                 }
-                Factor::Nothing => {
-                    return to;
-                }
             }
         } else {
-            let next = operate(known.text, end, i, out, to, &mut waiting);
+            let next = operate(text, i, out, to, &mut waiting);
             i = next.at;
             to = next.to;
             due = next.due;
         }
     }
-    waiting.write(out, to, LEVELS)
+    waiting.write(out, to, Level::Comparison)
 }
 
 // The binding b: once more, where it was written before; a parameter; or its expression, whose names mean the bindings before it.
@@ -95,7 +87,7 @@ fn binding(
     b: usize,
     out: &mut [u8],
     at: usize,
-    pieces: &mut [Option<Piece>; 256],
+    pieces: &mut [Option<Span>; 256],
 ) -> usize
     requires stand { (b < 256) × KnownStand known (b + 1) }
     requires b_in_bounds { at + length (text_of (binding_tree known b)) ≤ length out.old }
@@ -111,21 +103,18 @@ fn binding(
         return put_push(out, at, known.values.value[b]);
     }
     let start = usize::from(known.table.expr_start[b]);
-    let end = expression(
-        Known { count: b, ..known },
+    let expr = Span {
         start,
-        start + size,
-        out,
-        at,
-        pieces,
-    );
-    pieces[b] = Some(Piece { start: at, end });
+        end: start + size,
+    };
+    let end = expression(Known { count: b, ..known }, expr, out, at, pieces);
+    pieces[b] = Some(Span { start: at, end });
     end
 }
 
 // A piece of the output that stands before an offset, once more at that offset. `copy_within` took 1.8 of the time where bindings are
 // doubled: it copies byte by byte.
-fn put_again(out: &mut [u8], at: usize, piece: Piece) -> usize
+fn put_again(out: &mut [u8], at: usize, piece: Span) -> usize
     requires { Before piece at × (at + (piece.end - piece.start) ≤ length out.old) }
     ensures { Overwrites out.old at (slice piece.start piece.end out.old) out.new result }
 {

@@ -19,6 +19,7 @@ pub fn tally(stack: &mut [u64; 4096]) -> Result<Compiled, CompileError>
     let mut operands = [0u64; 6];
     let mut work = [7u64; 4];
     let mut storage = [7u64; 4];
+    // each example writes out its gate, which its contract names
     let gate = Gate {
         context: ChainContext {
             chain_id: b"atc",

@@ -7,7 +7,8 @@ use checks::VmError;
 use kinds::Program;
 use perform::{Run, State, Success};
 
-// The caller lends the stack, to look at it after the run. All buffers are 4,096 long.
+// The caller lends the stack, to look at it after the run. All buffers are 4,096 long. That the stack is of zeros is asked here and of
+// three examples: it is what their definitions run on, and a struct for it would hold one array.
 pub fn plain(text: &[u8], limit: u64, stack: &mut [u64; 4096]) -> Result<Success, VmError>
     requires { stack.old ≡ zeros }
     ensures { Ends (plainly text.now limit) result stack.new }

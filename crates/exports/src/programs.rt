@@ -27,7 +27,7 @@ impl Lent {
         }
     }
 
-    // Of the stack two items and the last entry.
+    // The number is what C's call returns. Of the stack two items and the last entry.
     fn print(&self, rt: &impl Print, call: &str, number: u64) -> io::Result<()> {
         print!(rt; "{call} {number}{}", Numbers(&self.answer))?;
         print!(rt; " |{} {}", Numbers(&self.stack[..2]), self.stack[4095])?;

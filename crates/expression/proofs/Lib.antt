@@ -1,5 +1,6 @@
 pub mod Signs
 pub mod Atoms
 pub mod Reading
-pub mod Factors
+pub mod FirstToken
+pub mod FactorMeets
 pub mod Meaning

@@ -10,12 +10,11 @@ use Rattle.numbered.specs.Numbered.{plain}
 use Rattle.numbered.specs.declared.Numbered.{Numbered}
 use Rattle.base.specs.Outcome.{Outcome, is, refused, and_then}
 use Rattle.token.specs.Token.{allowed, scan, tokens}
-use Rattle.token.specs.Code.Places.{token_at, last_end}
-use Rattle.token.specs.declared.Token.{Token}
+use Rattle.token.specs.Code.Places.{last_end}
 use Rattle.token.proofs.LastEnd.{last_end_lem}
 use Rattle.figures.specs.declared.Figures.{Figures}
 use Rattle.expression.specs.declared.ExprError.{ExprError}
-use Rattle.expression.specs.declared.ExprError.TheVariants.{InvalidCharacter, UnconsumedTokens}
+use Rattle.expression.specs.declared.ExprError.TheVariants.{InvalidCharacter}
 use Rattle.expression.specs.declared.Operand.{Operand}
 use Rattle.grammar.specs.Tree.{Tree}
 use Rattle.grammar.specs.Parse.{Env, Parse, enough, parse_f, more_f, all_read, meaning, expression, depth}
@@ -26,7 +25,6 @@ use Rattle.grammar.specs.Code.Meant.{meaning_answer, ShortText}
 use Rattle.expression.specs.Code.Answers.{parse_answer, EndsLast, Answers}
 use Rattle.expression.specs.Code.Parts.{whole_read}
 use Rattle.expression.specs.Code.Cycle.{ReadWithin, ParsesAs}
-use Rattle.expression.proofs.Signs.{none_of, next_of}
 use Rattle.grammar.proofs.Grammar.{meaning_whole, meaning-not_allowed}
 
 -- from what a text means to what is promised of it
@@ -88,14 +86,6 @@ module _ (s : List ℕ) (at : ℕ) (c : Columns) (n : ℕ) (few-is : n ≡ at_mo
   done_answers (w ∷ ts) q m = means s at c _ tt (λ env h.
       let x = m.means env (holds env h) in
       (refused (plain 19), (meaning_whole env (drop at s) a ∙ ap (λ (p : Parse). and_then p all_read) (x.1.0.same (enough expression (tokens (drop at s))) (omega arith) ∙ ap (λ (ts : List (List ℕ)). is (x.0, ts)) q), (refl, tt))))
-
--- the token that follows what was read
-module _ (s : List ℕ) (v : Figures) (t : Token) (e : t ≡ token_at s v.next) where
-  pub whole_done : t.start ≡ t.end → Ok v ≡ whole_read (tokens (drop v.next s)) v
-  whole_done h = rw (none_of s v.next t e h)
-
-  pub whole_more : (t.start ≡ t.end → ⊥) → Err UnconsumedTokens ≡ whole_read (tokens (drop v.next s)) v
-  whole_more h = rw (next_of s v.next t e h).list
 
 -- an empty text is no expression
 pub meaning_empty : (env : Env) → meaning env [] ≡ refused (plain 14)

@@ -1,3 +1,4 @@
 pub mod Parts
+pub mod Factor
 pub mod Cycle
 pub mod Answers

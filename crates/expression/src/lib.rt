@@ -1,27 +1,30 @@
 // Expressions of a contract: what one means among the bindings made before it.
 #![tactic(auto)]
 
-ghost use Rattle.std.specs.Prelude.{◌≡◌, ◌≤◌, length};
+ghost use Rattle.std.specs.Prelude.{◌≡◌, ◌≤◌, length, IfSome};
 ghost use Rattle.grammar.specs.Parse.{factor, term, sum, expression};
 ghost use Rattle.expression.specs.Answer.{expr_error_numbered};
 ghost use Rattle.expression.specs.Code.Answers.{Answers};
 ghost use Rattle.bindings.specs.Code.Table.{columns};
 ghost use Rattle.bindings.specs.Code.Known.{known_columns};
 ghost use Rattle.expression.specs.Code.Cycle.{CanParse, ParsesAs};
-ghost use Rattle.expression.specs.Code.Parts.{followed_by, nothing_yet, JoinedTo};
+ghost use Rattle.expression.specs.Code.Parts.{operator_in, JoinedTo};
 ghost use Rattle.figures.specs.Code.Figures.{SumsFit};
 
+pub mod factors;
 mod operands;
 pub mod parts;
 
 use bindings::names::Known;
 use bindings::{Bindings, Values};
+use factors::{Factor, factor_at};
 use figures::Figures;
 use figures::joining::join;
 use numbered::{Answer, Numbered, plain};
-use operands::{close, literal, name, whole};
-use parts::{Sign, is_comparison, is_product, is_sum, sign_at, symbol_byte};
-use token::{is_all_tokens, is_digit, token_at};
+use operands::{bound, close, whole};
+use parts::{Level, Sign, SignAt, level_of, sign_at};
+use token::is_all_tokens;
+use word::Operator;
 
 #[derive(Clone, Copy, Debug, PartialEq, Eq)]
 pub enum ExprError {
@@ -54,7 +57,31 @@ impl Answer for ExprError {
 #[derive(Clone, Copy)]
 struct Operand {
     pub figures: Figures,
-    pub sign: Sign,
+    pub sign: Option<SignAt>,
+}
+
+impl Operand {
+    // The operator behind it, where that is of a level, and where its token ends.
+    fn operator(self, level: Level) -> Option<(Operator, usize)>
+        ensures { result ≡ operator_in level self.sign }
+    {
+        match self.sign {
+            Some(
+                SignAt {
+                    sign: Sign::Operator(operator),
+                    end,
+                },
+            ) if level_of(operator) == level => Some((operator, end)),
+            _ => None,
+        }
+    }
+}
+
+// What stands before an operand: what is read so far, and the operator behind it.
+#[derive(Clone, Copy)]
+struct Left {
+    pub figures: Figures,
+    pub operator: Operator,
 }
 
 // So many parentheses may be open at once.
@@ -81,19 +108,27 @@ pub fn parse(text: &[u8], at: usize, table: Bindings, values: Values) -> Result<
 }
 
 // Sums joined by < and ==. Room is how many more parentheses may be open; it and the offset differ from call to call, and `CanParse` is
-// one fact of `known`. The three levels differ in the sign's test and in the level
-// that they call; they are three functions since the project's rules give the cycle that form, and a cycle goes through no closure.
+// one fact of `known`. The three levels differ in the operators' level and in the function that they call; they are three functions since
+// the project's rules give the cycle that form, and a cycle goes through no closure. The call stands in one place: with one before the
+// loop and one in it, which needs no Option, a sum of 65,000 bytes took 1.9 of the time, since the cycle is then no longer compiled into
+// one function.
 #[cycle(expression_factor_sum_term)]
 fn expression(known: Known, at: usize, room: usize) -> Result<Operand, ExprError>
     requires { CanParse known }
     ensures { ParsesAs known.entry.text.now at (known_columns known.entry) expression room result }
 {
-    let mut left = nothing_yet(at);
+    let mut left = None;
+    let mut next = at;
     loop {
-        left = joined(left, sum(known, left.sign.end, room)?);
-        if !is_comparison(left.sign.byte) {
-            return Ok(left);
-        }
+        let read = joined(left, sum(known, next, room)?);
+        let Some((operator, end)) = read.operator(Level::Comparison) else {
+            return Ok(read);
+        };
+        left = Some(Left {
+            figures: read.figures,
+            operator,
+        });
+        next = end;
     }
 }
 
@@ -103,12 +138,18 @@ fn sum(known: Known, at: usize, room: usize) -> Result<Operand, ExprError>
     requires { CanParse known }
     ensures { ParsesAs known.entry.text.now at (known_columns known.entry) sum room result }
 {
-    let mut left = nothing_yet(at);
+    let mut left = None;
+    let mut next = at;
     loop {
-        left = joined(left, term(known, left.sign.end, room)?);
-        if !is_sum(left.sign.byte) {
-            return Ok(left);
-        }
+        let read = joined(left, term(known, next, room)?);
+        let Some((operator, end)) = read.operator(Level::Sum) else {
+            return Ok(read);
+        };
+        left = Some(Left {
+            figures: read.figures,
+            operator,
+        });
+        next = end;
     }
 }
 
@@ -118,12 +159,18 @@ fn term(known: Known, at: usize, room: usize) -> Result<Operand, ExprError>
     requires { CanParse known }
     ensures { ParsesAs known.entry.text.now at (known_columns known.entry) term room result }
 {
-    let mut left = nothing_yet(at);
+    let mut left = None;
+    let mut next = at;
     loop {
-        left = joined(left, factor(known, left.sign.end, room)?);
-        if !is_product(left.sign.byte) {
-            return Ok(left);
-        }
+        let read = joined(left, factor(known, next, room)?);
+        let Some((operator, end)) = read.operator(Level::Product) else {
+            return Ok(read);
+        };
+        left = Some(Left {
+            figures: read.figures,
+            operator,
+        });
+        next = end;
     }
 }
 
@@ -134,63 +181,35 @@ fn factor(known: Known, at: usize, room: usize) -> Result<Operand, ExprError>
     ensures { ParsesAs known.entry.text.now at (known_columns known.entry) factor room result }
 {
     let text = known.text;
-    let token = token_at(text, at);
-    let start = token.start;
-    let end = token.end;
-    if start == end {
-        return Err(ExprError::UnexpectedEnd);
-    }
-    if symbol_byte(&text[start..end]) == b'(' {
-        if room == 0 {
-            return Err(ExprError::TooDeep);
+    let next = factor_at(known, text, at)?;
+    let figures = match next.factor {
+        Factor::Open => {
+            if room == 0 {
+                return Err(ExprError::TooDeep);
+            }
+            let inner = expression(known, next.end, room - 1)?;
+            close(text, inner.figures)?
         }
-        let inner = expression(known, end, room - 1)?;
-        return followed(text, close(text, inner.figures));
-    }
-    if is_digit(text[start]) {
-        return followed(text, literal(text, start));
-    }
-    followed(text, name(known, start, end))
-}
-
-// Before the first operand: no sign stands before it.
-fn nothing_yet(at: usize) -> Operand
-    ensures { result ≡ nothing_yet at }
-{
-    Operand {
-        figures: Figures {
-            next: at,
-            k: 0,
-            p: 0,
-            len: 0,
-            value: None,
-        },
-        sign: Sign { byte: 0, end: at },
-    }
-}
-
-// The right operand alone where no sign stands before it, else two operands joined by the sign between them. The figures of what is
-// read from at most 65,536 bytes are small.
-fn joined(left: Operand, right: Operand) -> Operand
-    requires { SumsFit left.figures × SumsFit right.figures }
-    ensures { JoinedTo left right result }
-{
-    if left.sign.byte == 0 {
-        return right;
-    }
-    Operand {
-        figures: join(left.sign.byte, left.figures, right.figures),
-        sign: right.sign,
-    }
-}
-
-// A factor with the sign behind it.
-fn followed(text: &[u8], read: Result<Figures, ExprError>) -> Result<Operand, ExprError>
-    ensures { result ≡ followed_by text.now read }
-{
-    let figures = read?;
+        Factor::Literal(n) => Figures::of_number(n, next.end),
+        Factor::Name(i) => bound(known, i, next.end),
+    };
     Ok(Operand {
         figures,
         sign: sign_at(text, figures.next),
     })
+}
+
+// An operand alone, where nothing stands before it, else what the operator before it joins to it. The figures of what is read from at
+// most 65,536 bytes are small.
+fn joined(left: Option<Left>, right: Operand) -> Operand
+    requires { IfSome left (λ x. SumsFit x.figures) × SumsFit right.figures }
+    ensures { JoinedTo left right result }
+{
+    match left {
+        Some(left) => Operand {
+            figures: join(left.operator, left.figures, right.figures),
+            ..right
+        },
+        None => right,
+    }
 }

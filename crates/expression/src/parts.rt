@@ -1,59 +1,67 @@
-// Signs of an expression: a token of one byte or ==, and the operators among them.
+// Signs of an expression: a token of one byte or ==, and the levels of the operators among them.
 // Offsets stay beside the slice, since the contracts speak of places in the whole text.
 ghost use Rattle.std.specs.Prelude.{◌≡◌};
-ghost use Rattle.grammar.specs.Parse.{symbol, term, sum, expression, is_operator_at};
-ghost use Rattle.expression.specs.Code.Parts.{sign_at};
+ghost use Rattle.expression.specs.Code.Parts.{sign_of, sign_at, level_of};
 
 use token::token_at;
+use word::Operator;
 
-// A token as a sign, and where the token ends: its one byte, = for ==, or 0 for a token that is no sign, as in the definition `symbol`. An
-// Option of the byte is no plainer: each level tests the byte against its own signs, and 0 is none of them.
-#[derive(Clone, Copy)]
-pub struct Sign {
-    pub byte: u8,
+#[derive(Clone, Copy, Debug, PartialEq, Eq)]
+pub enum Sign {
+    Operator(Operator),
+    Open,
+    Close,
+}
+
+// A sign, and where its token ends.
+#[derive(Clone, Copy, Debug, PartialEq, Eq)]
+pub struct SignAt {
+    pub sign: Sign,
     pub end: usize,
 }
 
-pub fn sign_at(text: &[u8], at: usize) -> Sign
+// How tightly an operator binds, the tightest first.
+#[derive(Clone, Copy, Debug, PartialEq, Eq, PartialOrd, Ord)]
+pub enum Level {
+    Product,
+    Sum,
+    Comparison,
+}
+
+// The token at or after an offset as a sign, where one is left and is one.
+pub fn sign_at(text: &[u8], at: usize) -> Option<SignAt>
     ensures { result ≡ sign_at text.now at }
 {
-    let token = token_at(text, at);
-    let end = token.end;
-    if token.start == end {
-        return Sign { byte: 0, end };
-    }
-    Sign {
-        byte: symbol_byte(&text[token.start..end]),
-        end,
-    }
+    let token = token_at(text, at)?;
+    let sign = sign_of(&text[token.start..token.end])?;
+    Some(SignAt {
+        sign,
+        end: token.end,
+    })
 }
 
-// The byte of a token of one byte, that of = for == and for no other, else 0.
-pub fn symbol_byte(token: &[u8]) -> u8
-    ensures { result ≡ symbol token.now }
+pub fn sign_of(token: &[u8]) -> Option<Sign>
+    ensures { result ≡ sign_of token.now }
 {
     match token {
-        [b'=', b'='] => b'=',
-        [b'='] => 0,
-        [byte] => *byte,
-        _ => 0,
+        [b'('] => Some(Sign::Open),
+        [b')'] => Some(Sign::Close),
+        [b'+'] => Some(Sign::Operator(Operator::Add)),
+        [b'-'] => Some(Sign::Operator(Operator::Sub)),
+        [b'*'] => Some(Sign::Operator(Operator::Mul)),
+        [b'/'] => Some(Sign::Operator(Operator::Div)),
+        [b'<'] => Some(Sign::Operator(Operator::Less)),
+        [b'=', b'='] => Some(Sign::Operator(Operator::Equal)),
+        _ => None,
     }
 }
 
-pub fn is_comparison(sign: u8) -> bool
-    ensures { result ≡ is_operator_at expression sign }
+pub fn level_of(operator: Operator) -> Level
+    ensures { result ≡ level_of operator }
 {
-    matches!(sign, b'<' | b'=')
-}
-
-pub fn is_sum(sign: u8) -> bool
-    ensures { result ≡ is_operator_at sum sign }
-{
-    matches!(sign, b'+' | b'-')
-}
-
-pub fn is_product(sign: u8) -> bool
-    ensures { result ≡ is_operator_at term sign }
-{
-    matches!(sign, b'*' | b'/')
+    match operator {
+        Operator::Mul | Operator::Div => Level::Product,
+        Operator::Add | Operator::Sub => Level::Sum,
+        Operator::Less | Operator::Equal => Level::Comparison,
+    }
 }

@@ -1,4 +1,4 @@
-// Arguments and files, read into a buffer as far as it holds them.
+// Arguments and files, read into a buffer as far as it holds them. As with std's `Read`, a call tells how many bytes that is.
 #![tactic(auto)]
 
 ghost use Rattle.std.specs.Counts.{IsPrefixLen};

@@ -10,7 +10,7 @@ ghost use Rattle.search.specs.First.{prefix_of, first_at};
 ghost use Rattle.key.specs.Key.{quoted};
 ghost use Rattle.key.specs.Code.Marked.{Quotes, Marks, FirstBefore, Other, Holds, of_quotes};
 
-use search::any_at;
+use search::{any_at, first_that};
 
 // How many offsets a block has.
 const BLOCK: usize = 16;
@@ -136,17 +136,12 @@ impl<'a> Sought<'a> {
         (s[at] == b'"') & (s[closing] == b'"') & (s[at + mark.place] == mark.byte)
     }
 
-    // The first place before end at which the key stands in double quotes. `find` over the range was measured slower.
+    // The first place before end at which the key stands in double quotes.
     fn find_before(self, at: usize, end: usize) -> Option<usize>
         requires { (at ≤ end) × (end ≤ self.stop) }
         ensures { FirstBefore self.entry.s.now self.entry.key.now at end result }
     {
-        for i in at..end {
-            if self.stands(i) {
-                return Some(i);
-            }
-        }
-        None
+        first_that(at, end, |i| self.stands(i))
     }
 
     // Whether the key stands in double quotes at a place. Keys are short: `==` calls a function, and was measured slower.

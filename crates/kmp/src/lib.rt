@@ -21,6 +21,7 @@ pub fn find(s: &[u8], p: &[u8], at: usize) -> Option<usize>
     if MOST < p.len() {
         return search::find(s, p, at);
     }
+    // memory is fixed
     let mut shifts = [0u16; 65536];
     fill(p, &mut shifts);
     walk(s, p, &shifts, at)

@@ -24,10 +24,10 @@ alone : lines (13 ∷ 97 ∷ []) ≡ (13 ∷ 97 ∷ []) ∷ []
 alone = refl
 
 -- "a\r\nb" from its start, from its second line and from its end
-first : line_at (97 ∷ 13 ∷ 10 ∷ 98 ∷ []) 0 ≡ Some (record { start = 0; end = 1; next = 3 })
+first : line_at (97 ∷ 13 ∷ 10 ∷ 98 ∷ []) 0 ≡ Some (record { text = record { start = 0; end = 1 }; next = 3 })
 first = refl
 
-second : line_at (97 ∷ 13 ∷ 10 ∷ 98 ∷ []) 3 ≡ Some (record { start = 3; end = 4; next = 4 })
+second : line_at (97 ∷ 13 ∷ 10 ∷ 98 ∷ []) 3 ≡ Some (record { text = record { start = 3; end = 4 }; next = 4 })
 second = refl
 
 done : line_at (97 ∷ 13 ∷ 10 ∷ 98 ∷ []) 4 ≡ None

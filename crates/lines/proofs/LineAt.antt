@@ -31,7 +31,7 @@ module _ (text : List ℕ) (at : ℕ) where
   pub past : length text ≤ at → drop at text ≡ []
   past h = drop_of_length-le text {i = at} h
 
-  pub first_is : (l : Line) → line_at text at ≡ Some l → first_line (drop at text) ≡ take (l.end - at) (drop at text)
+  pub first_is : (l : Line) → line_at text at ≡ Some l → first_line (drop at text) ≡ take (l.text.end - at) (drop at text)
   first_is l e = ap head_of (step_line text at l e).is
 
 -- the lines from a place within the text on

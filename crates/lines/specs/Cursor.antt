@@ -14,7 +14,7 @@ abbrev pub first_line : List ℕ → List ℕ
 first_line s = get_or (lines s) 0 []
 
 abbrev pub line_from : List ℕ → ℕ → Line
-line_from s at = record { start = at; end = at + length (first_line (drop at s)); next = at + span (drop at s) }
+line_from s at = record { text = record { start = at; end = at + length (first_line (drop at s)) }; next = at + span (drop at s) }
 
 -- the line that starts at an offset; at the end of the text and past it there is none
 abbrev pub line_at : List ℕ → ℕ → Option Line

@@ -1,16 +1,40 @@
 // The lines of a text, one after the other, by their offsets.
+// Offsets stay beside the slice, since the contracts speak of places in the whole text.
 #![tactic(auto)]
 
-ghost use Rattle.std.specs.Prelude.{◌≡◌, ◌+◌, ◌<◌, ◌≤◌, length, drop};
+ghost use Rattle.std.specs.Prelude.{◌≡◌, ◌+◌, ◌-◌, ◌<◌, ◌≤◌, length, drop};
+ghost use Rattle.std.specs.Iterator.{at_most};
 ghost use Rattle.lines.specs.Cursor.{line_at, first_line};
-ghost use Rattle.lines.specs.Code.Visits.{feed_from};
+ghost use Rattle.lines.specs.Code.Visits.{feed_from, GivesLine};
 
-// A line's text stands from start to end; the line after it starts at next.
+use base::Span;
+
+// Where a line's text stands; the line after it starts at next.
 #[derive(Clone, Copy)]
 pub struct Line {
-    pub start: usize,
-    pub end: usize,
+    pub text: Span,
     pub next: usize,
+}
+
+// The lines of a text from an offset on, one after the other.
+#[derive(Drop)]
+pub struct Lines<'a> {
+    pub text: &'a [u8],
+    pub at: usize,
+}
+
+impl<'a> Iterator for Lines<'a> {
+    type Item = Line;
+
+    ghost next_gives = { λ s r t. GivesLine s.text.now s.at r t.text.now t.at };
+
+    ghost remaining = { λ s. at_most (length s.text.now - s.at) };
+
+    fn next(&mut self) -> Option<Line> {
+        let line = line_at(self.text, self.at)?;
+        self.at = line.next;
+        Some(line)
+    }
 }
 
 // The line that starts at an offset. The first one starts at 0, each other where the one before says.
@@ -22,15 +46,18 @@ pub fn line_at(s: &[u8], at: usize) -> Option<Line>
     }
     let feed = line_feed(s, at);
     if feed == s.len() {
-        return Some(Line {
+        let text = Span {
             start: at,
             end: feed,
-            next: feed,
-        });
+        };
+        return Some(Line { text, next: feed });
     }
-    Some(Line {
+    let text = Span {
         start: at,
         end: before_return(s, at, feed),
+    };
+    Some(Line {
+        text,
         next: feed + 1,
     })
 }

@@ -12,8 +12,9 @@ use kinds::Program;
 use machine::{Regs, Status, registers};
 
 // Operations until the program ends or is refused, from any registers that run. Crate `vm` calls it behind its
-// test of the buffers' lengths (34). Free are, by `RefinesRun`, what lies above the items and past the used slots, and after a
-// refusal both buffers: `vm` clears them. It is no part of its caller's code: inlined among the copies of slots it was slower.
+// test of the buffers' lengths (34). Stack and work are lent and change, so no struct holds them with the caller. Free are, by
+// `RefinesRun`, what lies above the items and past the used slots, and after a refusal both buffers: `vm` clears them. It is no part of its
+// caller's code: inlined among the copies of slots it was slower.
 #[inline(never)]
 pub fn run(program: Program, caller: u64, stack: &mut [u64], work: &mut [u64], from: Regs) -> Regs
     requires paired { Paired program }

@@ -1,4 +1,5 @@
 // Whether a word stands at an offset of a text.
+// The offset stays beside the slice, since the room behind it is part of what is tested.
 ghost use Rattle.std.specs.Prelude.{◌≡◌, true, drop};
 ghost use Rattle.std.specs.List.{fold, zip};
 ghost use Rattle.search.specs.First.{prefix_of};

@@ -5,7 +5,8 @@ ghost use Rattle.std.specs.Prelude.{◌≡◌, ◌≤◌, [], ◌∷◌};
 ghost use Rattle.numbered.specs.declared.Numbered.{Numbered};
 ghost use Rattle.numbered.specs.Numbered.{plain, carrying, located, unit_numbered, size_numbered, result_numbered};
 
-// The values stand first among the eight words, and the others are 0.
+// Document 01's number stays a number here and below, since C's calls return it. The values stand first among C's eight words, and the
+// others are 0.
 #[derive(Clone, Copy)]
 pub struct Numbered {
     pub number: u64,

@@ -10,7 +10,7 @@ use numbered::{Answer, Numbered, carrying, plain};
 
 // Lines are counted from 1. Offsets count bytes from 0 in the whole text. The first one and the last two are given by crate ops alone.
 // `line`, `place` and `len` stand in each case, as the Rust's enum has its fields.
-#[derive(Clone, Copy)]
+#[derive(Clone, Copy, Debug, PartialEq, Eq)]
 pub enum OpsError {
     NotUtf8,
     BadPush {

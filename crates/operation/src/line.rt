@@ -1,6 +1,6 @@
 // What one line of a text says.
 // Offsets stay beside the slice, since the contracts speak of places in the whole text.
-ghost use Rattle.std.specs.Prelude.{◌≡◌, ◌+◌, ◌-◌, ◌^◌, ◌<◌, ◌≤◌, length, take, drop};
+ghost use Rattle.std.specs.Prelude.{◌≡◌, ◌+◌, ◌^◌, ◌<◌, length};
 ghost use Rattle.kinds.specs.Kinds.{kind_of};
 ghost use Rattle.operation.specs.Line.{from_str, bad_number, operand_of, skipped, line_of};
 ghost use Rattle.operation.specs.Code.Fast.{line_read_at, FastRead, Indented};
@@ -134,16 +134,15 @@ fn general_line_at(text: &[u8], at: usize, line: usize) -> ReadLine
             next: at,
         };
     };
-    let read = read_line(text, at, l.end, line);
+    let read = read_line(&text[at..l.text.end], at, line);
     ReadLine { read, next: l.next }
 }
 
-// The line that stands from start to end, its number being line.
-fn read_line(text: &[u8], start: usize, end: usize, line: usize) -> LineRead
-    requires { (start ≤ end) × (end ≤ length text.now) }
-    ensures { result ≡ line_of from_str line start (take (end - start) (drop start text.now)) }
+// A line that starts at a place in the text, its number being line.
+fn read_line(raw: &[u8], start: usize, line: usize) -> LineRead
+    requires { start + length raw.now < 2 ^ 64 }
+    ensures { result ≡ line_of from_str line start raw.now }
 {
-    let raw = &text[start..end];
     let from_first = trim::trim_start(raw);
     let t = trim::trim_end(from_first);
     if is_skipped(t) {
@@ -152,7 +151,7 @@ fn read_line(text: &[u8], start: usize, end: usize, line: usize) -> LineRead
     let place = start + (raw.len() - from_first.len());
     match classify(t) {
         Head::Alone(kind) => LineRead::Op { kind, operand: 0 },
-        Head::Before(kind, n) => read_operand(t, n, kind, line, place + n),
+        Head::Before(kind, n) => read_operand(&t[n..], kind, line, place + n),
         Head::Unknown => {
             let len = t.len();
             LineRead::Bad(OpsError::UnknownOp { line, place, len })
@@ -160,12 +159,11 @@ fn read_line(text: &[u8], start: usize, end: usize, line: usize) -> LineRead
     }
 }
 
-// What follows a kind's word in a trimmed line: it starts at n there, and at place in the text.
-fn read_operand(t: &[u8], n: usize, kind: u8, line: usize, place: usize) -> LineRead
-    requires { (n ≤ length t.now) × (place + (length t.now - n) < 2 ^ 64) }
-    ensures { result ≡ operand_of from_str kind line place (drop n t.now) }
+// What follows a kind's word in a trimmed line: it starts at a place in the text.
+fn read_operand(rest: &[u8], kind: u8, line: usize, place: usize) -> LineRead
+    requires { place + length rest.now < 2 ^ 64 }
+    ensures { result ≡ operand_of from_str kind line place rest.now }
 {
-    let rest = &t[n..];
     let from_first = trim::trim_start(rest);
     let digits = trim::trim_end(from_first);
     match decimal::from_str(digits) {

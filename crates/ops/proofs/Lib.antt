@@ -6,4 +6,5 @@ pub mod SecondPass
 pub mod PassLine
 pub mod FirstPass
 pub mod LineStarts
+pub mod NthLine
 pub mod Examples

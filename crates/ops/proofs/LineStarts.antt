@@ -133,20 +133,20 @@ module _ (text : List ℕ) (n : ℕ) where
     some_line : line_numbered text n ≡ None → ⊥
     some_line p = let z : ◌≡◌ {A = ℕ} 0 1 = cc in omega arith
 
-    pub numbered_line : IsLine text l.start l
+    pub numbered_line : IsLine text l.text.start l
     numbered_line =
         by_number text n (λ p _ _. absurd (some_line p))
         (λ k p _ _. let i = step_line text (start_of k text) l (sym p ∙ e) in subst (λ (a : ℕ). IsLine text a l) (sym i.starts) i)
 
-    pub numbered_text : trimmed (take (l.end - l.start) (drop l.start text)) ≡ trimmed_line text n
+    pub numbered_text : trimmed (take (l.text.end - l.text.start) (drop l.text.start text)) ≡ trimmed_line text n
     numbered_text =
         by_number text n (λ p _ _. absurd (some_line p))
         (λ k p t _.
         let i = step_line text (start_of k text) l (sym p ∙ e) in
-        ap (λ (a : ℕ). trimmed (take (l.end - a) (drop a text))) i.starts
+        ap (λ (a : ℕ). trimmed (take (l.text.end - a) (drop a text))) i.starts
         ∙ ap trimmed (sym (first_is text (start_of k text) l (sym p ∙ e)) ∙ starts_at k text) ∙ sym t)
 
-    pub numbered_place : trimmed_place text n ≡ l.start + leading_blanks (take (l.end - l.start) (drop l.start text))
+    pub numbered_place : trimmed_place text n ≡ l.text.start + leading_blanks (take (l.text.end - l.text.start) (drop l.text.start text))
     numbered_place =
         by_number text n (λ p _ _. absurd (some_line p))
         (λ k p _ w.
@@ -154,4 +154,4 @@ module _ (text : List ℕ) (n : ℕ) where
         let h : start_of k text < length text = omega (arith, i.on, i.fits) in
         w ∙ placed_here text k h
         ∙ ap (λ (s : List ℕ). start_of k text + leading_blanks s) (first_is text (start_of k text) l (sym p ∙ e))
-        ∙ ap (λ (a : ℕ). a + leading_blanks (take (l.end - a) (drop a text))) (sym i.starts))
+        ∙ ap (λ (a : ℕ). a + leading_blanks (take (l.text.end - a) (drop a text))) (sym i.starts))

@@ -9,7 +9,7 @@ ghost use Rattle.ops.specs.Ops.{ReadsOps, trimmed_line, trimmed_place};
 ghost use Rattle.ops.specs.Code.Numbered.{line_numbered};
 ghost use Rattle.ops.specs.Code.Passes.{NoneRefused, PassOver};
 
-use lines::Line;
+use lines::{Line, Lines};
 use operation::OpsError;
 use operation::line::{LineRead, line_read_at};
 
@@ -33,7 +33,7 @@ pub fn trimmed_line<'a>(text: &'a [u8], line: usize) -> &'a [u8]
     ensures { Part text.entry result (trimmed_place text.now line) (trimmed_line text.now line) }
 {
     match nth_line(text, line) {
-        Some(l) => trim::trim(&text[l.start..l.end]),
+        Some(l) => trim::trim(&text[l.text.start..l.text.end]),
         None => &text[..0],
     }
 }
@@ -45,11 +45,7 @@ pub fn nth_line(text: &[u8], line: usize) -> Option<Line>
     if line == 0 || !utf8::is_utf8(text) {
         return None;
     }
-    let mut at: usize = 0;
-    for _ in 1..line {
-        at = lines::line_at(text, at)?.next;
-    }
-    lines::line_at(text, at)
+    Lines { text, at: 0 }.nth(line - 1)
 }
 
 // One pass over a text that is UTF-8. It gives the answer, and writes the operations only where it is told to. Two functions are two copies
@@ -68,7 +64,7 @@ fn pass(
     let mut at: usize = 0;
     let mut line: usize = 0;
     let mut n: usize = 0;
-    // Each line says where the next one starts: no iterator has that step.
+    // An iterator over `line_read_at` would be a type and an impl of its own for this loop alone, and no plainer.
     while at < text.len() {
         line += 1;
         let reached = line_read_at(text, at, line);

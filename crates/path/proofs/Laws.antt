@@ -1,18 +1,32 @@
 -- Laws of components and stems.
+use Rattle.std.specs.List.{find, IsAfterLastMatch}
+use Rattle.std.specs.Option.{option_or, option_map, unwrap_or}
+use Rattle.std.specs.Bool.{MatchBool}
+use Rattle.std.proofs.lemmas.Grind.{common_steps}
+use Rattle.std.proofs.lemmas.List.Folds.{find-append}
+use denote.Ref.{Bor}
+use denote.Param.Members.{Mut}
+use Rattle.std.specs.Fn.{CalledAt, ComputesKey}
+use Rattle.std.specs.Slice.Iter.{split_rest, split_done, split_callee, rsplit_parts}
+use Rattle.std.specs.declared.slice.RSplit.{RSplit}
+use Rattle.std.proofs.lemmas.Fn.{always_returns_same}
+use Rattle.std.proofs.lemmas.Iterator.{YieldsList}
+use Rattle.std.proofs.lemmas.Iterator.Splits.{YieldsList-from_shown_while}
+use lib.ListN.{length-append}
 use Rattle.std.specs.Prelude.{Option, Some, None, MatchOption}
-use Prim.Native.Nat.{ℕ, suc, ◌+◌, ◌-◌, ◌<◌, ◌≤◌}
+use Prim.Native.Nat.{ℕ, suc, ◌+◌, ◌-◌, ◌<◌}
 use mathlib.Core.Path.{◌≡◌, refl, sym, ap, subst, ◌∙◌}
-use mathlib.Core.List.{List, [], ◌∷◌, ◌++◌, append-nil, append_assoc}
-use mathlib.Core.Bool.{true, false, cond, or-true}
-use borrow.Author.Tests.{eq-eqb, ne_eqb}
+use mathlib.Core.List.{List, [], ◌∷◌, ◌++◌, append-nil, append_assoc, reverse, reverse-cons, reverse-append}
+use mathlib.Core.Bool.{Bool, not, true, false, cond, or-true}
+use borrow.Author.Tests.{eq-eqb, ne_eqb, eqb-true}
 use native.Mathlib.Omega.{arith}
 use lib.Dec.{eqb}
 use lib.ListN.{length, get_or, take, drop, length-drop}
-use lib.Seq.{split_at, take-take, length-take-le, get_or-drop}
-use Rattle.base.proofs.Parts.{take-length-drop, take-drop_slice}
-use Rattle.base.proofs.Tests.{false_true, by_eqb}
-use Rattle.path.specs.Stem.{parts_from, ignored, last_of, component, has, before_last, stem_of}
-use Rattle.path.specs.Code.Scan.{Last, LastAt, StartsPart}
+use lib.Seq.{split_at, get_or-drop}
+use Rattle.base.proofs.Parts.{take-length-drop}
+use Rattle.base.proofs.Tests.{by_bool, false_true, by_eqb}
+use Rattle.path.specs.Stem.{parts_from, ignored, last_of, has, before_last, stem_of}
+use Rattle.path.specs.Code.Scan.{Last, LastAt}
 
 -- a byte that a text has not
 module _ (b a : ℕ) (s : List ℕ) (h : has b (a ∷ s) ≡ false) where
@@ -51,48 +65,10 @@ parts_slash p (a ∷ t) q =
     (λ e. parts_cut p a (t ++ 0x2F ∷ q) e ∙ ap (λ (ps : List (List ℕ)). p ∷ ps) (parts_slash [] t q) ∙ ap (λ (ps : List (List ℕ)). ps ++ parts_from [] q) (sym (parts_cut p a t e)))
     (λ n. parts_other p a (t ++ 0x2F ∷ q) n ∙ parts_slash (p ++ a ∷ []) t q ∙ ap (λ (ps : List (List ℕ)). ps ++ parts_from [] q) (sym (parts_other p a t n)))
 
-last_of-append : (c : List ℕ) (ps qs : List (List ℕ)) → last_of c (ps ++ qs) ≡ last_of (last_of c ps) qs
-last_of-append c [] qs = refl
-last_of-append c (p ∷ ps) qs = last_of-append (cond (ignored p) c p) ps qs
-
-component_one : (q : List ℕ) → has 0x2F q ≡ false → component q ≡ cond (ignored q) [] q
-component_one q h = ap (last_of []) (parts_one [] q h)
-
-component_slash : (t q : List ℕ) → has 0x2F q ≡ false → component (t ++ 0x2F ∷ q) ≡ cond (ignored q) (component t) q
-component_slash t q h = ap (last_of []) (parts_slash [] t q) ∙ last_of-append [] (parts_from [] t) (parts_from [] q) ∙ ap (last_of (component t)) (parts_one [] q h)
-
 split_last : (b : ℕ) (s : List ℕ) (i : ℕ) → Last b s i → s ≡ take i s ++ b ∷ drop (i + 1) s
 split_last b s i l =
     let e : suc i ≡ i + 1 = omega arith in
     split_at s i 0 l.inside ∙ ap (λ (j : ℕ). take i s ++ get_or s i 0 ∷ drop j s) e ∙ ap (λ (a : ℕ). take i s ++ a ∷ drop (i + 1) s) l.here
-
--- where the last part of the text before a place starts
-module _ (s : List ℕ) (end : ℕ) (k : end ≤ length s) where
-  starts_first : has 0x2F (take end s) ≡ false → StartsPart s end 0
-  starts_first h = let z : end - 0 ≡ end = omega arith in record { ordered = omega arith; last = rw z (component_one (take end s) h) }
-
-  starts_behind : (i : ℕ) → Last 0x2F (take end s) i → StartsPart s end (i + 1)
-  starts_behind i l =
-      let t = take end s in
-      let n = length-take-le end s k in
-      let m = l.inside in
-      let o : i + 1 ≤ end = omega arith in
-      let x : i ≡ i + 1 - 1 = omega arith in
-      let y : take i t ≡ take (i + 1 - 1) s = take-take i end s (omega arith) ∙ ap (λ (j : ℕ). take j s) x in
-      let z : drop (i + 1) t ≡ take (end - (i + 1)) (drop (i + 1) s) = sym (take-drop_slice s (i + 1) end o k) in
-      record {
-        ordered = o;
-        last =
-            ap component (split_last 0x2F t i l)
-            ∙ component_slash (take i t) (drop (i + 1) t) l.behind
-            ∙ ap (λ (q : List ℕ). cond (ignored q) (component (take i t)) q) z
-            ∙ ap (λ (u : List ℕ). cond (ignored (take (end - (i + 1)) (drop (i + 1) s))) (component u) (take (end - (i + 1)) (drop (i + 1) s))) y;
-      }
-
--- by the last slash before it
-pub starts_part : (s : List ℕ) (end : ℕ) → end ≤ length s → (r : Option ℕ) (v : ℕ) → LastAt 0x2F (take end s) r → MatchOption r (v ≡ 0) (λ i. v ≡ i + 1) → StartsPart s end v
-starts_part s end k None v l e = rw e (starts_first s end k l)
-starts_part s end k (Some i) v l e = rw e (starts_behind s end k i l)
 
 -- what stands before the last of a byte
 before_none : (b : ℕ) (s : List ℕ) → has b s ≡ false → before_last b s ≡ s
@@ -139,10 +115,49 @@ last_found b s (Some i) f =
       behind = has_none b (drop (i + 1) s) (λ k h e. f.2 (i + 1 + k) (omega arith) (omega (arith, length-drop (i + 1) s)) (sym (get_or-drop (i + 1) s k 0) ∙ e));
     }
 
--- the last component by the last part
-module _ (s : List ℕ) (end start : ℕ) (e : component s ≡ component (take end s)) (p : StartsPart s end start) where
-  pub component_part : ignored (take (end - start) (drop start s)) ≡ false → take (end - start) (drop start s) ≡ component s
-  component_part h = sym (e ∙ p.last ∙ rw h refl)
+-- the last part that is not ignored, by a search from the end
+choose : (p c : List ℕ) (r : Option (List ℕ)) → unwrap_or r (cond (ignored p) c p) ≡ unwrap_or (option_or r (cond (not (ignored p)) (Some p) None)) c
+choose p c (Some x) = refl
+choose p c None = by_bool (ignored p) (λ e. rw e refl) (λ e. rw e refl)
 
-  pub component-before : ignored (take (end - start) (drop start s)) ≡ true → component s ≡ component (take (start - 1) s)
-  component-before h = e ∙ p.last ∙ rw h refl
+pub last_of_back : (c : List ℕ) (ps : List (List ℕ)) → last_of c ps ≡ unwrap_or (find (λ p. not (ignored p)) (reverse ps)) c
+last_of_back c [] = refl
+last_of_back c (p ∷ ps) =
+    last_of_back (cond (ignored p) c p) ps
+    ∙ choose p c (find (λ q. not (ignored q)) (reverse ps))
+    ∙ ap (λ (r : Option (List ℕ)). unwrap_or r c) (sym (ap (find (λ q. not (ignored q))) (reverse-cons p ps) ∙ find-append (λ q. not (ignored q)) (reverse ps) (p ∷ [])))
+
+pub back_part : (xs x rest : List ℕ) (done : Bool) → MatchBool done (xs ≡ x) ((y : ℕ) × (xs ≡ rest ++ (y ∷ x))) → IsAfterLastMatch (λ a. eqb a 0x2F) xs (length xs - length x)
+    → reverse (parts_from [] xs) ≡ x ∷ cond done [] (reverse (parts_from [] rest))
+back_part xs x rest true e h =
+    ap (λ (s : List ℕ). reverse (parts_from [] s)) e
+    ∙ ap reverse (parts_one [] x (has_none 0x2F x (λ k l q. false_true (sym (h.0 k 0 (omega (arith, ap length e)) (omega (arith, ap length e))) ∙ ap (λ (s : List ℕ). eqb (get_or s k 0) 0x2F) e ∙ eq-eqb _ _ q))))
+back_part xs x rest false e h =
+    let hit : eqb e.0 0x2F ≡ true = let b = e.1 in let a = h.1 (grind (arith, common_steps)) e.0 in grind (arith, common_steps) in
+    let n : length rest + suc (length x) ≡ length xs = sym (ap length e.1 ∙ length-append rest (e.0 ∷ x)) in
+    let none : has 0x2F x ≡ false = has_none 0x2F x (λ k l q. let a = h.0 (length rest + 1 + k) 0 (omega arith) (omega arith) in let b = e.1 in let f : get_or xs (length rest + 1 + k) 0 ≡ get_or x k 0 = grind (arith, common_steps) in false_true (sym a ∙ eq-eqb _ _ (f ∙ q))) in
+    ap (λ (s : List ℕ). reverse (parts_from [] s)) (e.1 ∙ ap (λ (a : ℕ). rest ++ a ∷ x) (eqb-true _ _ hit))
+    ∙ ap reverse (parts_slash [] rest x ∙ ap (λ (ps : List (List ℕ)). parts_from [] rest ++ ps) (parts_one [] x none))
+    ∙ reverse-append (parts_from [] rest) (x ∷ [])
+
+pub shown_found : (r : Option (Bor (List ℕ))) (d : Bor (List ℕ)) → d.now ≡ [] → (unwrap_or r d).now ≡ unwrap_or (option_map (λ x. x.now) r) []
+shown_found None d e = e
+shown_found (Some x) d e = refl
+
+-- the steps of `rsplit`, and what they yield
+abbrev rsplit_steps : {F : Type 0} → Mut F (Bor ℕ × Unit {0}) Bool → RSplit ℕ F → Option (Bor (List ℕ)) → RSplit ℕ F → Type 0
+rsplit_steps {F} g s r t =
+    MatchOption r ((split_done (rsplit_parts s) ≡ true) × (rsplit_parts t ≡ rsplit_parts s))
+    (λ x. (split_done (rsplit_parts s) ≡ false) × MatchBool (split_done (rsplit_parts t)) (split_rest (rsplit_parts s) ≡ x.now) ((y : ℕ) × (split_rest (rsplit_parts s) ≡ split_rest (rsplit_parts t) ++ (y ∷ x.now)))
+    × ((p : ℕ → Bool) → ComputesKey g p (split_callee (rsplit_parts s)) → ComputesKey g p (split_callee (rsplit_parts t)) × IsAfterLastMatch p (split_rest (rsplit_parts s)) (length (split_rest (rsplit_parts s)) - length x.now)))
+
+pub parts_yielded : {F : Type 0} {s : RSplit ℕ F} (g : Mut F (Bor ℕ × Unit {0}) Bool) {f : F} (xs : List ℕ) → split_rest (rsplit_parts s) ≡ xs → split_done (rsplit_parts s) ≡ false → split_callee (rsplit_parts s) ≡ f
+    → ((x : ℕ) (b : Bool) (q : F) → CalledAt g f x b q → (q ≡ f) × (b ≡ eqb x 0x2F)) → YieldsList (rsplit_steps g) (λ x. x.now) s (reverse (parts_from [] xs))
+parts_yielded {F} {s} g {f} xs rest done closure tests =
+    let parts = λ (t : RSplit ℕ F). reverse (parts_from [] (split_rest (rsplit_parts t))) in
+    let shown = λ (t : RSplit ℕ F). cond (split_done (rsplit_parts t)) [] (parts t) in
+    subst (YieldsList (rsplit_steps g) (λ x. x.now) s) (ap (λ (b : Bool). cond b [] (parts s)) done ∙ ap (λ (u : List ℕ). reverse (parts_from [] u)) rest)
+    (YieldsList-from_shown_while (rsplit_steps g) (λ x. x.now) shown (λ t. ComputesKey g (λ a. eqb a 0x2F) (split_callee (rsplit_parts t)))
+    (λ t u h k. ap (λ (b : Bool). length (cond b [] (parts t))) k.0)
+    (λ t x u h k. let m = k.2 (λ a. eqb a 0x2F) h in (m.0, ap (λ (b : Bool). cond b [] (parts t)) k.0 ∙ back_part _ x.now _ (split_done (rsplit_parts u)) k.1 m.1))
+    s (subst (ComputesKey g (λ a. eqb a 0x2F)) (sym closure) (always_returns_same g (λ a r. r ≡ eqb a.0.now 0x2F) f (λ a r q k. let m = tests a.0.now r q (record { shown = a.0; shows = refl; called = k }) in (m.1, m.0)))))

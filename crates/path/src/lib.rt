@@ -1,9 +1,9 @@
 // The stem of the file that a Unix path names, as a part of what was lent.
 #![tactic(auto)]
 
-ghost use Rattle.std.specs.Prelude.{◌≡◌, ◌≤◌, length};
+ghost use Rattle.std.specs.Prelude.{◌≡◌};
 ghost use Rattle.path.specs.Stem.{ignored, parent, component, file_name, stem_of, file_stem};
-ghost use Rattle.path.specs.Code.Scan.{LastAt, StartsPart};
+ghost use Rattle.path.specs.Code.Scan.{LastAt};
 
 pub fn file_stem(path: &[u8]) -> &[u8]
     ensures { result.now ≡ file_stem path.now }
@@ -22,29 +22,13 @@ fn file_name(path: &[u8]) -> &[u8]
     last
 }
 
-// Empty where there is none. The step varies, so it is a `loop`.
+// Empty where there is none.
 fn last_component(path: &[u8]) -> &[u8]
     ensures { result.now ≡ component path.now }
 {
-    let mut end = path.len();
-    loop {
-        let start = part_start(path, end);
-        if !is_ignored(&path[start..end]) {
-            return &path[start..end];
-        }
-        if start == 0 {
-            return &path[..0];
-        }
-        end = start - 1;
-    }
-}
-
-// Where the part starts that ends at an offset: behind the last slash before it.
-fn part_start(path: &[u8], end: usize) -> usize
-    requires { end ≤ length path.now }
-    ensures { StartsPart path.now end result }
-{
-    last_byte(&path[..end], b'/').map_or(0, |i| i + 1)
+    path.rsplit(|a| *a == b'/')
+        .find(|part| !is_ignored(part))
+        .unwrap_or(&path[..0])
 }
 
 fn is_ignored(part: &[u8]) -> bool

@@ -1,4 +1,4 @@
-// Copies and zeros in the lent buffers. The run calls them with lengths that lie within both buffers, by the test of lengths (34).
+// Copies and zeros in the lent buffers, by std's calls, with the promises that the run's definition is met by. The run calls them with lengths that lie within both buffers, by the test of lengths (34).
 ghost use Rattle.std.specs.Prelude.{◌≡◌, ◌++◌, ◌&&◌, ◌-◌, ◌≤◌, length, take, replicate, leb, ltb};
 ghost use Rattle.perform.specs.Code.Needed.{Copied};
 

@@ -1,4 +1,5 @@
-// Text put together piece by piece at the start of a lent buffer. What has no room is cut off.
+// Text put together piece by piece at the start of a lent buffer. What has no room is cut off. How long the text is travels beside the
+// buffer: in a struct that holds it, each contract would have to say what the field held at entry.
 #![tactic(auto)]
 
 ghost use Rattle.decimal.specs.Decimal.{decimal};
@@ -21,6 +22,7 @@ pub fn add_bytes(out: &mut [u8], len: usize, bytes: &[u8]) -> usize
 pub fn add_decimal(out: &mut [u8], len: usize, n: u64) -> usize
     ensures { Added out.old len (decimal n) out.new result }
 {
+    // no number has more, and memory is fixed
     let mut digits = [0u8; 20];
     let count = put_decimal(&mut digits, 0, n);
     add_bytes(out, len, &digits[..count])

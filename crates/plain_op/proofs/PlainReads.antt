@@ -6,7 +6,7 @@ use mathlib.Core.Path.{◌≡◌, subst, refl, sym, ap, ◌∙◌}
 use mathlib.Core.List.{List, [], ◌∷◌, ◌++◌, append_assoc, append-nil}
 use mathlib.Core.Bool.{Bool, true, false, cond}
 use native.Mathlib.Omega.{arith}
-use lib.ListN.{length, drop, length-append, length-drop}
+use lib.ListN.{length, get_or, drop, length-append, length-drop}
 use lib.Seq.{drop-drop}
 use Rattle.base.specs.Lists.{all, take_while}
 use Rattle.base.proofs.Tests.{and_left, between}
@@ -52,7 +52,7 @@ number_of_lem [] v e h p = absurd (omega arith)
 number_of_lem (a ∷ d) v e h p =
     let b = between 48 57 a (and_left (digit a) (all digit d) e) in
     let o = take_while_all digit (a ∷ d) e in
-    read_all (a ∷ d) 0 (not_signed (a ∷ d) (λ q. omega arith)) (λ q. omega (arith, ap length o)) (omega (arith, ap length o))
+    read_all (a ∷ d) (a ∷ d) (not_signed (a ∷ d) (λ rest q. omega (arith, ap (λ (s : List ℕ). get_or s 0 0) q))) (λ q. omega (arith, ap length o)) (omega (arith, ap length o))
     ∙ ap (λ (s : List ℕ). capped (value s)) o ∙ p
 
 abbrev run : List ℕ → ℕ → List ℕ

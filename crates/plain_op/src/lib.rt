@@ -1,4 +1,6 @@
-// An operation as the assembler writes it, read from its start on, with no look for the line's end first.
+// An operation as the assembler writes it, read from its start on, with no look for the line's end first. The words stand in `mnemonic`
+// too: this way is there for speed alone (docs/DECISIONS.md), and answers only where the other does the same.
+// Offsets stay beside the slice, since the contracts speak of places in the whole text.
 #![tactic(auto)]
 
 ghost use Rattle.std.specs.Prelude.{◌≡◌, true, Some, None, cond, ◌<◌, ◌≤◌, length};
@@ -43,6 +45,7 @@ pub fn plain_at(text: &[u8], at: usize) -> Option<PlainOp>
     }
 }
 
+// The offset is asked to be in the text: so those of the operands fit.
 fn jumps(text: &[u8], at: usize) -> Option<PlainOp>
     requires { at < length text.now }
     ensures { PlainRead text.now at result }

@@ -11,7 +11,7 @@ use Rattle.base.proofs.Tests.{false_true}
 use Rattle.context.specs.declared.ContextError.{ContextError}
 use Rattle.context.specs.declared.ContextError.TheVariants.{InvalidChainId, InvalidNetworkId, InvalidGenesisId, ProtocolMismatch, VmMismatch, GenesisMismatch}
 use Rattle.context.specs.Gate.{is_network, is_genesis_id, gate_of, gate_numbered}
-use Rattle.context.proofs.Laws.{equal_refl}
+use Rattle.base.proofs.Equal.{equal_refl}
 use Rattle.relied.specs.Numbers.{Among}
 
 -- the `unreachable!` of `execution_gate`, and the header's "Gives 0, 35 to 40"

@@ -20,6 +20,8 @@ pub fn verify(rt: &(impl Print + AllocGlobal), case: Case) -> io::Result<()> {
     rt.print(Told(checks::verify(program, case.number(4) as usize).numbered()))
 }
 
+// What is written of the original is what it has after the call: the items and the used slots. Document 01 says it of all three buffers
+// whole.
 pub fn run(rt: &(impl Print + AllocGlobal), call: RunCall, case: Case) -> io::Result<()> {
     let kinds = case.bytes(rt.alloc(), 2)?;
     let operands = case.numbers(rt.alloc(), 3)?;
@@ -38,43 +40,20 @@ pub fn run(rt: &(impl Print + AllocGlobal), call: RunCall, case: Case) -> io::Re
             used: case.number(4) as usize,
         },
     };
-    replayed(
-        rt,
-        call,
-        case.is_of_document(),
-        run,
-        &texts,
-        &mut stack[..case.length(7, 4100)],
-        &mut work[..case.length(8, 65540)],
-        &mut storage,
-    )
-}
-
-// What the original has after the call: the items and the used slots. Document 01 says it of all three buffers whole.
-fn replayed(
-    rt: &impl Print,
-    call: RunCall,
-    whole: bool,
-    run: Run,
-    texts: &[u8],
-    stack: &mut [u64],
-    work: &mut [u64],
-    storage: &mut [u64],
-) -> io::Result<()> {
-    let answer = called(call, run, texts, stack, work, storage);
+    let stack = &mut stack[..case.length(7, 4100)];
+    let work = &mut work[..case.length(8, 65540)];
+    let answer = called(call, run, &texts, stack, work, &mut storage);
     rt.print(Told(answer.numbered()))?;
-    if whole {
-        return print!(rt; " | {} | {} | {}", List(stack), List(storage), List(work));
+    if case.is_of_document() {
+        return print!(rt; " | {} | {} | {}", List(stack), List(&storage), List(work));
     }
     let (items, used) = match answer {
         Ok(success) => (success.items, success.state.used),
         Err(_) => (0, run.state.used),
     };
-    print!(rt;
-        " | {} | {}",
-        List(front(stack, items)),
-        List(front(storage, used))
-    )
+    let items = stack.get(..items).unwrap_or(stack);
+    let used = storage.get(..used).unwrap_or(&storage);
+    print!(rt; " | {} | {}", List(items), List(used))
 }
 
 fn called(
@@ -101,9 +80,4 @@ fn called(
             storage,
         ),
     }
-}
-
-// The first n entries, or all where there are fewer.
-fn front(s: &[u64], n: usize) -> &[u64] {
-    &s[..n.min(s.len())]
 }

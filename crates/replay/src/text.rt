@@ -4,6 +4,7 @@ use crate::call::TextCall;
 use crate::case::Case;
 use crate::hex::Hex;
 use crate::{function, gate};
+use lines::{Line, Lines};
 use numbered::Answer;
 use std::fmt::Display;
 use std::io;
@@ -33,12 +34,9 @@ pub fn replay(rt: &(impl Print + AllocGlobal), call: TextCall, case: Case) -> io
     }
 }
 
-// A `while`, since each line says where the next one starts: its step varies, and no iterator gives the lines' places.
-fn lines(rt: &impl Print, s: &[u8]) -> io::Result<()> {
-    let mut at = 0;
-    while let Some(line) = lines::line_at(s, at) {
-        print!(rt; " {} {} {}", line.start, line.end, line.next)?;
-        at = line.next;
+fn lines(rt: &impl Print, text: &[u8]) -> io::Result<()> {
+    for Line { text, next } in (Lines { text, at: 0 }) {
+        print!(rt; " {} {} {next}", text.start, text.end)?;
     }
     Ok(())
 }

@@ -80,6 +80,7 @@ fn of_run(program: Program) -> Report
     }
 }
 
+// The report prints document 01's number, so it is handed as one: 27 stands for a text that is never read.
 fn refused(number: u64) -> Report
     ensures { result ≡ refused_with number }
 {

@@ -61,6 +61,10 @@ module _ (s vector : List ℕ) (a : Code.TableState) (start end : ℕ) (w : With
 abbrev pub names_from : List ℕ → ℕ → ℕ → List (List ℕ)
 names_from s end at = parameters (drop at (take end s))
 
+-- what the iterator over the text before `end` gives
+pub given : (s : List ℕ) (end at : ℕ) {text : List ℕ} {r : Option Parameter} → text ≡ take end s → parameter_at text at ≡ r → parameter_at (take end s) at ≡ r
+given s end at t e = ap (λ (u : List ℕ). parameter_at u at) (sym t) ∙ e
+
 module _ (s : List ℕ) (start end : ℕ) (w : Within s start end) where
   pub all_names : parameters (part s start end) ≡ names_from s end start
   all_names = ap parameters (take-drop_slice s start end w.ordered w.inside)

@@ -11,7 +11,7 @@ use lib.ListN.{length, get_or, take}
 use lib.Seq.{length-take-le}
 use Rattle.base.specs.Outcome.{is}
 use Rattle.base.proofs.Tests.{by_eqb}
-use Rattle.source.specs.declared.parameters.Span.{Span}
+use Rattle.base.specs.declared.span.Span.{Span}
 use Rattle.bindings.specs.declared.Bindings.{Bindings}
 use Rattle.bindings.specs.declared.Values.{Values}
 use Rattle.figures.specs.declared.Figures.{Figures}
@@ -77,7 +77,7 @@ module _ (s t : List ℕ) (b b' : Bindings) (v v' : Values) (h : AllSame s (sour
         few = omega (arith, q.few);
         ordered = q.ordered;
         inside = omega (arith, q.inside);
-        means = rw (e, parts r.start r.end q.ordered q.inside) q.means;
+        means = rw (e, parts r.expr.start r.expr.end q.ordered q.inside) q.means;
       }
 
   last_same : (x : Option Returned) (o : Option Tree) → LastIs s b v x o → LastIs t b' v' x o

@@ -6,7 +6,7 @@ use Rattle.std.specs.Prelude.{false, is_none, unwrap_or}
 use native.Mathlib.Omega.{arith}
 use lib.ListN.{length, set, length-set}
 use lib.Seq.{get_or-set_same, get_or-set_other}
-use Rattle.source.specs.declared.parameters.Span.{Span}
+use Rattle.base.specs.declared.span.Span.{Span}
 use Rattle.figures.specs.declared.Figures.{Figures}
 use Rattle.scope.specs.declared.state.TableState.{TableState}
 use Rattle.bindings.specs.declared.Bindings.{Bindings}

@@ -9,7 +9,7 @@ use native.Mathlib.Omega.{arith}
 use lib.ListN.{length, take, drop}
 use lib.Seq.{length-take-le}
 use Rattle.base.proofs.Parts.{take-drop-take}
-use Rattle.source.specs.declared.parameters.Span.{Span}
+use Rattle.base.specs.declared.span.Span.{Span}
 use Rattle.figures.specs.declared.Figures.{Figures}
 use Rattle.grammar.specs.Tree.{Tree, num, bin, k_of, p_of}
 use Rattle.grammar.specs.Parse.{Binding, Env}

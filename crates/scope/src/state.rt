@@ -5,15 +5,14 @@ ghost use Rattle.scope.specs.Code.Stored.{FiguresFit, SpanFits, Binds};
 
 use crate::refusal::AssembleError;
 use crate::table::row_of;
+use base::Span;
 use bindings::{Bindings, Values};
 use figures::Figures;
-use source::parameters::Span;
 
-// The last return: its expression stands from start to end of the contract, and count bindings were made before its line.
+// The last return: where its expression stands in the contract, and how many bindings were made before its line.
 #[derive(Clone, Copy)]
 pub struct Returned {
-    pub start: usize,
-    pub end: usize,
+    pub expr: Span,
     pub count: usize,
     pub read: Figures,
 }

@@ -4,10 +4,10 @@ ghost use Rattle.scope.specs.Part.{part};
 ghost use Rattle.scope.specs.Code.Stored.{nothing_yet, FiguresFit, SpanFits, row_of};
 
 use crate::state::TableState;
+use base::Span;
 use bindings::names::tag_of;
 use bindings::{Bindings, Row, Values};
 use figures::Figures;
-use source::parameters::Span;
 
 pub fn started() -> TableState
     ensures { result ≡ nothing_yet }

@@ -1,21 +1,22 @@
 -- Blocks of a list: those that a search passes, and the first place in one.
-use Rattle.std.specs.Prelude.{Some}
+use Rattle.std.specs.Prelude.{Some, None}
 use Prim.Native.Nat.{ℕ, zero, suc, ◌+◌, ◌-◌, ◌*◌, ◌/◌, ◌<◌, ◌≤◌}
-use mathlib.Core.Path.{◌≡◌, sym, ap, ◌∙◌}
+use mathlib.Core.Path.{◌≡◌, refl, sym, ap, ◌∙◌}
 use mathlib.Core.List.{List, [], ◌∷◌}
-use mathlib.Core.Bool.{false}
-use borrow.Author.Tests.{eq-eqb}
+use mathlib.Core.Bool.{Bool, true, false, not, ◌&&◌, ◌||◌, and-true}
+use borrow.Author.Tests.{eq-eqb, eqb-true}
 use native.Mathlib.Omega.{arith}
 use lib.Dec.{eqb}
 use lib.ListN.{length, get_or, take, drop, length-drop}
 use lib.Seq.{drop-drop, length-take-le}
-use Rattle.std.specs.List.{list_any, prefix_len}
+use Rattle.std.specs.List.{fold, list_any, prefix_len}
 use Rattle.std.specs.Simd.{first_chunks}
 use Rattle.std.proofs.lemmas.List.Folds.{list_any_at}
 use Rattle.base.specs.Code.Skips.{Skips}
 use Rattle.base.proofs.Tests.{by_bool, false_true}
 use Rattle.search.specs.First.{first_at}
-use Rattle.search.specs.Code.Scan.{FirstIn, without}
+use Rattle.base.specs.Lists.{without}
+use Rattle.search.specs.Code.Scan.{FirstThat, is_at}
 use Rattle.search.proofs.Laws.{passed, found_at}
 
 -- the block of n bytes at a place
@@ -45,24 +46,22 @@ chunk_at n (suc k) s (suc i) d h =
     chunk_at n k (drop n s) i d (omega arith) ∙ ap (take n) (drop-drop (n * i) n s ∙ ap (λ (j : ℕ). drop j s) z)
 
 -- the first place in one of the blocks of 64 of what stands from a place on
-module _ (b : ℕ) (s : List ℕ) (at : ℕ) (t : List ℕ) (e : t ≡ drop at s) (h : at ≤ length s) (xs : List (List ℕ)) (x : xs ≡ first_chunks 64 (length t / 64) t) (n : length xs ≡ length t / 64) (i m : ℕ) (l : i < length xs) (f : FirstIn b (get_or xs i []) 64 m) where
+module _ (b : ℕ) (s : List ℕ) (at : ℕ) (t : List ℕ) (e : t ≡ drop at s) (h : at ≤ length s) (xs : List (List ℕ)) (x : xs ≡ first_chunks 64 (length t / 64) t) (n : length xs ≡ length t / 64) (i : ℕ) (l : i < length xs) where
   within : at + 64 * i + 64 ≤ length s
   within = let r : length t ≡ length s - at = ap length e ∙ length-drop at s in omega arith
 
-  of_place : FirstIn b (take 64 (drop (at + 64 * i) s)) 64 m
-  of_place =
-      let q : get_or xs i [] ≡ take 64 (drop (at + 64 * i) s) =
-      ap (λ (ys : List (List ℕ)). get_or ys i []) x ∙ chunk_at 64 (length t / 64) t i [] (omega arith) ∙ ap (λ (u : List ℕ). take 64 (drop (64 * i) u)) e ∙ ap (take 64) (drop-drop (64 * i) at s) in
-      rw q at f
+  block_is : get_or xs i [] ≡ take 64 (drop (at + 64 * i) s)
+  block_is = ap (λ (ys : List (List ℕ)). get_or ys i []) x ∙ chunk_at 64 (length t / 64) t i [] (omega arith) ∙ ap (λ (u : List ℕ). take 64 (drop (64 * i) u)) e ∙ ap (take 64) (drop-drop (64 * i) at s)
 
-  pub block_hit : m < 64 → first_at (b ∷ []) s (at + 64 * i) ≡ Some (at + 64 * i + m)
-  block_hit g =
-      let p = of_place in
-      let r = p.here g in
-      found_at b 64 s (at + 64 * i) within m g r.1 (λ k q. p.before k (omega arith) q)
+  other : (k : ℕ) → is_at b (get_or xs i []) k false → get_or (take 64 (drop (at + 64 * i) s)) k 0 ≡ b → ⊥
+  other k f q = false_true (sym f ∙ ap (λ (u : List ℕ). eqb (get_or u k 0) b) block_is ∙ eq-eqb _ _ q)
 
-  pub block_miss : 64 ≤ m → Skips (first_at (b ∷ []) s) (at + 64 * i) (at + 64 * (i + 1))
-  block_miss g =
+  pub block_hit : (m : ℕ) → FirstThat (is_at b (get_or xs i [])) 0 64 (Some m) → first_at (b ∷ []) s (at + 64 * i) ≡ Some (at + 64 * i + m)
+  block_hit m f =
+      let y = eqb-true _ _ (ap (λ (u : List ℕ). eqb (get_or u m 0) b) (sym block_is) ∙ f.2) in
+      found_at b 64 s (at + 64 * i) within m f.1 y (λ k q. other k (f.3 k (omega arith) q))
+
+  pub block_miss : FirstThat (is_at b (get_or xs i [])) 0 64 None → Skips (first_at (b ∷ []) s) (at + 64 * i) (at + 64 * (i + 1))
+  block_miss f =
       let z : at + 64 * i + 64 ≡ at + 64 * (i + 1) = omega arith in
-      let p = of_place in
-      passed b 64 s (at + 64 * i) within 64 (omega arith) (λ k q. p.before k q (omega arith)) ∙ ap (first_at (b ∷ []) s) z
+      passed b 64 s (at + 64 * i) within 64 (omega arith) (λ k q. other k (f k (omega arith) q)) ∙ ap (first_at (b ∷ []) s) z

@@ -40,12 +40,6 @@ module _ (p : List ℕ) (n : ℕ) where
   pub from_end : prefix_of p [] ≡ false → first_from n p [] ≡ None
   from_end e = rw (e, first_from)
 
--- the first place before an end at which p stands, if there is one
-abbrev pub IsFirst : List ℕ → List ℕ → ℕ → ℕ → Option ℕ → Type 0
-IsFirst p s at end r =
-    MatchOption r ((k : ℕ) → at ≤ k → k < end → prefix_of p (drop k s) ≡ false)
-    (λ i. (at ≤ i) × (i < end) × (prefix_of p (drop i s) ≡ true) × ((k : ℕ) → at ≤ k → k < i → prefix_of p (drop k s) ≡ false))
-
 module _ (p s : List ℕ) where
   pub past : (at : ℕ) → length s < at → first_at p s at ≡ None
   past at h = rw (lt-leb at (length s) h, first_at)
@@ -74,10 +68,13 @@ module _ (p s : List ℕ) where
       let e : at + (i - at) ≡ i = omega arith in
       rw e at (skips_all (first_at p s) (i - at) at (λ k l. miss (at + k) (f (at + k) (omega arith) (omega arith))))
 
-  -- r is the first of the places before an end at which p stands
-  pub first_before : (at end : ℕ) → at ≤ end → end ≤ length s → (r : Option ℕ) → IsFirst p s at end r → first_at p s at ≡ option_or r (first_at p s end)
-  first_before at end h l None f = skip at end h f
-  first_before at end h l (Some i) f = skip at i f.0 f.3 ∙ hit i (omega arith) f.2
+  -- r is the first of the places before an end of which a test says that p stands there
+  pub first_before : (at end : ℕ) → at ≤ end → end ≤ length s → {Yes No : ℕ → Type 0} (r : Option ℕ)
+      → MatchOption r ((k : ℕ) → at ≤ k → k < end → No k) (λ i. (at ≤ i) × (i < end) × Yes i × ((k : ℕ) → at ≤ k → k < i → No k))
+      → ((k : ℕ) → at ≤ k → k < end → Yes k → prefix_of p (drop k s) ≡ true) → ((k : ℕ) → at ≤ k → k < end → No k → prefix_of p (drop k s) ≡ false)
+      → first_at p s at ≡ option_or r (first_at p s end)
+  first_before at end h l None f yes' no' = skip at end h (λ k a b. no' k a b (f k a b))
+  first_before at end h l (Some i) f yes' no' = skip at i f.0 (λ k a b. no' k a (omega (arith, f.1)) (f.3 k a b)) ∙ hit i (omega (arith, f.1)) (yes' i f.0 f.1 f.2)
 
   -- a test that says yes wherever p stands says no at each of the places
   pub skip_no : (at i : ℕ) → at ≤ i → ((k : ℕ) → at ≤ k → k < i → (prefix_of p (drop k s) ≡ true → false ≡ true)) → Skips (first_at p s) at i

@@ -7,9 +7,10 @@ ghost use Rattle.std.specs.Prelude.{◌≡◌, [], ◌∷◌, true, false, ◌+�
 ghost use Rattle.std.specs.Option.{option_or};
 ghost use Rattle.std.specs.List.{prefix_len};
 ghost use Rattle.search.specs.First.{prefix_of, first_at};
-ghost use Rattle.search.specs.Code.Scan.{RoomAtEach, FirstIn, without};
+ghost use Rattle.base.specs.Lists.{without};
+ghost use Rattle.search.specs.Code.Scan.{RoomAtEach, FirstThat, is_at};
 
-use base::pick;
+use base::{lacks, pick};
 
 // How many offsets a block has.
 const BLOCK: usize = 16;
@@ -34,25 +35,26 @@ pub fn find_far_byte(s: &[u8], b: u8, at: usize) -> Option<usize>
     }
     let (blocks, _) = s[at..].as_chunks::<64>();
     for (n, block) in blocks.iter().enumerate() {
-        let k = place_in(block, b);
-        if k < 64 {
-            return Some(at + 64 * n + usize::from(k));
+        if let Some(k) = place_in(block, b) {
+            return Some(at + 64 * n + k);
         }
     }
     find_byte(s, b, at + 64 * blocks.len())
 }
 
-// The first place of b in a block, or 64.
-fn place_in(block: &[u8; 64], b: u8) -> u8
-    ensures { FirstIn b block.now 64 result }
+// The first place of b in a block. The minimum has no branch, and compiles to vector code: `zip` with the range in a fold took 5 to 18
+// times the time, `contains` and then `position` up to 1.9 times.
+fn place_in(block: &[u8; 64], b: u8) -> Option<usize>
+    ensures { FirstThat (is_at b block.now) 0 64 result }
 {
     let mut least = 64;
-    for k in 0..64 {
+    for k in 0..64u8 {
         least = pick(block[usize::from(k)] == b, k, 64).min(least);
     }
-    least
+    (least < 64).then_some(usize::from(least))
 }
 
+// For a text from an offset on, where nothing is left past its end; from 0, the method says it.
 pub fn starts_with(s: &[u8], p: &[u8], at: usize) -> bool
     ensures { result ≡ prefix_of p.now (drop at s.now) }
 {
@@ -90,7 +92,7 @@ fn blocks_without(blocks: &[[u8; BLOCK]], b: u8) -> usize
 {
     blocks
         .iter()
-        .take_while(|block| !block.contains(&b))
+        .take_while(|block| lacks(&block[..], b))
         .count()
 }
 
@@ -111,6 +113,7 @@ fn find_string(s: &[u8], p: &[u8], at: usize) -> Option<usize>
 {
     let stop = s.len() - p.len() + 1;
     let blocks = (stop - at) / BLOCK;
+    // By `step_by` an invariant has to say that the offsets go by whole blocks, so it is no plainer.
     for n in 0..blocks {
         let i = at + BLOCK * n;
         if any_at(i, BLOCK, |k| agrees(s, p, k)) {
@@ -122,7 +125,8 @@ fn find_string(s: &[u8], p: &[u8], at: usize) -> Option<usize>
     string_before(s, p, at + BLOCK * blocks, stop)
 }
 
-// Whether a test says yes at one of the n offsets starting at an offset. It has no branch.
+// Whether a test says yes at one of the n offsets starting at an offset. It has no branch. Counted from 0, since a block's n is a constant:
+// a loop over `at..at + n` took 1.1 to 1.6 times the time. A fold's proof has to follow what the closure asks at each turn.
 pub fn any_at<F: Fn(usize) -> bool>(at: usize, n: usize, test: F) -> bool
     requires fits { at + n < 2 ^ 64 }
     requires test { (i : ℕ) → at ≤ i → i < at + n → F.pre test i }
@@ -146,17 +150,25 @@ fn agrees(s: &[u8], p: &[u8], at: usize) -> bool
     (s[at] == p[0]) & (s[at + last] == p[last]) & (s[at + middle] == p[middle])
 }
 
-// The first offset before end at which p stands. `find` over the range was measured slower.
-fn string_before(s: &[u8], p: &[u8], at: usize, end: usize) -> Option<usize>
-    requires { RoomAtEach p.now s.now at end }
-    ensures { first_at p.now s.now at ≡ option_or result (first_at p.now s.now end) }
+// The first offset from an offset on and before end at which a test says yes. `find` over the range was measured slower.
+pub fn first_that<F: Fn(usize) -> bool>(at: usize, end: usize, test: F) -> Option<usize>
+    requires { (i : ℕ) → at ≤ i → i < end → F.pre test i }
+    ensures { FirstThat (F.post test) at end result }
 {
     for i in at..end {
-        if stands(s, p, i) {
+        if test(i) {
             return Some(i);
         }
     }
     None
+}
+
+// The first offset before end at which p stands.
+fn string_before(s: &[u8], p: &[u8], at: usize, end: usize) -> Option<usize>
+    requires { RoomAtEach p.now s.now at end }
+    ensures { first_at p.now s.now at ≡ option_or result (first_at p.now s.now end) }
+{
+    first_that(at, end, |i| stands(s, p, i))
 }
 
 // Whether p stands at an offset that has room for it. The first byte is tried first. `starts_with` calls a function, and was measured

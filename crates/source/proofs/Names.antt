@@ -8,7 +8,7 @@ use Rattle.base.proofs.Parts.{take-drop-take}
 use Rattle.trim.specs.Trim.{leading_blanks, trimmed}
 use Rattle.source.specs.Parameters.{name}
 use Rattle.source.specs.Code.Cursor.{before, trimmed_span, name_span}
-use Rattle.source.specs.declared.parameters.Span.{Span}
+use Rattle.base.specs.declared.span.Span.{Span}
 use Rattle.source.proofs.Cuts.{before-length, before_starts, cut_at}
 use Rattle.source.proofs.Trimmed.{trimmed_place_lem, trimmed_fits}
 

@@ -10,7 +10,7 @@ use Rattle.base.proofs.Parts.{take-drop-take}
 use Rattle.base.proofs.Tests.{by_leb, by_eqb}
 use Rattle.source.specs.Parameters.{front, pieces, name, names, unless_empty, parameters}
 use Rattle.source.specs.Code.Cursor.{before, name_span, comma, placed, first_kept, parameter_at}
-use Rattle.source.specs.declared.parameters.Span.{Span}
+use Rattle.base.specs.declared.span.Span.{Span}
 use Rattle.source.specs.declared.parameters.Parameter.{Parameter}
 use Rattle.source.proofs.Cuts.{before-length, before_starts, cut_at, cut_length, pieces-comma, pieces_other, pieces_one, pieces_more}
 use Rattle.source.proofs.Names.{name_fits, name_place}

@@ -2,7 +2,7 @@
 ghost use Rattle.numbered.specs.Numbered.{Answered};
 ghost use Rattle.source.specs.Function.{function_of, function_error_numbered, function_numbered};
 
-use crate::parameters::Span;
+use base::Span;
 use numbered::{Answer, Numbered, plain};
 use search::{find, find_byte};
 

@@ -1,37 +1,40 @@
 // The parameters of a function, one after the other, by their places.
 // Offsets stay beside the slice, since the contracts speak of places in the whole text.
-ghost use Rattle.std.specs.Prelude.{◌≡◌, ◌+◌, ◌^◌, ◌<◌, ◌≤◌, length, take, drop};
+ghost use Rattle.std.specs.Prelude.{◌≡◌, ◌+◌, ◌-◌, ◌^◌, ◌<◌, ◌≤◌, length, take, drop};
+ghost use Rattle.std.specs.Iterator.{at_most};
 ghost use Rattle.source.specs.Parameters.{pieces};
-ghost use Rattle.source.specs.Code.Cursor.{before, trimmed_span, name_span, placed, parameter_at};
+ghost use Rattle.source.specs.Code.Cursor.{before, trimmed_span, name_span, placed, parameter_at, GivesName};
 
+use base::Span;
 use search::find_byte;
 use trim::{trim_end, trim_start};
-
-// Where a part of a text starts and ends.
-#[derive(Clone, Copy, Debug, PartialEq, Eq)]
-pub struct Span {
-    pub start: usize,
-    pub end: usize,
-}
-
-impl Span {
-    // The same part, where a text stands that starts at an offset of another.
-    fn behind(self, at: usize) -> Span
-        requires { (at + self.start < 2 ^ 64) × (at + self.end < 2 ^ 64) }
-        ensures { result ≡ record { start = at + self.start; end = at + self.end } }
-    {
-        Span {
-            start: at + self.start,
-            end: at + self.end,
-        }
-    }
-}
 
 // Where a parameter's name stands; the parameters behind it are sought from next on.
 #[derive(Clone, Copy, Debug, PartialEq, Eq)]
 pub struct Parameter {
     pub name: Span,
     pub next: usize,
+}
+
+// The names of the parameters of a text from a place on, one after the other.
+#[derive(Drop)]
+pub struct Parameters<'a> {
+    pub text: &'a [u8],
+    pub at: usize,
+}
+
+impl<'a> Iterator for Parameters<'a> {
+    type Item = Span;
+
+    ghost next_gives = { λ s r t. GivesName s.text.now s.at r t.text.now t.at };
+
+    ghost remaining = { λ s. at_most (length s.text.now - s.at) };
+
+    fn next(&mut self) -> Option<Span> {
+        let parameter = next_of(self.text, self.at)?;
+        self.at = parameter.next;
+        Some(parameter.name)
+    }
 }
 
 // The next parameter of the text before end, from a place on.
@@ -41,7 +44,8 @@ pub fn next_parameter(text: &[u8], at: usize, end: usize) -> Option<Parameter>
     next_of(&text[..end.min(text.len())], at)
 }
 
-// The next parameter of a whole text. The loop goes from comma to comma: its step varies, and no iterator is plainer.
+// The next parameter of a whole text. An iterator over the pieces would be a type and an impl of its own for this loop alone, and no
+// plainer.
 fn next_of(s: &[u8], at: usize) -> Option<Parameter>
     ensures { result ≡ parameter_at s.now at }
 {

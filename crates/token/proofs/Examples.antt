@@ -2,6 +2,7 @@
 use mathlib.Core.Path.{◌≡◌, refl}
 use mathlib.Core.List.{[], ◌∷◌}
 use mathlib.Core.Bool.{true, false}
+use Rattle.std.specs.Prelude.{Some, None}
 use Rattle.base.specs.Ascii.{ascii}
 use Rattle.token.specs.Token.{allowed, scan, tokens}
 use Rattle.token.specs.Code.Places.{token_at}
@@ -12,11 +13,11 @@ unfolding scan
 mixed = refl
 
 -- `a +7`, from the second byte on
-placed : token_at (97 ∷ 32 ∷ 43 ∷ 55 ∷ []) 1 ≡ record { start = 2; end = 3 }
+placed : token_at (97 ∷ 32 ∷ 43 ∷ 55 ∷ []) 1 ≡ Some (record { start = 2; end = 3 })
 unfolding scan
 placed = refl
 
-no_more : token_at (97 ∷ 32 ∷ []) 1 ≡ record { start = 2; end = 2 }
+no_more : token_at (97 ∷ 32 ∷ []) 1 ≡ None
 unfolding scan
 no_more = refl
 

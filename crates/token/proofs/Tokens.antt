@@ -13,10 +13,12 @@ use Rattle.base.proofs.Tests.{by_bool, by_leb, by_eqb, below, between}
 use Rattle.base.proofs.Parts.{drop_cons_at}
 use Rattle.base.proofs.Lists.{take_while_same, length-take_while, take-take_while, take_while_last, take_while_stops}
 use Rattle.decimal.specs.Decimal.{digit}
-use Rattle.token.specs.declared.Token.{Token}
+use Rattle.base.specs.declared.span.Span.{Span}
+use Rattle.std.specs.Prelude.{Some, None}
+use Rattle.std.proofs.lemmas.Option.{none-some, same_Some}
 use Rattle.token.specs.Token.{space, name_start, name_part, extends, scan, tokens}
 use Rattle.token.specs.Code.Bytes.{goes_on, second, rest}
-use Rattle.token.specs.Code.Places.{first, start_at, token_at}
+use Rattle.token.specs.Code.Places.{first, first_span, start_at, end_at, token_at}
 use Rattle.token.proofs.Classes.{goes_no_space, part_allowed, digit_allowed}
 use Rattle.token.proofs.Allowed.{no_equals_lem}
 
@@ -163,38 +165,42 @@ module _ (s : List ℕ) (at i : ℕ) (e : i ≡ start_at s at) where
       }
 
 -- the token that the code gives
-pub is_token : (s : List ℕ) (at : ℕ) {start end : ℕ} → start ≡ start_at s at → Next s at start end → ◌≡◌ {A = Token} (record { start = start; end = end }) (token_at s at)
+pub is_token : (s : List ℕ) (at : ℕ) {start end : ℕ} → start ≡ start_at s at → Next s at start end → Some (record { start = start; end = end }) ≡ token_at s at
 is_token s at {start} {end} e n =
-    let l = ap (λ (t : List (List ℕ)). length (first t)) n.list in
     let b = ap length n.bytes in
     let d = length-take-le (end - start) (drop start s) (let q = length-drop start s in omega (arith, n.inside, n.some)) in
-    let p : end ≡ start_at s at + length (first (tokens (drop at s))) = omega (arith, n.some) in
-    cc
+    let p : end ≡ start + length (token_from s start) = omega (arith, n.some) in
+    rw (n.list, ← e) (ap (λ (j : ℕ). Some (record { start = start; end = j })) p)
 
-pub is_none : (s : List ℕ) (at : ℕ) {start : ℕ} → start ≡ start_at s at → length s ≤ start → ◌≡◌ {A = Token} (record { start = start; end = start }) (token_at s at)
-is_none s at {start} e h =
-    let l = ap (λ (t : List (List ℕ)). length (first t)) (none_left s at start e h) in
-    let p : start ≡ start_at s at + length (first (tokens (drop at s))) = omega arith in
-    cc
+pub is_none : (s : List ℕ) (at : ℕ) {start : ℕ} → start ≡ start_at s at → length s ≤ start → None ≡ token_at s at
+is_none s at {start} e h = sym (ap (first_span (start_at s at)) (none_left s at start e h))
 
 -- what the token at a place says of the list
-pub token_none : (s : List ℕ) (at : ℕ) → (token_at s at).start ≡ (token_at s at).end → tokens (drop at s) ≡ []
+pub token_none : (s : List ℕ) (at : ℕ) → token_at s at ≡ None → (tokens (drop at s) ≡ []) × (length s ≤ start_at s at)
 token_none s at e =
     by_leb (length s) (start_at s at)
-    (none_left s at (start_at s at) refl)
-    (λ h. absurd (
-    let n = next_at s at (start_at s at) refl h _ refl in
-    let l = ap (λ (t : List (List ℕ)). length (first t)) n.list in
-    omega arith
-    ))
+    (λ h. (none_left s at (start_at s at) refl h, h))
+    (λ h. absurd (none-some _ (sym e ∙ sym (is_token s at refl (next_at s at (start_at s at) refl h _ refl)))))
 
-pub token_next : (s : List ℕ) (at : ℕ) → (token_at s at).start < (token_at s at).end → Next s at (token_at s at).start (token_at s at).end
-token_next s at h =
+pub token_next : (s : List ℕ) (at : ℕ) {t : Span} → token_at s at ≡ Some t → Next s at t.start t.end
+token_next s at {t} e =
     by_leb (length s) (start_at s at)
-    (λ g. absurd (let l = ap (λ (t : List (List ℕ)). length (first t)) (none_left s at (start_at s at) refl g) in omega arith))
-    (λ g.
-    let n = next_at s at (start_at s at) refl g _ refl in
-    subst (λ (j : ℕ). Next s at (start_at s at) j) (ap (λ (t : Token). t.end) (is_token s at refl n)) n)
+    (λ h. absurd (none-some _ (is_none s at refl h ∙ e)))
+    (λ h.
+    let n = next_at s at (start_at s at) refl h _ refl in
+    let q = same_Some _ _ (is_token s at refl n ∙ e) in
+    subst (λ (x : Span). Next s at x.start x.end) q n)
+
+-- the token at a place is its first byte and the rest, and ends where the definition says
+module _ (s : List ℕ) (at : ℕ) {t : Span} (e : token_at s at ≡ Some t) where
+  token_same : Some (record { start = start_at s at; end = start_at s at + length (token_from s t.start) }) ≡ Some t
+  token_same = sym (ap (first_span (start_at s at)) (token_next s at e).list) ∙ e
+
+  pub token_length : start_at s at + length (token_from s t.start) ≡ t.end
+  token_length = ap (λ (x : Span). x.end) (same_Some _ _ token_same)
+
+  pub token_end : end_at s at ≡ t.end
+  token_end = ap (λ (ts : List (List ℕ)). start_at s at + length (first ts)) (token_next s at e).list ∙ token_length
 
 -- a token that starts with a digit is the digits from there on
 module _ (a : ℕ) (e : digit a ≡ true) where

@@ -1,4 +1,5 @@
 // Tokens of an expression, found in its bytes.
+// Offsets stay beside the slice, since the contracts speak of places in the whole text.
 #![tactic(auto)]
 
 ghost use Rattle.std.specs.Prelude.{◌≡◌, ◌&&◌, ◌+◌, ◌<◌, ◌≤◌, eqb, length, get_or, drop};
@@ -8,25 +9,18 @@ ghost use Rattle.token.specs.Token.{space, name_start, name_part, sign, allowed}
 ghost use Rattle.token.specs.Code.Bytes.{allowed_byte, goes_on, second, rest};
 ghost use Rattle.token.specs.Code.Places.{token_at};
 
-use base::in_range;
+use base::{Span, in_range};
 
-// From start up to end; empty where no token is left.
-#[derive(Clone, Copy)]
-pub struct Token {
-    pub start: usize,
-    pub end: usize,
-}
-
-// The first token at or after an offset.
-pub fn token_at(text: &[u8], at: usize) -> Token
+// The first token at or after an offset, where one is left.
+pub fn token_at(text: &[u8], at: usize) -> Option<Span>
     ensures { result ≡ token_at text.now at }
 {
     let start = token_start(text, at);
-    if start < text.len() {
-        let end = token_end(text, start);
-        return Token { start, end };
+    if text.len() <= start {
+        return None;
     }
-    Token { start, end: start }
+    let end = token_end(text, start);
+    Some(Span { start, end })
 }
 
 // Whether every byte at or after an offset parts tokens or is in one.
@@ -57,10 +51,7 @@ pub fn is_digit(a: u8) -> bool
 fn token_start(text: &[u8], at: usize) -> usize
     ensures { result ≡ at + prefix_len space (drop at text.now) }
 {
-    match text.get(at..) {
-        Some(rest) => at + spaces(rest),
-        None => at,
-    }
+    at + text.get(at..).map_or(0, spaces)
 }
 
 // How many bytes at the start of a text part tokens.

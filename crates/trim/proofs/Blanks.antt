@@ -149,3 +149,7 @@ blank_ascii (a ∷ t) e h = no_blank a t (simp e) h
 pub blank_feed : (t : List ℕ) → get_or t 0 0 ≡ 10 → blanks_len t ≡ 0
 blank_feed [] e = refl
 blank_feed (a ∷ t) e = no_blank a t (at_feed a e) (omega arith)
+
+pub blank_short : (t : List ℕ) → (get_or t 0 0 ≤ 0x7F → ⊥) → length t < 3 → blanks_len t ≡ 0
+blank_short [] h l = refl
+blank_short (a ∷ t) h l = wide_short a t (simp (not1 a (omega arith))) (omega arith)

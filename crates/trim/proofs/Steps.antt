@@ -1,69 +1,36 @@
--- A step of the walk: what the bytes at a position of a text, or before it, say of the White_Space there.
-use Prim.Native.Nat.{ℕ, ◌-◌, ◌<◌, ◌≤◌}
-use mathlib.Core.Path.{◌≡◌, refl, ap, ◌∙◌}
+-- A step from a text's end: what its last bytes say of the White_Space there.
+use Prim.Native.Nat.{ℕ, ◌-◌, ◌≤◌}
+use mathlib.Core.Path.{◌≡◌, sym, ap, ◌∙◌}
 use mathlib.Core.List.{List, ◌∷◌, reverse}
 use mathlib.Core.Bool.{true, false}
 use native.Mathlib.Omega.{arith}
 use lib.ListN.{length, get_or, take}
-use lib.Seq.{length-take-le}
-use Rattle.std.proofs.lemmas.List.{get_or-take}
+use lib.Seq.{take-length}
 use Rattle.base.proofs.Parts.{reverse-take-suc}
-use Rattle.trim.specs.Trim.{white1, white2, white3}
-use Rattle.trim.specs.Code.Trims.{Trims, WhiteBefore, back2, back3}
+use Rattle.trim.specs.Trim.{white1, white2, white3, back}
+use Rattle.trim.specs.Code.Trims.{back2, back3}
 use Rattle.trim.proofs.Laws.{yes2, yes3, no3, back_stays}
 
-pub stays : {f : List ℕ → List ℕ} {t l u : List ℕ} {room : ℕ} → t ≡ l → f l ≡ l → Trims f t u room 0
-stays p e = record { fits = omega arith; none = λ _. rw p e; some = λ x. absurd (x refl) }
+module _ (s : List ℕ) where
+  last1 : 1 ≤ length s → reverse s ≡ get_or s (length s - 1) 0 ∷ reverse (take (length s - 1) s)
+  last1 h = ap reverse (sym (take-length s)) ∙ reverse-take-suc s (length s) (length s - 1) (omega arith) (omega arith)
 
-pub goes : {f : List ℕ → List ℕ} {t l u : List ℕ} {room : ℕ} (n : ℕ) → 0 < n → n ≤ room → t ≡ l → f l ≡ f u → Trims f t u room n
-goes n h k p e = record { fits = k; none = λ x. absurd (omega arith); some = λ _. rw p e }
+  last2 : 2 ≤ length s → reverse s ≡ get_or s (length s - 1) 0 ∷ get_or s (length s - 2) 0 ∷ reverse (take (length s - 2) s)
+  last2 h = last1 (omega arith) ∙ ap (λ (t : List ℕ). get_or s (length s - 1) 0 ∷ t) (reverse-take-suc s (length s - 1) (length s - 2) (omega arith) (omega arith))
 
-module _ (s : List ℕ) (e : ℕ) (h : e ≤ length s) where
-  pub before1 : 0 < e → reverse (take e s) ≡ get_or s (e - 1) 0 ∷ reverse (take (e - 1) s)
-  before1 k = reverse-take-suc s e (e - 1) (omega arith) (omega arith)
+  last3 : 3 ≤ length s → reverse s ≡ get_or s (length s - 1) 0 ∷ get_or s (length s - 2) 0 ∷ get_or s (length s - 3) 0 ∷ reverse (take (length s - 3) s)
+  last3 h = last2 (omega arith) ∙ ap (λ (t : List ℕ). get_or s (length s - 1) 0 ∷ get_or s (length s - 2) 0 ∷ t) (reverse-take-suc s (length s - 2) (length s - 3) (omega arith) (omega arith))
 
-  pub before2 : 1 < e → reverse (take e s) ≡ get_or s (e - 1) 0 ∷ get_or s (e - 2) 0 ∷ reverse (take (e - 2) s)
-  before2 k = before1 (omega arith) ∙ ap (λ (t : List ℕ). get_or s (e - 1) 0 ∷ t) (reverse-take-suc s (e - 1) (e - 2) (omega arith) (omega arith))
+  module _ (w : white1 (get_or s (length s - 1) 0) ≡ false) where
+    pub last_other : 1 ≤ length s → (0x80 ≤ get_or s (length s - 1) 0 → get_or s (length s - 1) 0 ≤ 0xBF → ⊥) → back (reverse s) ≡ reverse s
+    last_other h f = rw (last1 h) (back_stays (get_or s (length s - 1) 0) (reverse (take (length s - 1) s)) w f)
 
-  pub before3 : 2 < e → reverse (take e s) ≡ get_or s (e - 1) 0 ∷ get_or s (e - 2) 0 ∷ get_or s (e - 3) 0 ∷ reverse (take (e - 3) s)
-  before3 k = before2 (omega arith) ∙ ap (λ (t : List ℕ). get_or s (e - 1) 0 ∷ get_or s (e - 2) 0 ∷ t) (reverse-take-suc s (e - 2) (e - 3) (omega arith) (omega arith))
+    pub last_two : 2 ≤ length s → white2 (get_or s (length s - 2) 0) (get_or s (length s - 1) 0) ≡ true → back (reverse s) ≡ back (reverse (take (length s - 2) s))
+    last_two h v = ap back (last2 h) ∙ yes2 back2 back3 (get_or s (length s - 1) 0) (get_or s (length s - 2) 0) (reverse (take (length s - 2) s)) w v
 
-  -- by the last bytes of the part before e
-  long : length (take e s) ≡ e
-  long = length-take-le e s h
+    module _ (v : white2 (get_or s (length s - 2) 0) (get_or s (length s - 1) 0) ≡ false) (h : 3 ≤ length s) where
+      pub last_three : white3 (get_or s (length s - 3) 0) (get_or s (length s - 2) 0) (get_or s (length s - 1) 0) ≡ true → back (reverse s) ≡ back (reverse (take (length s - 3) s))
+      last_three u = ap back (last3 h) ∙ yes3 back2 back3 (get_or s (length s - 1) 0) (get_or s (length s - 2) 0) (get_or s (length s - 3) 0) (reverse (take (length s - 3) s)) w v u
 
-  from_end : (k : ℕ) → 0 < k → k ≤ e → get_or (take e s) (length (take e s) - k) 0 ≡ get_or s (e - k) 0
-  from_end k z l = rw long (get_or-take e s (e - k) 0 (omega arith))
-
-  module _ (w : white1 (get_or (take e s) (length (take e s) - 1) 0) ≡ false) where
-    pub last_other : 1 ≤ length (take e s) → (0x80 ≤ get_or (take e s) (length (take e s) - 1) 0 → get_or (take e s) (length (take e s) - 1) 0 ≤ 0xBF → ⊥) → WhiteBefore s e 0
-    last_other n f =
-        let m : 1 ≤ e = omega (arith, long) in
-        let z1 = from_end 1 (omega arith) m in
-        stays (before1 m) (back_stays (get_or s (e - 1) 0) (reverse (take (e - 1) s)) (rw z1 at w) (rw z1 at f))
-
-    pub last_two : 2 ≤ length (take e s) → white2 (get_or (take e s) (length (take e s) - 2) 0) (get_or (take e s) (length (take e s) - 1) 0) ≡ true → WhiteBefore s e 2
-    last_two n v =
-        let m : 2 ≤ e = omega (arith, long) in
-        let z1 = from_end 1 (omega arith) (omega arith) in
-        let z2 = from_end 2 (omega arith) m in
-        goes 2 (omega arith) m (before2 m) (yes2 back2 back3 (get_or s (e - 1) 0) (get_or s (e - 2) 0) (reverse (take (e - 2) s)) (rw z1 at w) (rw (z1, z2) at v))
-
-    module _ (v : white2 (get_or (take e s) (length (take e s) - 2) 0) (get_or (take e s) (length (take e s) - 1) 0) ≡ false) (n : 3 ≤ length (take e s)) where
-      pub last_three : white3 (get_or (take e s) (length (take e s) - 3) 0) (get_or (take e s) (length (take e s) - 2) 0) (get_or (take e s) (length (take e s) - 1) 0) ≡ true → WhiteBefore s e 3
-      last_three u =
-          let m : 3 ≤ e = omega (arith, long) in
-          let z1 = from_end 1 (omega arith) (omega arith) in
-          let z2 = from_end 2 (omega arith) (omega arith) in
-          let z3 = from_end 3 (omega arith) m in
-          goes 3 (omega arith) m (before3 m)
-          (yes3 back2 back3 (get_or s (e - 1) 0) (get_or s (e - 2) 0) (get_or s (e - 3) 0) (reverse (take (e - 3) s)) (rw z1 at w) (rw (z1, z2) at v) (rw (z1, z2, z3) at u))
-
-      pub last_none : white3 (get_or (take e s) (length (take e s) - 3) 0) (get_or (take e s) (length (take e s) - 2) 0) (get_or (take e s) (length (take e s) - 1) 0) ≡ false → WhiteBefore s e 0
-      last_none u =
-          let m : 3 ≤ e = omega (arith, long) in
-          let z1 = from_end 1 (omega arith) (omega arith) in
-          let z2 = from_end 2 (omega arith) (omega arith) in
-          let z3 = from_end 3 (omega arith) m in
-          stays (before3 m)
-          (no3 back2 back3 (get_or s (e - 1) 0) (get_or s (e - 2) 0) (get_or s (e - 3) 0) (reverse (take (e - 3) s)) (rw z1 at w) (rw (z1, z2) at v) (rw (z1, z2, z3) at u))
+      pub last_none : white3 (get_or s (length s - 3) 0) (get_or s (length s - 2) 0) (get_or s (length s - 1) 0) ≡ false → back (reverse s) ≡ reverse s
+      last_none u = rw (last3 h) (no3 back2 back3 (get_or s (length s - 1) 0) (get_or s (length s - 2) 0) (get_or s (length s - 3) 0) (reverse (take (length s - 3) s)) w v u)

@@ -1,12 +1,11 @@
 // A text without the White_Space at its start and its end, as a part of what was lent.
-// Offsets stay beside the slice, since the contracts speak of places in the whole text.
 #![tactic(auto)]
 
 ghost use Rattle.std.specs.Prelude.{◌≡◌, ◌-◌, ◌≤◌, ◌<◌, length, get_or, drop};
 ghost use Rattle.base.specs.Part.{Part};
 ghost use Rattle.trim.specs.Trim.{start_trimmed, end_trimmed, trimmed, leading_blanks, white1, white2, white3};
-ghost use Rattle.trim.specs.Code.Trims.{WhiteAt, WhiteBefore};
-ghost use Rattle.trim.specs.Code.Blank.{BlankAt, blanks_end};
+ghost use Rattle.trim.specs.Code.Trims.{WhiteLen, LastWhiteLen};
+ghost use Rattle.trim.specs.Code.Blank.{BlankLen, blanks_end};
 
 use base::in_range;
 
@@ -21,11 +20,7 @@ pub fn trim_start<'a>(s: &'a [u8]) -> &'a [u8]
 {
     let mut i: usize = 0;
     // A character has one byte to three, so no iterator is plainer; so too in the two loops below.
-    while i < s.len() {
-        let n = white_at(s, i);
-        if n == 0 {
-            break;
-        }
+    while let Some(n) = white_len(&s[i..]) {
         i += n;
     }
     &s[i..]
@@ -35,73 +30,65 @@ pub fn trim_end<'a>(s: &'a [u8]) -> &'a [u8]
     ensures { Part s.entry result 0 (end_trimmed s.now) }
 {
     let mut e = s.len();
-    while 0 < e {
-        let n = white_before(s, e);
-        if n == 0 {
-            break;
-        }
+    while let Some(n) = last_white_len(&s[..e]) {
         e -= n;
     }
     &s[..e]
 }
 
-// Where the White_Space ends that stands from a position on: that of one byte but line feeds, and that of three. `utf8::blocks`
-// has this loop too: one function with a closure for the step would ask for the step's law in its contract, and is no plainer.
+// Where the White_Space ends that stands from a position on: that of one byte but line feeds, and that of three. The position stays beside
+// the slice, since the contract speaks of places in the whole text.
 pub fn blanks_end(s: &[u8], at: usize) -> usize
     ensures { result ≡ blanks_end s.now at }
 {
+    if s.len() < at {
+        return at;
+    }
     let mut i = at;
-    while i < s.len() {
-        let n = blank_at(s, i);
-        if n == 0 {
-            break;
-        }
+    while let Some(n) = blank_len(&s[i..]) {
         i += n;
     }
     i
 }
 
-// How many bytes the one of them at a position has, or 0 where none stands.
-#[tactic(auto, using(crate::proofs::Blanks::blank_ascii, crate::proofs::Blanks::blank_feed))]
-fn blank_at(s: &[u8], at: usize) -> usize
-    requires { at < length s.now }
-    ensures { BlankAt s.now at result }
+// How many bytes the one of these has that a text starts with, where it starts with one.
+#[tactic(auto, using(crate::proofs::Blanks::blank_ascii, crate::proofs::Blanks::blank_feed, crate::proofs::Blanks::blank_short))]
+fn blank_len(s: &[u8]) -> Option<usize>
+    ensures { BlankLen s.now result }
 {
-    match &s[at..] {
-        [a, ..] if is_white1(*a) => if *a == b'\n' { 0 } else { 1 },
-        [a, ..] if *a <= 0x7F => 0,
-        [a, b, c, ..] if is_white3(*a, *b, *c) => 3,
-        _ => 0,
+    match s {
+        [a, ..] if is_white1(*a) && *a != b'\n' => Some(1),
+        [a, ..] if *a <= 0x7F => None,
+        [a, b, c, ..] if is_white3(*a, *b, *c) => Some(3),
+        _ => None,
     }
 }
 
-// How many bytes the White_Space character at a position has, or 0 where none stands.
+// How many bytes the White_Space character has that a text starts with, where there is one.
 #[tactic(auto, using(crate::proofs::Laws::start_ascii))]
-fn white_at(s: &[u8], at: usize) -> usize
-    requires { at < length s.now }
-    ensures { WhiteAt s.now at result }
+fn white_len(s: &[u8]) -> Option<usize>
+    ensures { WhiteLen s.now result }
 {
-    match &s[at..] {
-        [a, ..] if is_white1(*a) => 1,
-        [a, ..] if *a <= 0x7F => 0,
-        [a, b, ..] if is_white2(*a, *b) => 2,
-        [a, b, c, ..] if is_white3(*a, *b, *c) => 3,
-        _ => 0,
+    match s {
+        [a, ..] if is_white1(*a) => Some(1),
+        [a, ..] if *a <= 0x7F => None,
+        [a, b, ..] if is_white2(*a, *b) => Some(2),
+        [a, b, c, ..] if is_white3(*a, *b, *c) => Some(3),
+        _ => None,
     }
 }
 
-// How many bytes the White_Space character before a position has, or 0 where none stands.
-#[tactic(auto, using(crate::proofs::Steps::last_other, crate::proofs::Steps::last_two, crate::proofs::Steps::last_none))]
-fn white_before(s: &[u8], e: usize) -> usize
-    requires { (0 < e) × (e ≤ length s.now) }
-    ensures { WhiteBefore s.now e result }
+// How many bytes the White_Space character has that a text ends with, where there is one.
+#[tactic(auto, using(crate::proofs::Steps::last_other, crate::proofs::Steps::last_two, crate::proofs::Steps::last_three, crate::proofs::Steps::last_none))]
+fn last_white_len(s: &[u8]) -> Option<usize>
+    ensures { LastWhiteLen s.now result }
 {
-    match &s[..e] {
-        [.., c] if is_white1(*c) => 1,
-        [.., c] if !in_range(0x80, 0xBF, *c) => 0,
-        [.., b, c] if is_white2(*b, *c) => 2,
-        [.., a, b, c] if is_white3(*a, *b, *c) => 3,
-        _ => 0,
+    match s {
+        [.., c] if is_white1(*c) => Some(1),
+        [.., c] if !in_range(0x80, 0xBF, *c) => None,
+        [.., b, c] if is_white2(*b, *c) => Some(2),
+        [.., a, b, c] if is_white3(*a, *b, *c) => Some(3),
+        _ => None,
     }
 }
 
@@ -111,6 +98,7 @@ fn is_white1(a: u8) -> bool
     matches!(a, 0x09..=0x0D | 0x20)
 }
 
+// Its bytes one by one, as a slice's pattern binds them: an array of them would be taken apart at once. So too in `is_white3`.
 fn is_white2(a: u8, b: u8) -> bool
     ensures { result ≡ white2 a b }
 {

@@ -11,6 +11,8 @@ use Rattle.base.specs.Lists.{all}
 use Rattle.base.proofs.Tests.{and_left, and_right}
 use Rattle.base.specs.Code.Skips.{SkipsTo}
 use Rattle.base.proofs.Bytes.{at1}
+use Rattle.std.specs.Prelude.{None}
+use Rattle.std.specs.Bool.{then_some}
 use Rattle.utf8.specs.Utf8.{utf8, utf8_1}
 use Rattle.utf8.specs.Code.From.{utf8_from, CharactersAt}
 use Rattle.utf8.proofs.Lead.{one_is}
@@ -20,20 +22,17 @@ module _ (s t : List ℕ) (at : ℕ) (h : at < length s) (e : t ≡ drop (at + 1
   here : drop at s ≡ get_or s at 0 ∷ t
   here = at1 s at h ∙ ap (λ r. get_or s at 0 ∷ r) (sym e)
 
-  pub missed : utf8 (get_or s at 0 ∷ t) ≡ false → CharactersAt s at 0
-  missed p = record { fits = omega arith; none = λ _. ap utf8 here ∙ p; some = λ x. absurd (x refl) }
+  pub missed : utf8 (get_or s at 0 ∷ t) ≡ false → CharactersAt s at None
+  missed p = ap utf8 here ∙ p
 
   -- n more bytes
-  module _ (n : ℕ) (q : Bool) (p : utf8 (get_or s at 0 ∷ t) ≡ cond q (utf8 (drop n t)) false) where
-    pub chosen : n ≤ length t → q ≡ true → CharactersAt s at (n + 1)
-    chosen g f = record {
-      fits = let m = ap length e in omega (arith, length-drop (at + 1) s);
-      none = λ x. absurd (omega arith);
-      some = λ _. ap utf8 here ∙ p ∙ ap (λ r. cond r (utf8 (drop n t)) false) f ∙ ap (λ r. utf8 (drop n r)) e ∙ ap utf8 (drop-drop n (at + 1) s) ∙ ap (utf8_from s) (omega arith);
-    }
-
-    pub refused : q ≡ false → CharactersAt s at 0
-    refused f = missed (p ∙ ap (λ r. cond r (utf8 (drop n t)) false) f)
+  pub tested : (n : ℕ) (q : Bool) → utf8 (get_or s at 0 ∷ t) ≡ cond q (utf8 (drop n t)) false → n ≤ length t → CharactersAt s at (then_some q (n + 1))
+  tested n true p g = (
+    omega arith,
+    (let m = ap length e in omega (arith, length-drop (at + 1) s)),
+    ap utf8 here ∙ p ∙ ap (λ r. utf8 (drop n r)) e ∙ ap utf8 (drop-drop n (at + 1) s) ∙ ap (utf8_from s) (omega arith),
+  )
+  tested n false p g = missed p
 
 -- bytes that are ASCII are skipped
 ascii_front : (n : ℕ) (t : List ℕ) → n ≤ length t → all utf8_1 (take n t) ≡ true → utf8 t ≡ utf8 (drop n t)

@@ -2,13 +2,16 @@
 use Prim.Native.Nat.{ℕ, zero, suc, ◌+◌, ◌<◌, ◌≤◌}
 use mathlib.Core.Path.{◌≡◌, refl, sym, ap, ◌∙◌}
 use mathlib.Core.List.{List, [], ◌∷◌}
-use mathlib.Core.Bool.{Bool, true, false, cond, ◌&&◌, ◌||◌}
+use mathlib.Core.Bool.{Bool, true, false, cond, not, ◌&&◌, ◌||◌}
 use borrow.Author.Tests.{le-leb, lt-leb, leb-true, ne_eqb}
 use native.Mathlib.Nat.{le_trans}
 use native.Mathlib.Omega.{arith}
 use lib.Dec.{eqb, leb}
-use lib.ListN.{length, get_or, drop}
-use lib.Seq.{drop-drop}
+use lib.ListN.{length, get_or, take, drop, length-drop}
+use lib.Seq.{drop-drop, length-take-le}
+use Rattle.std.specs.Prelude.{IfSome}
+use Rattle.std.specs.Bool.{then_some}
+use Rattle.std.proofs.lemmas.List.{get_or-take, get_or-drop}
 use Rattle.base.specs.Range.{within}
 use Rattle.base.specs.Code.Skips.{SkipsTo}
 use Rattle.base.proofs.Parts.{drop_cons_at}
@@ -16,7 +19,7 @@ use Rattle.base.proofs.Tests.{false_true, and_left, and_right, and_both, by_or, 
 use Rattle.base.proofs.Skips.{all_first, all_rest, all_fewer}
 use Rattle.utf8.specs.Utf8.{utf8, utf8_tail}
 use Rattle.utf8.specs.Code.From.{utf8_from}
-use Rattle.utf8.specs.Code.Windows.{opened, lowest, highest, follows, follows_at, complete_from, Follow}
+use Rattle.utf8.specs.Code.Windows.{opened, lowest, highest, follows, follows_at, complete_from, Follow, FollowAll}
 use Rattle.utf8.proofs.Lead.{one_is, two_is, three_is, four_is}
 use Rattle.utf8.proofs.Second.{three_by, four_by}
 
@@ -172,3 +175,21 @@ skips_block s at start m n e h k o f p =
           ∙ between_whole n s start (omega arith) o (all_fewer (λ i. follows_at s i ≡ true) start m n h f) p
           ∙ ap utf8 (drop-drop n (start + 3) s) ∙ ap (utf8_from s) z;
     }
+
+-- the bytes that follow three others in a part
+pub of_part : (s : List ℕ) (at n m : ℕ) → m ≡ n + 3 → at + m ≤ length s → FollowAll (take m (drop at s)) → Follow s at n
+of_part s at n m e g f k h =
+    let p : (j : ℕ) → j < m → get_or (take m (drop at s)) j 0 ≡ get_or s (at + j) 0 = λ j l. get_or-take m (drop at s) j 0 l ∙ get_or-drop at s j 0 in
+    let l = length-take-le m (drop at s) (omega (arith, length-drop at s)) in
+    let z1 : at + (k + 1) ≡ at + k + 1 = omega arith in
+    let z2 : at + (k + 2) ≡ at + k + 2 = omega arith in
+    let z3 : at + (k + 3) ≡ at + k + 3 = omega arith in
+    rw (p k (omega arith), p (k + 1) (omega arith), p (k + 2) (omega arith), p (k + 3) (omega arith), z1, z2, z3) at (f k (omega arith))
+
+-- a block whose last character is complete is passed
+pub block_passed : (s : List ℕ) (at start m n : ℕ) → at ≡ start + 3 → n ≤ m → 0 < n → start + m + 3 ≤ length s
+    → opened (get_or s start 0) (get_or s (start + 1) 0) (get_or s (start + 2) 0) ≡ false → Follow s start m
+    → (q : Bool) → q ≡ opened (get_or s (start + n) 0) (get_or s (start + n + 1) 0) (get_or s (start + n + 2) 0)
+    → IfSome (then_some (not q) n) (λ n. (0 < n) × SkipsTo (utf8_from s) at (length s) (at + n))
+block_passed s at start m n e h l k o f true p = tt
+block_passed s at start m n e h l k o f false p = (l, skips_block s at start m n e h k o f (sym p))

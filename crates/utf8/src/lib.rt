@@ -2,12 +2,12 @@
 // Offsets stay beside the slice, since the contracts speak of places in the whole text.
 #![tactic(auto)]
 
-ghost use Rattle.std.specs.Prelude.{◌≡◌, true, false, ◌+◌, ◌≤◌, ◌<◌, length, get_or};
+ghost use Rattle.std.specs.Prelude.{◌≡◌, true, false, ◌+◌, ◌≤◌, ◌<◌, length, get_or, IfSome};
 ghost use Rattle.base.specs.Lists.{all};
 ghost use Rattle.base.specs.Code.Skips.{SkipsTo, AllFrom};
 ghost use Rattle.utf8.specs.Utf8.{utf8, utf8_1, utf8_tail, utf8_2, utf8_3, utf8_4};
 ghost use Rattle.utf8.specs.Code.From.{utf8_from, CharactersAt};
-ghost use Rattle.utf8.specs.Code.Windows.{opened, follows, Follow};
+ghost use Rattle.utf8.specs.Code.Windows.{opened, follows, FollowAll};
 
 use base::{in_range, pick};
 
@@ -37,45 +37,39 @@ fn blocks(s: &[u8], at: usize) -> usize
 {
     let mut i = at;
     // A step passes 61 to 64 bytes, so no iterator is plainer.
-    while i < s.len() {
-        let n = block(s, i);
-        if n == 0 {
-            break;
-        }
+    while let Some(n) = block(s, i) {
         i += n;
     }
     i
 }
 
 // How many bytes are passed of the 64 at a position: all of them where they are ASCII, else those of whole
-// characters, or 0 where it is not seen that they are UTF-8.
-fn block(s: &[u8], at: usize) -> usize
-    requires { at < length s.now }
-    ensures { SkipsTo (utf8_from s.now) at (length s.now) (at + result) }
+// characters, where it is seen that they are UTF-8.
+fn block(s: &[u8], at: usize) -> Option<usize>
+    requires { at ≤ length s.now }
+    ensures { IfSome result (λ n. (0 < n) × SkipsTo (utf8_from s.now) at (length s.now) (at + n)) }
 {
     if is_ascii(s, at, 64) {
-        return 64;
+        return Some(64);
     }
     if at < 3 || s.len() - at < 64 {
-        return 0;
+        return None;
     }
     let start = at - 3;
-    if is_open_at(s, start) || !all_follow(s, start, 64) {
-        return 0;
+    if is_open_at(s, start) || !all_follow(&s[start..at + 64]) {
+        return None;
     }
     let n = 64 - open_len(s[start + 64], s[start + 65], s[start + 66]);
-    if is_open_at(s, start + n) { 0 } else { n }
+    (!is_open_at(s, start + n)).then_some(n)
 }
 
-// Whether each of n bytes follows the three before it, of which the first stands at a position. No branch: it compiles to vector code.
-fn all_follow(s: &[u8], at: usize, n: usize) -> bool
-    requires { at + n + 3 ≤ length s.now }
-    ensures { result ≡ true → Follow s.now at n }
+// Whether each byte behind the first three follows the three before it. No branch: it compiles to vector code.
+fn all_follow(s: &[u8]) -> bool
+    ensures { result ≡ true → FollowAll s.now }
 {
     let mut all = true;
-    for k in 0..n {
-        let i = at + k;
-        all &= does_follow(s[i], s[i + 1], s[i + 2], s[i + 3]);
+    for w in s.windows(4) {
+        all &= does_follow(w[0], w[1], w[2], w[3]);
     }
     all
 }
@@ -89,6 +83,7 @@ fn does_follow(a: u8, b: u8, c: u8, d: u8) -> bool
     pick(is_open(a, b, c), in_range(lo, hi, d), first)
 }
 
+// Here and below bytes come one by one, as in the table of RFC 3629: an array of them would be taken apart at once.
 fn is_open(a: u8, b: u8, c: u8) -> bool
     ensures { result ≡ opened a b c }
 {
@@ -130,7 +125,7 @@ fn block_end(s: &[u8], at: usize) -> usize
 // Whether n bytes follow that are all ASCII.
 #[tactic(auto, using(crate::proofs::Laws::ascii))]
 fn is_ascii(s: &[u8], at: usize, n: usize) -> bool
-    requires { at < length s.now }
+    requires { at ≤ length s.now }
     ensures { result ≡ true → SkipsTo (utf8_from s.now) at (length s.now) (at + n) }
 {
     n <= s.len() - at && all_ascii(&s[at..at + n])
@@ -152,30 +147,28 @@ fn characters(s: &[u8], at: usize, end: usize) -> usize
     let mut i = at;
     // A step passes 1 to 8 bytes, so no iterator is plainer.
     while i < end {
-        let n = step(s, i);
-        if n == 0 {
-            return i;
+        match step(s, i) {
+            Some(n) => i += n,
+            None => return i,
         }
-        i += n;
     }
     i
 }
 
-// How many bytes are passed at a position: those of a character, or eight ASCII ones; 0 where no
-// character stands.
-fn step(s: &[u8], at: usize) -> usize
+// How many bytes are passed at a position: those of a character, or eight ASCII ones.
+fn step(s: &[u8], at: usize) -> Option<usize>
     requires { at < length s.now }
     ensures { CharactersAt s.now at result }
 {
     let a = s[at];
     if a <= 0x7F {
-        return if is_ascii(s, at, 8) { 8 } else { 1 };
+        return Some(if is_ascii(s, at, 8) { 8 } else { 1 });
     }
     match &s[at + 1..] {
-        [b, ..] if a <= 0xDF => if is_two(a, *b) { 2 } else { 0 },
-        [b, c, ..] if a <= 0xEF => if is_three(a, *b, *c) { 3 } else { 0 },
-        [b, c, d, ..] if is_four(a, *b, *c, *d) => 4,
-        _ => 0,
+        [b, ..] if a <= 0xDF => is_two(a, *b).then_some(2),
+        [b, c, ..] if a <= 0xEF => is_three(a, *b, *c).then_some(3),
+        [b, c, d, ..] => is_four(a, *b, *c, *d).then_some(4),
+        _ => None,
     }
 }
 

@@ -1,9 +1,12 @@
 // Pieces of ops text, written one after the other into a lent buffer. Each call has room for its piece and returns the offset behind it.
+// The offset stays beside the buffer: the contracts speak of places in the whole buffer, and a struct that holds the `&mut` would have to
+// say in each of them what the buffer held at entry.
 #![tactic(auto)]
 
 ghost use Rattle.std.specs.Prelude.{◌≡◌, [], ◌∷◌, ◌++◌, ◌+◌, ◌≤◌, length};
 ghost use Rattle.decimal.specs.Decimal.{decimal};
-ghost use Rattle.kinds.specs.Kinds.{operation};
+ghost use Rattle.kinds.specs.Kinds.{kind_of, operation};
+ghost use Rattle.mnemonic.specs.Kinds.{follows};
 ghost use Rattle.mnemonic.specs.Written.{written};
 ghost use Rattle.writer.specs.Code.Overwrites.{Overwrites};
 
@@ -38,25 +41,11 @@ pub fn put_operation(out: &mut [u8], at: usize, kind: u8, operand: u64) -> usize
     requires { at + length (written (operation kind operand)) ≤ length out.old }
     ensures { Overwrites out.old at (written (operation kind operand)) out.new result }
 {
-    match kind {
-        0 => put_push(out, at, operand),
-        1 => put_bytes(out, at, b"Add\n"),
-        2 => put_bytes(out, at, b"Sub\n"),
-        3 => put_bytes(out, at, b"Mul\n"),
-        4 => put_bytes(out, at, b"Div\n"),
-        5 => put_bytes(out, at, b"Dup\n"),
-        6 => put_bytes(out, at, b"Swap\n"),
-        7 => put_with(out, at, b"Jump ", operand),
-        8 => put_with(out, at, b"JumpIfNotZero ", operand),
-        9 => put_bytes(out, at, b"Eq\n"),
-        10 => put_bytes(out, at, b"Lt\n"),
-        11 => put_with(out, at, b"Load ", operand),
-        12 => put_with(out, at, b"Store ", operand),
-        13 => put_bytes(out, at, b"Caller\n"),
-        14 => put_with(out, at, b"JumpIfZero ", operand),
-        15 => put_bytes(out, at, b"Halt\n"),
-        _ => put_bytes(out, at, b"\n"),
+    let end = put_bytes(out, at, word(kind));
+    if !has_operand(kind) {
+        return put_bytes(out, end, b"\n");
     }
+    put_with(out, end, b" ", operand)
 }
 
 // How long that line is: the word and a line feed, and where an operand follows, a space and its digits.
@@ -64,25 +53,51 @@ pub fn put_operation(out: &mut [u8], at: usize, kind: u8, operand: u64) -> usize
 pub fn operation_len(kind: u8, operand: u64) -> usize
     ensures { result ≡ length (written (operation kind operand)) }
 {
+    let word = word(kind).len() + 1;
+    if !has_operand(kind) {
+        return word;
+    }
+    word + 1 + decimal_len(operand)
+}
+
+// The word of a kind. One above 15 has none.
+fn word(kind: u8) -> &'static [u8]
+    ensures is { result.now ≡ (kind_of kind).word }
+    ensures short { length result.now ≤ 13 }
+{
     match kind {
-        0 | 7 | 11 => 6 + decimal_len(operand),
-        12 => 7 + decimal_len(operand),
-        14 => 12 + decimal_len(operand),
-        8 => 15 + decimal_len(operand),
-        1 | 2 | 3 | 4 | 5 => 4,
-        6 | 15 => 5,
-        9 | 10 => 3,
-        13 => 7,
-        _ => 1,
+        0 => b"Push",
+        1 => b"Add",
+        2 => b"Sub",
+        3 => b"Mul",
+        4 => b"Div",
+        5 => b"Dup",
+        6 => b"Swap",
+        7 => b"Jump",
+        8 => b"JumpIfNotZero",
+        9 => b"Eq",
+        10 => b"Lt",
+        11 => b"Load",
+        12 => b"Store",
+        13 => b"Caller",
+        14 => b"JumpIfZero",
+        15 => b"Halt",
+        _ => b"",
     }
 }
 
-// A word and a space, a number, and a line feed.
-fn put_with(out: &mut [u8], at: usize, word: &[u8], n: u64) -> usize
-    requires { at + length (word.now ++ decimal n ++ 10 ∷ []) ≤ length out.old }
-    ensures { Overwrites out.old at (word.now ++ decimal n ++ 10 ∷ []) out.new result }
+fn has_operand(kind: u8) -> bool
+    ensures { result ≡ follows (kind_of kind).operand }
 {
-    let number = put_bytes(out, at, word);
+    matches!(kind, 0 | 7 | 8 | 11 | 12 | 14)
+}
+
+// What stands before a number, the number, and a line feed.
+fn put_with(out: &mut [u8], at: usize, before: &[u8], n: u64) -> usize
+    requires { at + length (before.now ++ decimal n ++ 10 ∷ []) ≤ length out.old }
+    ensures { Overwrites out.old at (before.now ++ decimal n ++ 10 ∷ []) out.new result }
+{
+    let number = put_bytes(out, at, before);
     let end = put_decimal(out, number, n);
     put_bytes(out, end, b"\n")
 }

@@ -1,6 +1,6 @@
 -- How a table of bindings holds an environment.
 use Rattle.std.specs.Prelude.{Option, Some, None}
-use Rattle.std.specs.Prelude.{ℕ, zero, suc, ◌+◌, ◌-◌, ◌*◌, ◌%◌, ◌≤◌, min, ◌≡◌, List, [], ◌∷◌, Bool, true, false, not, cond, ◌&&◌, ◌||◌, eqb, leb, ltb, length, get_or, take, drop}
+use Rattle.std.specs.Prelude.{ℕ, zero, suc, ◌+◌, ◌-◌, ◌*◌, ◌%◌, ◌<◌, ◌≤◌, min, ◌≡◌, List, [], ◌∷◌, Bool, true, false, ◌&&◌, eqb, leb, length, get_or, take, drop}
 use Rattle.base.specs.Equal.{equal}
 use Rattle.bindings.specs.declared.Bindings.{Bindings}
 use Rattle.bindings.specs.declared.Values.{Values}
@@ -86,16 +86,7 @@ unfoldable pub found : ℕ → List ℕ → List ℕ → List ℕ → List ℕ �
 found zero s names lens tags w = None
 found (suc n) s names lens tags w = elim (has_name s names lens tags n w) [ true ↦ Some n | false ↦ found n s names lens tags w ]
 
--- whether one of the n bindings from a place on has a tag
-unfoldable pub has_tag : List ℕ → ℕ → ℕ → ℕ → Bool
-has_tag tags from zero tag = false
-has_tag tags from (suc n) tag = has_tag tags from n tag || eqb (get_or tags (from + n) 0) tag
-
--- whether there are 16 bindings before a place, none of which has a tag
-abbrev pub is_free : List ℕ → ℕ → ℕ → Bool
-is_free tags left tag = cond (ltb left 16) false (not (has_tag tags (left - 16) 16 tag))
-
--- of n bindings those from r on, r being at most n, all have another tag: a name with that tag is found among the first r alone
-pub record Passes (tags : List ℕ) (n tag r : ℕ) : Type 0 where
-  pub fewer : r ≤ n
-  pub same : (s names lens w : List ℕ) → tag ≡ tag_of w → found n s names lens tags w ≡ found r s names lens tags w
+-- of some bindings those from r on all have another tag
+pub record Passes (tags : List ℕ) (tag r : ℕ) : Type 0 where
+  pub fewer : r ≤ length tags
+  pub others : (k : ℕ) → r ≤ k → k < length tags → eqb (get_or tags k 0) tag ≡ false

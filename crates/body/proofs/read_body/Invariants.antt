@@ -1,13 +1,14 @@
-use Prim.Native.Nat.{◌+◌, ◌-◌}
+use Rattle.std.proofs.Common.{take, ◌≡◌}
+use Rattle.std.specs.Iterator.Adapters.{zip_first, zip_second}
 use Rattle.body.proofs.BodyLoop.{Lines}
 use Rattle.body.proofs.LastReturn.{Meeting}
 use Rattle.body.proofs.read_body.Given as goal
 
-abbrev pub invariant-loop-l : goal.invariant-loop-l
-invariant-loop-l l = record {
-  lines : Lines l.contract l.start l.end l.initial.state l.at (l.line + 1) l.state;
-  met : Meeting l.contract l.start l.end l.initial.state l.at l.state;
+abbrev pub invariant-loop-number : goal.invariant-loop-number
+invariant-loop-number l = record {
+  can : (goal.iterator-loop-number).can_next l.number-iterator;
+  finite : (goal.iterator-loop-number).is_finite l.number-iterator;
+  text : (zip_second l.number-iterator).text.now ≡ take l.fn.body.end l.contract;
+  lines : Lines l.contract l.fn.body.start l.fn.body.end l.initial.state (zip_second l.number-iterator).at (zip_first l.number-iterator).start l.state;
+  met : Meeting l.contract l.fn.body.start l.fn.body.end l.initial.state (zip_second l.number-iterator).at l.state;
 }
-
-abbrev pub decreases-loop-l : goal.decreases-loop-l
-decreases-loop-l l = l.end - l.at

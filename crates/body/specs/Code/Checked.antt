@@ -4,7 +4,7 @@ use Rattle.scope.specs.declared.refusal.AssembleError.{AssembleError}
 use Rattle.std.specs.Prelude.{ℕ, ◌≤◌, ◌≡◌, List, Result, Ok, Err}
 use Rattle.numbered.specs.declared.Numbered.{Numbered}
 use Rattle.base.specs.Outcome.{Outcome, is, refused}
-use Rattle.source.specs.declared.parameters.Span.{Span}
+use Rattle.base.specs.declared.span.Span.{Span}
 use Rattle.grammar.specs.Tree.{Tree, k_of}
 use Rattle.grammar.specs.Parse.{Env, meaning}
 use Rattle.figures.specs.Code.Figures.{FiguresOf}

@@ -34,7 +34,7 @@ meeting s m (Return expr) = record { count = m.count; last = Some (record { star
 -- the lines of the text before `end`, the first of which starts at an offset
 unfoldable pub lines_met : List ℕ → ℕ → Met → ℕ → List (List ℕ) → Met
 lines_met s end m at [] = m
-lines_met s end m at (t ∷ rest) = lines_met s end (meeting s m (statement_at s at (line_from (take end s) at).end)) (line_from (take end s) at).next rest
+lines_met s end m at (t ∷ rest) = lines_met s end (meeting s m (statement_at s at (line_from (take end s) at).text.end)) (line_from (take end s) at).next rest
 
 abbrev pub body_met : List ℕ → ℕ → ℕ → Met → Met
 body_met s start end m = lines_met s end m start (lines (part s start end))
@@ -46,7 +46,7 @@ last_return s p = (body_met s p.body.start p.body.end (record { count = length (
 -- what the code's state says of it
 abbrev pub place_of : Option Returned → Option Place
 place_of None = None
-place_of (Some l) = Some (record { start = l.start; end = l.end; count = l.count; next = l.read.next })
+place_of (Some l) = Some (record { start = l.expr.start; end = l.expr.end; count = l.count; next = l.read.next })
 
 abbrev pub met_of : TableState → Met
 met_of a = record { count = a.table.count; last = place_of a.last }

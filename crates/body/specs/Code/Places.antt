@@ -4,7 +4,7 @@ use Rattle.base.specs.Ascii.{ascii}
 use Rattle.search.specs.First.{prefix_of, first_at}
 use Rattle.source.specs.Found.{found_or}
 use Rattle.source.specs.Code.Cursor.{trimmed_span}
-use Rattle.source.specs.declared.parameters.Span.{Span}
+use Rattle.base.specs.declared.span.Span.{Span}
 use Rattle.body.specs.declared.statement.StatementSpans.{StatementSpans}
 use Rattle.body.specs.declared.statement.StatementSpans.TheVariants.{Skipped, NoEquals, Let, Return}
 use Rattle.scope.specs.Part.{part}

@@ -1,5 +1,5 @@
 -- Zeros before a number's other digits, which may be passed.
-use Rattle.std.specs.Prelude.{ℕ, ◌+◌, ◌≤◌, ◌≡◌, List, Bool, true, length, drop}
+use Rattle.std.specs.Prelude.{ℕ, ◌+◌, ◌≤◌, ◌≡◌, List, length, drop}
 use Rattle.base.specs.Lists.{take_while}
 use Rattle.decimal.specs.Decimal.{digit, value}
 
@@ -8,8 +8,3 @@ pub record ZerosTo (s : List ℕ) (at end : ℕ) : Type 0 where
   pub on : at ≤ end
   pub stop : at + length (take_while digit (drop at s)) ≡ end + length (take_while digit (drop end s))
   pub same : value (take_while digit (drop at s)) ≡ value (take_while digit (drop end s))
-
--- a test says yes only where n bytes that stand at an offset may be passed
-pub record ZerosAt (s : List ℕ) (at n : ℕ) (r : Bool) : Type 0 where
-  pub fits : r ≡ true → at + n ≤ length s
-  pub zeros : r ≡ true → ZerosTo s at (at + n)

@@ -12,7 +12,7 @@ decreases-expression l = 2 * l.known.count
 
 abbrev pub invariant-expression-loop-i : goal.invariant-expression-loop-i
 invariant-expression-loop-i l =
-    Running l.known.text.now (sources_known l.known) l.known.count l.start l.end l.initial.out l.at l.out l.to l.waiting l.i l.due l.pieces
+    Running l.known.text.now (sources_known l.known) l.known.count l.expr.start l.expr.end l.initial.out l.at l.out l.to l.waiting l.i l.due l.pieces
 
 abbrev pub decreases-expression-loop-i : goal.decreases-expression-loop-i
-decreases-expression-loop-i l = l.end - l.i
+decreases-expression-loop-i l = l.expr.end - l.i

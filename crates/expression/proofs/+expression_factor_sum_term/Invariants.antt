@@ -1,6 +1,7 @@
 -- Every call of the cycle is at a later byte, or at the same byte and of a lower rank.
 use Rattle.std.proofs.Common.{◌+◌, ◌-◌, ◌*◌, length}
 use Rattle.bindings.specs.Code.Known.{known_columns}
+use Rattle.expression.specs.declared.parts.Level.TheVariants.{Product, Sum, Comparison}
 use Rattle.expression.proofs.Reading.{Chain}
 use Rattle.expression.proofs.+expression_factor_sum_term.Given as goal
 
@@ -16,20 +17,20 @@ decreases-sum l = 8 * (length l.known.text.now - l.at) + 3
 abbrev pub decreases-term : goal.decreases-term
 decreases-term l = 8 * (length l.known.text.now - l.at) + 2
 
-abbrev pub invariant-expression-loop-left : goal.invariant-expression-loop-left
-invariant-expression-loop-left l = Chain l.known.text.now l.at (known_columns l.known) 2 l.room l.left
+abbrev pub invariant-expression-loop-read : goal.invariant-expression-loop-read
+invariant-expression-loop-read l = Chain Comparison l.known.text.now l.at (known_columns l.known) l.room l.left l.next
 
-abbrev pub decreases-expression-loop-left : goal.decreases-expression-loop-left
-decreases-expression-loop-left l = length l.known.text.now - l.left.sign.end
+abbrev pub decreases-expression-loop-read : goal.decreases-expression-loop-read
+decreases-expression-loop-read l = length l.known.text.now - l.next
 
-abbrev pub invariant-sum-loop-left : goal.invariant-sum-loop-left
-invariant-sum-loop-left l = Chain l.known.text.now l.at (known_columns l.known) 1 l.room l.left
+abbrev pub invariant-sum-loop-read : goal.invariant-sum-loop-read
+invariant-sum-loop-read l = Chain Sum l.known.text.now l.at (known_columns l.known) l.room l.left l.next
 
-abbrev pub decreases-sum-loop-left : goal.decreases-sum-loop-left
-decreases-sum-loop-left l = length l.known.text.now - l.left.sign.end
+abbrev pub decreases-sum-loop-read : goal.decreases-sum-loop-read
+decreases-sum-loop-read l = length l.known.text.now - l.next
 
-abbrev pub invariant-term-loop-left : goal.invariant-term-loop-left
-invariant-term-loop-left l = Chain l.known.text.now l.at (known_columns l.known) 0 l.room l.left
+abbrev pub invariant-term-loop-read : goal.invariant-term-loop-read
+invariant-term-loop-read l = Chain Product l.known.text.now l.at (known_columns l.known) l.room l.left l.next
 
-abbrev pub decreases-term-loop-left : goal.decreases-term-loop-left
-decreases-term-loop-left l = length l.known.text.now - l.left.sign.end
+abbrev pub decreases-term-loop-read : goal.decreases-term-loop-read
+decreases-term-loop-read l = length l.known.text.now - l.next

@@ -4,19 +4,14 @@ use Rattle.std.specs.Prelude.{Result}
 use Rattle.expression.specs.declared.ExprError.{ExprError}
 use Rattle.figures.specs.declared.Figures.{Figures}
 use mathlib.Core.Path.{refl, sym, subst, ◌∙◌}
-use native.Mathlib.Omega.{arith}
 use Rattle.bindings.specs.Code.Table.{columns}
 use Rattle.expression.specs.Code.Answers.{Answers}
 use Rattle.expression.proofs.Reading.{carry}
 use Rattle.expression.proofs.Meaning.{not_allowed, refused_answers, done_answers}
-use borrow.Author.Rules.{rules}
 use Rattle.expression.proofs.parse.Goals as goal
 
 pub returns-then-not-is_all_tokens : goal.returns-then-not-is_all_tokens
 returns-then-not-is_all_tokens c = let a = c.args in not_allowed a.text.now a.at _ (sym c.is_all_tokens.ensures ∙ c.if-not-is_all_tokens.true)
-
-pub expression-requires : goal.expression-requires
-expression-requires c = record { short = search rules; few = omega arith }
 
 pub returns-in_err-expression : goal.returns-in_err-expression
 returns-in_err-expression c =

@@ -1,40 +1,81 @@
--- What the code reads a factor from: signs, literals, names, closing parentheses and the end.
+-- Signs, the figures of a name, closing parentheses and the end, as the code reads them.
 use Rattle.std.specs.Prelude.{Option, Some, None, Result, Ok, Err}
 use Rattle.expression.specs.declared.ExprError.{ExprError}
-use Rattle.std.specs.Prelude.{ℕ, ◌+◌, ◌^◌, ◌<◌, ◌≤◌, ◌≡◌, List, [], ◌∷◌, cond, eqb, ltb, length, drop}
-use Rattle.decimal.specs.Decimal.{value, decimal}
+use Rattle.std.specs.Prelude.{ℕ, ◌+◌, ◌^◌, ◌<◌, ◌≤◌, ◌≡◌, List, [], ◌∷◌, cond, eqb, length, drop}
+use Rattle.word.specs.declared.Operator.{Operator}
+use Rattle.word.specs.declared.Operator.TheVariants.{Add, Sub, Mul, Div, Equal, Less}
 use Rattle.token.specs.Token.{tokens}
-use Rattle.token.specs.Code.Places.{first, token_at}
+use Rattle.token.specs.Code.Places.{start_at}
 use Rattle.figures.specs.declared.Figures.{Figures}
 use Rattle.expression.specs.declared.parts.Sign.{Sign}
-use Rattle.expression.specs.declared.ExprError.TheVariants.{UnexpectedEnd, UnbalancedParenthesis, InvalidLiteral, UnknownIdentifier, UnconsumedTokens}
+use Rattle.expression.specs.declared.parts.SignAt.{SignAt}
+use Rattle.expression.specs.declared.parts.Level.{Level}
+use Rattle.expression.specs.declared.ExprError.TheVariants.{UnexpectedEnd, UnbalancedParenthesis, UnconsumedTokens}
 use Rattle.expression.specs.declared.Operand.{Operand}
-use Rattle.grammar.specs.Parse.{symbol}
-use Rattle.bindings.specs.Code.Table.{Columns, Entry, entry_at, value_unless_none}
+use Rattle.expression.specs.declared.Left.{Left}
+use Rattle.word.specs.Operator.{binary_of}
 use Rattle.figures.specs.Code.Figures.{Joined}
+use Rattle.grammar.specs.Parse.{symbol, term, sum, expression}
+use Rattle.bindings.specs.Code.Table.{Entry, value_unless_none}
 
--- the token at or after an offset as a sign
-abbrev pub sign_at : List ℕ → ℕ → Sign
-sign_at s at = record { byte = symbol (first (tokens (drop at s))); end = (token_at s at).end }
+-- the sign of a byte, = being that of ==
+abbrev pub sign_named : ℕ → Option Sign
+sign_named a =
+    cond (eqb a 40) (Some Sign.Open)
+    (cond (eqb a 41) (Some Sign.Close)
+    (cond (eqb a 43) (Some (Sign.Operator Add))
+    (cond (eqb a 45) (Some (Sign.Operator Sub))
+    (cond (eqb a 42) (Some (Sign.Operator Mul))
+    (cond (eqb a 47) (Some (Sign.Operator Div))
+    (cond (eqb a 60) (Some (Sign.Operator Less))
+    (cond (eqb a 61) (Some (Sign.Operator Equal)) None)))))))
 
--- an operand with the sign behind it
-abbrev pub followed_by : List ℕ → Result Figures ExprError → Result Operand ExprError
-followed_by s (Ok v) = Ok (record { figures = v; sign = sign_at s v.next })
-followed_by s (Err e) = Err e
+-- a token as a sign
+abbrev pub sign_of : List ℕ → Option Sign
+sign_of w = sign_named (symbol w)
 
--- before the first operand
-abbrev pub nothing_yet : ℕ → Operand
-nothing_yet at = record { figures = record { next = at; k = 0; p = 0; len = 0; value = None }; sign = record { byte = 0; end = at } }
+abbrev pub placed : ℕ → Option Sign → Option SignAt
+placed end None = None
+placed end (Some sign) = Some (record { sign = sign; end = end })
 
--- r is the operand w alone where no sign stands before it, else what the sign behind o joins o and w to
-pub record JoinedTo (o w r : Operand) : Type 0 where
-  pub alone : o.sign.byte ≡ 0 → r ≡ w
-  pub figures : (o.sign.byte ≡ 0 → ⊥) → Joined o.sign.byte o.figures w.figures r.figures
-  pub sign : r.sign ≡ w.sign
+-- the first of the tokens that start at an offset as a sign
+abbrev pub first_sign : ℕ → List (List ℕ) → Option SignAt
+first_sign i [] = None
+first_sign i (w ∷ ts) = placed (i + length w) (sign_of w)
 
--- a literal, read from its digits
-abbrev pub literal_read : List ℕ → ℕ → Result Figures ExprError
-literal_read w at = cond (ltb (value w) (2 ^ 64)) (Ok (record { next = at + length w; k = 1; p = 1; len = 6 + length (decimal (value w)); value = Some (value w) })) (Err InvalidLiteral)
+-- the token at or after an offset as a sign, where one is left and is one
+abbrev pub sign_at : List ℕ → ℕ → Option SignAt
+sign_at s at = first_sign (start_at s at) (tokens (drop at s))
+
+-- the level that an operator joins operands to
+abbrev pub level_of : Operator → Level
+level_of Mul = Level.Product
+level_of Div = Level.Product
+level_of Add = Level.Sum
+level_of Sub = Level.Sum
+level_of Less = Level.Comparison
+level_of Equal = Level.Comparison
+
+-- its number in the grammar
+abbrev pub level_number : Level → ℕ
+level_number Level.Product = term
+level_number Level.Sum = sum
+level_number Level.Comparison = expression
+
+-- the operator that a sign is, where it is of a level, and where its token ends
+abbrev pub of_level : Level → Sign → ℕ → Option (Operator × ℕ)
+of_level l (Sign.Operator op) end = cond (eqb (level_number (level_of op)) (level_number l)) (Some (op, end)) None
+of_level l Sign.Open end = None
+of_level l Sign.Close end = None
+
+abbrev pub operator_in : Level → Option SignAt → Option (Operator × ℕ)
+operator_in l None = None
+operator_in l (Some sign) = of_level l sign.sign sign.end
+
+-- r is the operand w alone where nothing stands before it, else what the operator before it joins to w
+abbrev pub JoinedTo : Option Left → Operand → Operand → Type 0
+JoinedTo None w r = r ≡ w
+JoinedTo (Some x) w r = Joined (binary_of x.operator) x.figures w.figures r.figures × (r.sign ≡ w.sign)
 
 -- a name that ends at an offset, read from its binding's entry, and that the figures fit their types
 abbrev pub bound_read : Entry → ℕ → Figures
@@ -44,15 +85,6 @@ pub record Fits (v : Figures) : Type 0 where
   pub k : v.k ≤ 65535
   pub p : v.p ≤ 65535
   pub len : v.len < 2 ^ 32
-
--- a name that ends at an offset, by what is found in the table
-abbrev pub name_read : Columns → ℕ → Option ℕ → Result Figures ExprError
-name_read c end None = Err UnknownIdentifier
-name_read c end (Some i) = Ok (bound_read (entry_at c i) end)
-
-abbrev pub AllFit : Result Figures ExprError → Type 0
-AllFit (Ok v) = Fits v
-AllFit (Err e) = Unit {0}
 
 -- what was read in parentheses, by the tokens that follow it, the first of which ends at an offset
 abbrev pub closed_read : List (List ℕ) → ℕ → Figures → Result Figures ExprError

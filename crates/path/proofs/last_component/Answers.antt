@@ -1,18 +1,19 @@
--- `path::last_component` meets its contract: what is left has the same last component as the whole.
--- Assumes nothing.
-use mathlib.Core.Path.{sym, ap, ◌∙◌}
-use native.Mathlib.Omega.{arith}
-use lib.Seq.{take-length}
-use Rattle.path.specs.Stem.{component}
-use Rattle.path.proofs.Laws.{component_part, component-before}
-use borrow.Author.Rules.{rules}
+-- `path::last_component` meets its contract: the first part from the end that is not ignored.
+use Rattle.std.proofs.Common.{◌∙◌, ap, sym, refl, rules, tests, Bor, List, ℕ, [], Option}
+use mathlib.Core.Bool.{not}
+use Rattle.std.specs.Option.{unwrap_or}
+use Rattle.std.proofs.lemmas.Iterator.Search.{find_from_yields_List}
+use Rattle.path.specs.Stem.{ignored, parts_from}
+use Rattle.path.proofs.Laws.{last_of_back, parts_yielded, shown_found}
 use Rattle.path.proofs.last_component.Goals as goal
 
-pub returns-then-not-is_ignored : goal.returns-then-not-is_ignored
-returns-then-not-is_ignored c = let l = c.loop-end in component_part c.args.path.now l.end c.part_start-start.result l.invariant.1 c.part_start-start.ensures (sym c.is_ignored.ensures ∙ c.if-not-is_ignored.true)
-
-pub returns-then-start-eq0 : goal.returns-then-start-eq0
-returns-then-start-eq0 c = let l = c.loop-end in let e = component-before c.args.path.now l.end c.part_start-start.result l.invariant.1 c.part_start-start.ensures (sym c.is_ignored.ensures ∙ c.if-not-is_ignored.false) in sym (rw c.if-start-eq0.true at e)
-
-pub loop-end-preserved : goal.loop-end-preserved
-loop-end-preserved c = let l = c.loop-end in (omega arith, component-before c.args.path.now l.end c.part_start-start.result l.invariant.1 c.part_start-start.ensures (sym c.is_ignored.ensures ∙ c.if-not-is_ignored.false))
+pub returns : goal.returns
+returns c =
+    let s = c.args.path.now in
+    ap (λ (x : Bor (List ℕ)). x.now) c.unwrap_or.ensures
+    ∙ shown_found c.find.result _ refl
+    ∙ ap (λ (r : Option (List ℕ)). unwrap_or r [])
+    (find_from_yields_List (λ p. not (ignored p)) _ _ c.find.result c.find.ensures.ran
+    (parts_yielded _ s c.rsplit.ensures.rest c.rsplit.ensures.done c.rsplit.ensures.closure (λ x b q k. search (rules, tests)))
+    (λ x b q k. search (rules, tests)))
+    ∙ sym (last_of_back [] (parts_from [] s))

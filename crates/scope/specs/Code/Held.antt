@@ -21,9 +21,9 @@ use Rattle.scope.specs.Numbers.{assemble_error_numbered}
 pub record ReturnIs (s : List ℕ) (table : Bindings) (values : Values) (l : Returned) (t : Tree) : Type 0 where
   pub figures : FiguresOf t l.read
   pub few : l.count ≤ table.count
-  pub ordered : l.start ≤ l.end
-  pub inside : l.end ≤ length s
-  pub means : meaning (env_of s (sources table values) l.count) (part s l.start l.end) ≡ is t
+  pub ordered : l.expr.start ≤ l.expr.end
+  pub inside : l.expr.end ≤ length s
+  pub means : meaning (env_of s (sources table values) l.count) (part s l.expr.start l.expr.end) ≡ is t
 
 abbrev pub LastIs : List ℕ → Bindings → Values → Option Returned → Option Tree → Type 0
 LastIs s table values None None = Unit {0}

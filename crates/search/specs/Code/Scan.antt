@@ -1,5 +1,5 @@
 -- What the steps of a search tell.
-use Rattle.std.specs.Prelude.{ℕ, ◌+◌, ◌<◌, ◌≤◌, ◌≡◌, ◌≢◌, Bool, not, ◌==◌, List, length, get_or}
+use Rattle.std.specs.Prelude.{ℕ, ◌+◌, ◌<◌, ◌≤◌, ◌≡◌, Bool, true, false, not, ◌==◌, List, length, get_or, Option, MatchOption}
 use Rattle.std.specs.List.{list_any}
 
 -- p, which is not empty, has room at each offset from `at` up to end
@@ -8,12 +8,12 @@ pub record RoomAtEach (p s : List ℕ) (at end : ℕ) : Type 0 where
   pub ordered : at ≤ end
   pub room : end + length p ≤ length s + 1
 
--- of the first k bytes of a block of 64 m stand before the first b, or none of them is b and m is 64
-pub record FirstIn (b : ℕ) (block : List ℕ) (k m : ℕ) : Type 0 where
-  pub within : m ≤ 64
-  pub before : (j : ℕ) → j < k → j < m → get_or block j 0 ≢ b
-  pub here : m < 64 → (m < k) × (get_or block m 0 ≡ b)
+-- r is the first place from `at` on and before end of which a test says yes
+abbrev pub FirstThat : (ℕ → Bool → Type 0) → ℕ → ℕ → Option ℕ → Type 0
+FirstThat says at end r =
+    MatchOption r ((k : ℕ) → at ≤ k → k < end → says k false)
+    (λ i. (at ≤ i) × (i < end) × says i true × ((k : ℕ) → at ≤ k → k < i → says k false))
 
--- b is not in a block
-abbrev pub without : ℕ → List ℕ → Bool
-without b block = not (list_any (λ a. a == b) block)
+-- whether b is at a place of a block
+abbrev pub is_at : ℕ → List ℕ → ℕ → Bool → Type 0
+is_at b block k found = (get_or block k 0 == b) ≡ found

@@ -1,11 +1,11 @@
 -- Where the parameters stand in their text, one after the other.
-use Rattle.std.specs.Prelude.{Option, Some, None}
+use Rattle.std.specs.Prelude.{Option, Some, None, MatchOption}
 use Rattle.std.specs.Prelude.{ℕ, ◌+◌, ◌-◌, ◌<◌, ◌≤◌, ◌≡◌, List, [], ◌∷◌, length, take, drop}
 use Rattle.base.specs.Code.Cursor.{Visit, piece, no_piece}
 use Rattle.base.specs.Lists.{is_not, take_while}
 use Rattle.trim.specs.Trim.{trimmed, leading_blanks}
 use Rattle.source.specs.Parameters.{pieces, name, parameters}
-use Rattle.source.specs.declared.parameters.Span.{Span}
+use Rattle.base.specs.declared.span.Span.{Span}
 use Rattle.source.specs.declared.parameters.Parameter.{Parameter}
 
 -- the text before the first b, or all of it where there is none
@@ -40,6 +40,10 @@ first_kept at (p ∷ ps) = elim (name p) [ [] ↦ first_kept (at + length p + 1)
 -- the next parameter from a place on
 abbrev pub parameter_at : List ℕ → ℕ → Option Parameter
 parameter_at s at = first_kept at (pieces (drop at s))
+
+-- one step over a text: the name of the next parameter, and the place behind it
+abbrev pub GivesName : List ℕ → ℕ → Option Span → List ℕ → ℕ → Type 0
+GivesName s at r t on = (t ≡ s) × MatchOption r ((parameter_at s at ≡ None) × (on ≡ at)) (λ name. parameter_at s at ≡ Some (record { name = name; next = on }))
 
 -- what a cursor visits at a place: the next parameter, and then the place behind it
 abbrev pub visit_of_parameter : List ℕ → Option Parameter → Visit (List ℕ)

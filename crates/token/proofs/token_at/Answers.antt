@@ -5,13 +5,13 @@ use Rattle.token.specs.Token.{space}
 use Rattle.token.proofs.Tokens.{next_at, is_token, is_none}
 use Rattle.token.proofs.token_at.Goals as goal
 
-pub returns-then-start-text : goal.returns-then-start-text
-returns-then-start-text c =
+pub returns-then-text-start : goal.returns-then-text-start
+returns-then-text-start c =
     let a = c.args in
-    let e = c.token_start-start.ensures ∙ ap (λ n. a.at + n) (prefix_len_is space (drop a.at a.text.now)) in
-    is_token a.text.now a.at e (next_at a.text.now a.at _ e c.if-start-text.true _ c.token_end-end.ensures)
+    is_none a.text.now a.at (c.token_start-start.ensures ∙ ap (λ n. a.at + n) (prefix_len_is space (drop a.at a.text.now))) c.if-text-start.true
 
 pub returns : goal.returns
 returns c =
     let a = c.args in
-    is_none a.text.now a.at (c.token_start-start.ensures ∙ ap (λ n. a.at + n) (prefix_len_is space (drop a.at a.text.now))) c.if-start-text.false
+    let e = c.token_start-start.ensures ∙ ap (λ n. a.at + n) (prefix_len_is space (drop a.at a.text.now)) in
+    is_token a.text.now a.at e (next_at a.text.now a.at _ e c.if-text-start.false _ c.token_end-end.ensures)

@@ -1,11 +1,9 @@
-use Prim.Native.Nat.{◌≤◌, ◌-◌}
-use mathlib.Core.Path.{◌≡◌}
-use lib.ListN.{length, drop}
+use Rattle.std.proofs.Common.{◌≡◌, ◌-◌, ◌≤◌, length, drop}
 use Rattle.trim.specs.Trim.{start_trimmed}
 use Rattle.trim.proofs.trim_start.Given as goal
 
-abbrev pub invariant-loop-i : goal.invariant-loop-i
-invariant-loop-i l = (l.i ≤ length l.s) × (start_trimmed l.s ≡ start_trimmed (drop l.i l.s))
+abbrev pub invariant-loop-n : goal.invariant-loop-n
+invariant-loop-n l = (l.i ≤ length l.s) × (start_trimmed l.s ≡ start_trimmed (drop l.i l.s))
 
-abbrev pub decreases-loop-i : goal.decreases-loop-i
-decreases-loop-i l = length l.s - l.i
+abbrev pub decreases-loop-n : goal.decreases-loop-n
+decreases-loop-n l = length l.s - l.i

@@ -1,5 +1,5 @@
 -- White_Space within a line: the characters of one byte but the line feed, and those of three.
-use Rattle.std.specs.Prelude.{ℕ, suc, ◌+◌, ◌-◌, ◌≤◌, ◌≡◌, List, [], ◌∷◌, Bool, true, false, not, ◌&&◌, eqb, length, drop}
+use Rattle.std.specs.Prelude.{ℕ, suc, ◌+◌, ◌<◌, ◌≤◌, ◌≡◌, List, [], ◌∷◌, Bool, true, false, not, ◌&&◌, eqb, length, drop, Option, MatchOption}
 use Rattle.trim.specs.Trim.{white1, white3}
 
 abbrev pub blank1 : ℕ → Bool
@@ -23,8 +23,6 @@ abbrev mutual
 abbrev pub blanks_end : List ℕ → ℕ → ℕ
 blanks_end s at = at + blanks_len (drop at s)
 
--- n bytes of it stand at an offset, and n is 0 only where none does
-pub record BlankAt (s : List ℕ) (at n : ℕ) : Type 0 where
-  pub fits : n ≤ length s - at
-  pub on : blanks_len (drop at s) ≡ n + blanks_len (drop (at + n) s)
-  pub none : n ≡ 0 → blanks_len (drop at s) ≡ 0
+-- n bytes of it start a text, or none does
+abbrev pub BlankLen : List ℕ → Option ℕ → Type 0
+BlankLen s r = MatchOption r (blanks_len s ≡ 0) (λ n. (0 < n) × (n ≤ length s) × (blanks_len s ≡ n + blanks_len (drop n s)))

@@ -1,5 +1,5 @@
 -- A text that is UTF-8, by each byte and the three before it.
-use Rattle.std.specs.Prelude.{ℕ, zero, suc, ◌+◌, ◌≡◌, List, [], ◌∷◌, Bool, true, false, cond, ◌&&◌, ◌||◌, eqb, leb, get_or}
+use Rattle.std.specs.Prelude.{ℕ, zero, suc, ◌+◌, ◌<◌, ◌≡◌, List, [], ◌∷◌, Bool, true, false, cond, ◌&&◌, ◌||◌, eqb, leb, length, get_or}
 use Rattle.base.specs.Range.{within}
 use Rattle.base.specs.Code.Skips.{AllFrom}
 
@@ -31,3 +31,7 @@ complete_from a b c (suc n) (d ∷ s) = follows a b c d && complete_from b c d n
 -- each of n bytes follows the three before it, of which the first stands at a position
 abbrev pub Follow : List ℕ → ℕ → ℕ → Type 0
 Follow s at n = AllFrom at n (λ i. follows_at s i ≡ true)
+
+-- each byte behind the first three follows the three before it
+abbrev pub FollowAll : List ℕ → Type 0
+FollowAll s = (k : ℕ) → k + 3 < length s → follows_at s k ≡ true

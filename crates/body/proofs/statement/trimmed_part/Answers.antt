@@ -2,9 +2,13 @@
 -- Assumes nothing.
 use mathlib.Core.Path.{ap}
 use native.Mathlib.Omega.{arith}
-use Rattle.source.specs.declared.parameters.Span.{Span}
+use Rattle.base.specs.declared.span.Span.{Span}
 use Rattle.body.proofs.Places.{trimmed_inside}
 use Rattle.body.proofs.statement.trimmed_part.Goals as goal
 
-pub overflow_add-result-2 : goal.overflow_add-result-2
-overflow_add-result-2 c = let a = c.args in let i = trimmed_inside a.contract.now a.part.start a.part.end c.requires.ordered c.requires.high in omega (arith, ap (λ (r : Span). r.end) c.trimmed_span-span.ensures, ap (λ (r : Span). r.start) c.trimmed_span-span.ensures)
+pub behind-requires : goal.behind-requires
+behind-requires c =
+    let a = c.args in
+    let i = trimmed_inside a.contract.now a.part.start a.part.end c.requires.ordered c.requires.high in
+    let s = ap (λ (r : Span). r.start) c.trimmed_span.ensures in
+    let e = ap (λ (r : Span). r.end) c.trimmed_span.ensures in (omega arith, omega arith)

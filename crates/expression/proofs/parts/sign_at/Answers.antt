@@ -1,13 +1,29 @@
 -- `expression::parts::sign_at` meets its contract: the token at a place is the first of the list.
-use native.Mathlib.Omega.{arith}
-use Rattle.expression.proofs.Signs.{next_of, sign_none, sign_some}
+use Rattle.std.proofs.Common.{◌≡◌, sym, ap, ◌∙◌, arith}
+use Rattle.std.specs.Prelude.{Some, None}
+use Rattle.token.proofs.Tokens.{token_next}
+use Rattle.expression.specs.Code.Parts.{placed}
+use Rattle.expression.proofs.Signs.{sign_placed}
 use Rattle.expression.proofs.parts.sign_at.Goals as goal
 
-pub returns-then-token-end : goal.returns-then-token-end
-returns-then-token-end c = let a = c.args in sign_none a.text.now a.at c.token_at-token.result c.token_at-token.ensures c.if-token-end.true
+pub slice_bounds-sign_of-end : goal.slice_bounds-sign_of-end
+slice_bounds-sign_of-end c =
+    let a = c.args in
+    let e : c.token_at.result ≡ Some c.in_ok-token.token = grind arith in
+    let n = token_next a.text.now a.at (sym c.token_at.ensures ∙ e) in
+    omega (arith, n.some, n.inside)
 
-pub slice_bounds-symbol_byte-end : goal.slice_bounds-symbol_byte-end
-slice_bounds-symbol_byte-end c = let a = c.args in let n = next_of a.text.now a.at c.token_at-token.result c.token_at-token.ensures c.if-token-end.false in omega (arith, n.some, n.inside)
+pub returns-in_err-sign : goal.returns-in_err-sign
+returns-in_err-sign c =
+    let a = c.args in
+    let e : c.token_at.result ≡ Some c.in_ok-token.token = grind arith in
+    let f : c.sign_of.result ≡ None = grind arith in
+    let g : c.from_residual-in_err-sign.result ≡ None = grind arith in
+    g ∙ sym (sign_placed a.text.now a.at (sym c.token_at.ensures ∙ e) ∙ ap (placed c.in_ok-token.token.end) (sym c.sign_of.ensures ∙ f))
 
 pub returns : goal.returns
-returns c = let a = c.args in sign_some a.text.now a.at c.token_at-token.result _ c.token_at-token.ensures c.if-token-end.false c.symbol_byte.ensures
+returns c =
+    let a = c.args in
+    let e : c.token_at.result ≡ Some c.in_ok-token.token = grind arith in
+    let f : c.sign_of.result ≡ Some c.in_ok-sign.sign = grind arith in
+    sym (sign_placed a.text.now a.at (sym c.token_at.ensures ∙ e) ∙ ap (placed c.in_ok-token.token.end) (sym c.sign_of.ensures ∙ f))

@@ -1,12 +1,11 @@
--- `key::Sought::find_before` meets its contract: at each place that is passed the quoted key does not stand.
-use mathlib.Core.Path.{sym, ◌∙◌}
-use native.Mathlib.Omega.{arith}
-use Rattle.search.proofs.Laws.{miss}
+-- `key::Sought::find_before` meets its contract: each place is tested.
+use Rattle.std.proofs.Common.{arith, rules, tests}
+use Rattle.search.proofs.Laws.{first_before}
 use Rattle.key.specs.Key.{quoted}
 use Rattle.key.proofs.Sought.find_before.Goals as goal
 
-pub loop-i-preserved : goal.loop-i-preserved
-loop-i-preserved c =
+pub returns : goal.returns
+returns c =
     let a = c.args in
-    let l = c.loop-i in
-    (omega arith, l.invariant.1 ∙ miss (quoted a.self.key.now) a.self.s.now l.i (sym c.stands.ensures ∙ c.if-stands.false))
+    let w = a.self in
+    first_before (quoted w.key.now) w.s.now a.at a.end (omega arith) (omega arith) _ c.first_that.ensures (λ k l g q. search (rules, tests)) (λ k l g q. search (rules, tests))

@@ -1,41 +1,28 @@
--- `replay::function::parameters` is safe and ends: each name lies within the text, and the next one is sought behind it.
+-- `replay::function::parameters` is safe: each name lies within the text.
 -- Assumes nothing.
-use Rattle.std.proofs.Common.{rules, arith, sym, ◌∙◌, ℕ, List, ◌≡◌, ◌<◌, ◌≤◌, length, take, length-take}
-use Rattle.std.specs.Prelude.{Option, Some}
+use Rattle.std.proofs.Common.{rules, sym, ◌∙◌, arith, ap, ℕ, List, ◌≡◌, ◌≤◌, length}
+use Rattle.std.specs.Prelude.{Some}
+use Rattle.base.specs.declared.span.Span.{Span}
 use Rattle.source.specs.declared.parameters.Parameter.{Parameter}
 use Rattle.source.specs.Code.Cursor.{parameter_at}
 use Rattle.source.proofs.Cursor.{next_is}
 use Rattle.replay.proofs.function.parameters.Goals as goal
 
--- where the parameter stands that is found in the text before an end
-record Within (text : List ℕ) (at : ℕ) (p : Parameter) : Type 0 where
-  pub name : p.name.start ≤ p.name.end
-  pub name_fits : p.name.end ≤ length text
-  pub on : at < p.next
-  pub fits : p.next ≤ length text
+-- where a parameter's name stands
+record Within (text : List ℕ) (name : Span) : Type 0 where
+  pub ordered : name.start ≤ name.end
+  pub inside : name.end ≤ length text
 
-within : (text : List ℕ) (end at : ℕ) {x : Option Parameter} (p : Parameter) → x ≡ parameter_at (take end text) at → x ≡ Some p → Within text at p
-within text end at p e h =
-    let i = next_is (take end text) at p (sym e ∙ h) in
-    let filled = i.filled in
-    let before = i.before in
-    let on = i.on in
-    let fits = i.fits in
-    record {
-      name = omega arith;
-      name_fits = omega (arith, length-take end text);
-      on = on;
-      fits = omega (arith, length-take end text);
-    }
+within : (text : List ℕ) (at : ℕ) {s : List ℕ} (p : Parameter) → s ≡ text → parameter_at s at ≡ Some p → Within text p.name
+within text at p t e =
+    let i = next_is text at p (ap (λ (u : List ℕ). parameter_at u at) (sym t) ∙ e) in
+    record { ordered = omega (arith, i.filled); inside = omega (arith, i.before, i.fits) }
 
 pub slice_bounds-print-count : goal.slice_bounds-print-count
-slice_bounds-print-count g c = (within c.args.text.now c.args.end c.loop-parameter.at c.in-Some.parameter c.next_parameter.ensures c.in-Some.is).name
+slice_bounds-print-count g c = (within c.args.text.now c.loop-name.name-iterator.at _ c.loop-name.invariant.text c.in-Some.ensures.steps.1).ordered
 
 pub slice_bounds-print-start : goal.slice_bounds-print-start
-slice_bounds-print-start g c = let w = within c.args.text.now c.args.end c.loop-parameter.at c.in-Some.parameter c.next_parameter.ensures c.in-Some.is in let n = w.name in let f = w.name_fits in search rules
+slice_bounds-print-start g c = let w = within c.args.text.now c.loop-name.name-iterator.at _ c.loop-name.invariant.text c.in-Some.ensures.steps.1 in search (rules, w.ordered, w.inside)
 
 pub slice_bounds-print-end : goal.slice_bounds-print-end
-slice_bounds-print-end g c = let w = within c.args.text.now c.args.end c.loop-parameter.at c.in-Some.parameter c.next_parameter.ensures c.in-Some.is in let n = w.name in let f = w.name_fits in search rules
-
-pub loop-parameter-smaller : goal.loop-parameter-smaller
-loop-parameter-smaller g c = let w = within c.args.text.now c.args.end c.loop-parameter.at c.in-Some.parameter c.next_parameter.ensures c.in-Some.is in let n = w.on in let f = w.fits in omega arith
+slice_bounds-print-end g c = let w = within c.args.text.now c.loop-name.name-iterator.at _ c.loop-name.invariant.text c.in-Some.ensures.steps.1 in search (rules, w.ordered, w.inside)

@@ -1,8 +1,9 @@
-use Rattle.std.proofs.Common.{◌-◌, length}
+use Rattle.std.proofs.Common.{◌≡◌}
 use Rattle.replay.proofs.function.parameters.Given as goal
 
-abbrev pub invariant-loop-parameter : goal.invariant-loop-parameter
-invariant-loop-parameter g l = Unit {0}
-
-abbrev pub decreases-loop-parameter : goal.decreases-loop-parameter
-decreases-loop-parameter g l = length l.text - l.at
+abbrev pub invariant-loop-name : goal.invariant-loop-name
+invariant-loop-name g l = record {
+  can : (goal.iterator-loop-name g).can_next l.name-iterator;
+  finite : (goal.iterator-loop-name g).is_finite l.name-iterator;
+  text : l.name-iterator.text.now ≡ l.text;
+}

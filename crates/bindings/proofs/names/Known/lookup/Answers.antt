@@ -1,14 +1,17 @@
 -- `Known::lookup` meets its contract: the bindings passed have other names.
+use Prim.Native.Nat.{◌-◌}
 use native.Mathlib.Omega.{arith}
 use mathlib.Core.Path.{sym, ◌∙◌}
 use Rattle.bindings.proofs.Lookup.{found_here, found_older, found_none}
+use Rattle.bindings.proofs.Tags.{passes_same}
 use Rattle.bindings.proofs.names.Known.lookup.Goals as goal
 
 pub loop-left-init : goal.loop-left-init
 loop-left-init c =
     let k = c.args.self in
     let e = c.tag_of-tag.ensures in
-    (c.passed-left.ensures.fewer, (e, c.passed-left.ensures.same k.text.now k.table.now.name_start k.table.now.name_len _ e))
+    let p = c.passed-left.ensures in
+    (omega (arith, p.fewer), (e, passes_same k.text.now k.table.now.name_start k.table.now.name_len k.values.now.tag _ k.count _ _ (omega arith) p e))
 
 pub returns-then-is_called : goal.returns-then-is_called
 returns-then-is_called c =
@@ -23,13 +26,14 @@ pub loop-left-preserved : goal.loop-left-preserved
 loop-left-preserved c =
     let k = c.args.self in
     let l = c.loop-left in
-    let h = c.loop-left-test.true in (
-      omega (arith, c.passed-left-in-loop-left.ensures.fewer, l.invariant.0),
+    let h = c.loop-left-test.true in
+    let p = c.passed-left-in-loop-left.ensures in (
+      omega (arith, p.fewer, l.invariant.0),
       (
         l.invariant.1.0,
         l.invariant.1.1
             ∙ found_older k.text.now k.table.now.name_start k.table.now.name_len k.values.now.tag _ l.left h (sym c.is_called.ensures ∙ c.if-is_called.false)
-            ∙ c.passed-left-in-loop-left.ensures.same k.text.now k.table.now.name_start k.table.now.name_len _ l.invariant.1.0,
+            ∙ passes_same k.text.now k.table.now.name_start k.table.now.name_len k.values.now.tag _ (l.left - 1) _ _ (omega arith) p l.invariant.1.0,
       ),
     )
 
