@@ -150,7 +150,8 @@ fn agrees(s: &[u8], p: &[u8], at: usize) -> bool
     (s[at] == p[0]) & (s[at + last] == p[last]) & (s[at + middle] == p[middle])
 }
 
-// The first offset from an offset on and before end at which a test says yes. `find` over the range was measured slower.
+// The first offset from an offset on and before end at which a test says yes. Its callers' tests have room at each of them. `find` over
+// the range was measured slower.
 pub fn first_that<F: Fn(usize) -> bool>(at: usize, end: usize, test: F) -> Option<usize>
     requires { (i : ℕ) → at ≤ i → i < end → F.pre test i }
     ensures { FirstThat (F.post test) at end result }
