@@ -46,7 +46,7 @@ fn is_given(rt: &impl Env, i: usize) -> bool {
 fn read(
     rt: &impl Files,
     stdout: &mut impl Write,
-    stderr: &mut impl Write,
+    stderr: &mut (impl Write + Eprint),
     contract_path: &[u8],
     vector_path: &[u8],
 ) -> ExitCode {
@@ -70,7 +70,7 @@ fn read(
 // The buffer is longer than any ops text that is assembled.
 fn assemble(
     stdout: &mut impl Write,
-    stderr: &mut impl Write,
+    stderr: &mut (impl Write + Eprint),
     contract: &[u8],
     vector: &[u8],
     stem: &[u8],
@@ -81,7 +81,7 @@ fn assemble(
 
 fn assemble_into(
     stdout: &mut impl Write,
-    stderr: &mut impl Write,
+    stderr: &mut (impl Write + Eprint),
     contract: &[u8],
     vector: &[u8],
     stem: &[u8],

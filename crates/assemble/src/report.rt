@@ -12,8 +12,9 @@ pub fn text(stdout: &mut impl Write, stderr: &mut impl Write, out: &[u8]) -> Exi
     ExitCode::SUCCESS
 }
 
-pub fn refused(stderr: &mut impl Write, why: AssembleError) -> ExitCode {
-    let _ = write!(stderr, "{}", Message(why));
+// As one write, so that no other program's line comes between its parts.
+pub fn refused(stderr: &impl Eprint, why: AssembleError) -> ExitCode {
+    let _ = stderr.eprint(Message(why));
     ExitCode::SUCCESS
 }
 

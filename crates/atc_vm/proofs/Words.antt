@@ -17,7 +17,7 @@ use Rattle.atc_vm.specs.Calls.{place_numbered}
 use Rattle.atc_vm.specs.Words.{Tells}
 
 -- m is the number of x, which is y
-told : {X : Type 0} (of : X → Numbered) {x y : X} {m : Numbered} {words : List ℕ} {r : ℕ} → x ≡ y → m ≡ of x → Tells m words r → Tells (of y) words r
+pub told : {X : Type 0} (of : X → Numbered) {x y : X} {m : Numbered} {words : List ℕ} {r : ℕ} → x ≡ y → m ≡ of x → Tells m words r → Tells (of y) words r
 told of e p t = record {
   number = t.number ∙ ap (λ (n : Numbered). n.number) (p ∙ ap of e);
   words = t.words ∙ ap (λ (n : Numbered). n.words) (p ∙ ap of e);

@@ -1,16 +1,24 @@
 -- Laws of the verifier's look at operations, one after the other and in blocks.
-use Rattle.std.proofs.Common.{◌≡◌, ℕ, ◌+◌, ◌-◌, ◌≤◌, Bool, true, false, not, ◌&&◌, cond, leb, ltb, List, [], ◌∷◌, length, length-drop, take, drop, zero, suc, ◌⊎◌, inl, inr, refl, sym, arith}
+use Rattle.std.proofs.Common.{◌≡◌, ℕ, ◌+◌, ◌-◌, ◌≤◌, ◌<◌, Bool, true, false, not, ◌&&◌, cond, leb, ltb, List, [], ◌∷◌, length, length-drop, take, drop, zero, suc, ◌⊎◌, inl, inr, refl, sym, arith}
 use Rattle.std.specs.Prelude.{Result, Ok, Err}
 use Rattle.std.specs.List.{list_any, zip}
 use Rattle.std.proofs.lemmas.List.{drop-drop}
 use borrow.Author.Tests.{ltb-false, leb-false, le-leb, lt-ltb}
+use lib.ListN.{get_or}
 use Rattle.base.specs.Need.{need}
+use Rattle.base.proofs.Parts.{drop_cons_at}
 use Rattle.base.proofs.Tests.{false_true, or_left, or_right}
 use Rattle.kinds.specs.Kinds.{target, takes, operation}
 use Rattle.checks.specs.declared.VmError.{VmError}
 use Rattle.checks.specs.declared.VmError.TheVariants.{UnknownKind, JumpOutOfRange}
 use Rattle.checks.specs.Verify.{then_check, target_fits, operation_check, operations_check}
 use Rattle.checks.specs.Code.Blocks.{is_bad}
+
+-- the check at a place of the program, and what is left behind it
+pub check_at : (n i : ℕ) (ks vs : List ℕ) (x : Result (Unit {0}) VmError) → i < length ks → i < length vs → operation_check n (operation (get_or ks i 0) (get_or vs i 0)) ≡ x
+    → operations_check n (drop i ks) (drop i vs) ≡ then_check x (operations_check n (drop (i + 1) ks) (drop (i + 1) vs))
+unfolding operations_check
+check_at n i ks vs x h k e = rw (drop_cons_at ks i (i + 1) h refl, drop_cons_at vs i (i + 1) k refl, e)
 
 module _ (n : ℕ) where
   -- the first operation passes, or is refused

@@ -1,8 +1,8 @@
 -- What a run leaves, from what its parts leave.
-use Rattle.std.specs.Prelude.{Result, Ok}
+use Rattle.std.specs.Prelude.{Result, Ok, Err}
 use Prim.Native.Nat.{ℕ, ◌+◌, ◌-◌, ◌≤◌}
 use native.Mathlib.Omega.{arith}
-use mathlib.Core.Path.{◌≡◌, sym, ◌∙◌}
+use mathlib.Core.Path.{◌≡◌, refl, sym, ap, ◌∙◌}
 use mathlib.Core.Bool.{◌&&◌}
 use mathlib.Core.List.{List, ◌++◌}
 use lib.ListN.{length, take, replicate}
@@ -11,16 +11,18 @@ use lib.Dec.{leb, ltb}
 use Rattle.base.specs.Code.Stack.{stack_of}
 use Rattle.base.proofs.Stack.{length_stack, reverse_stack}
 use Rattle.machine.specs.declared.Regs.{Regs}
-use Rattle.machine.specs.declared.Status.TheVariants.{Going, Ended}
+use Rattle.machine.specs.declared.Refusal.{Refusal}
+use Rattle.machine.specs.declared.Status.TheVariants.{Going, Ended, Refused}
 use Rattle.checks.specs.declared.VmError.{VmError}
+use Rattle.checks.specs.Numbers.{vm_error_numbered}
 use Rattle.machine.specs.Machine.{Progress, next, done, stop, decode, run_to_end}
 use Rattle.machine.specs.Code.Alike.{AlikeBut}
-use Rattle.machine.specs.Code.Registers.{frame_of, progress_of, RefinesRun}
+use Rattle.machine.specs.Code.Registers.{frame_of, fault_of, progress_of, RefinesRun}
 use Rattle.perform.specs.Code.Needed.{needed, changed, Copied, Serves}
 use Rattle.perform.specs.declared.Success.{Success}
 use Rattle.perform.specs.Call.{Call}
 use Rattle.perform.specs.Lent.{Lent}
-use Rattle.perform.specs.Run.{of_run, Meets}
+use Rattle.perform.specs.Run.{of_run, refusal_of, Meets}
 use Rattle.perform.proofs.Needed.{served, brought}
 
 -- the run on a work buffer w₀ with the slots that it needs is the run on the storage, but for slots that it can't tell
@@ -55,6 +57,12 @@ module _ (x : Call) (r : Regs) (s' w' : List ℕ) (same : length x.work ≡ leng
           work = ew;
           storage = brought x.kinds x.operands x.state.used r.used x.storage x.work l.0 y m' same hu l.2 p q;
         })
+
+    pub undone_by : (f : VmError) (why : Refusal) → r.status ≡ Refused why → f ≡ refusal_of (fault_of why) → s' ≡ replicate (length x.stack) 0
+        → Meets (of_run x o) x.state (Err f) s' w' x.storage
+    undone_by f why q e es =
+        let l : AlikeBut (Serves x.kinds x.operands x.state.used x.storage) (stop (fault_of why)) o = rw q at like in
+        rw l (record { answer = ap Err e; says = ap vm_error_numbered e; state = refl; stack = es; work = ew; storage = refl })
 
 -- of stack and work a result has the lengths alone
 abbrev pub lending : List ℕ → List ℕ → Call → Call
