@@ -7,7 +7,8 @@ use native.Mathlib.Omega.{arith}
 use lib.ListN.{length, get_or, take, drop, take-append-drop, drop_of_length-le, get_or-eq_default}
 use lib.Dec.{eqb}
 use Rattle.std.specs.List.{fold, list_any, prefix_len}
-use Rattle.base.specs.Lists.{without, all, take_while}
+use Rattle.base.specs.Code.Without.{without}
+use Rattle.base.specs.Lists.{all, take_while}
 use Rattle.base.proofs.Tests.{false_true, by_bool, by_leb, and_left, and_right, and_both}
 use Rattle.base.proofs.Parts.{drop_cons_at}
 

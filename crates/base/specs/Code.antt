@@ -1,3 +1,4 @@
 pub mod Skips
 pub mod Cursor
 pub mod Stack
+pub mod Without

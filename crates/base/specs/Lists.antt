@@ -1,14 +1,9 @@
 -- Tests of each element of a list.
-use Rattle.std.specs.Prelude.{ℕ, List, [], ◌∷◌, Bool, true, not, cond, ◌==◌, ◌&&◌, eqb}
-use Rattle.std.specs.List.{list_any}
+use Rattle.std.specs.Prelude.{ℕ, List, [], ◌∷◌, Bool, true, not, cond, ◌&&◌, eqb}
 
 -- the test that a number is another one than b
 abbrev pub is_not : ℕ → ℕ → Bool
 is_not b a = not (eqb a b)
-
--- b is not in a list
-abbrev pub without : ℕ → List ℕ → Bool
-without b s = not (list_any (λ a. a == b) s)
 
 abbrev pub all : (ℕ → Bool) → List ℕ → Bool
 all test [] = true

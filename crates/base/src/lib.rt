@@ -1,12 +1,14 @@
-// A range of bytes, a choice by a test, a byte that is not in a text, and a part of a text.
+// A range of bytes, a choice by a test, a byte that is not in a text, a part of a text, and copying.
 #![tactic(auto)]
 
 ghost use Rattle.std.specs.Prelude.{◌≡◌, cond};
 ghost use Rattle.base.specs.Range.{within};
-ghost use Rattle.base.specs.Lists.{without};
+ghost use Rattle.base.specs.Code.Without.{without};
 
+mod copies;
 mod span;
 
+pub use copies::copy;
 pub use span::Span;
 
 // The two tests are joined with no branch, so that loops over bytes compile to vector code.

@@ -3,7 +3,7 @@ ghost use Rattle.std.specs.Prelude.{◌≡◌, ℕ, ◌*◌, ◌/◌, ◌≤◌,
 ghost use Rattle.base.specs.Need.{need};
 ghost use Rattle.kinds.specs.Kinds.{operation};
 ghost use Rattle.kinds.specs.declared.Program.{Program};
-ghost use Rattle.kinds.specs.Program.{Paired};
+ghost use Rattle.kinds.specs.Code.Program.{Paired};
 ghost use Rattle.checks.specs.declared.VmError.TheVariants.{JumpOutOfRange};
 ghost use Rattle.checks.specs.Verify.{operation_check, operations_check};
 ghost use Rattle.checks.specs.Code.Blocks.{is_bad};

@@ -8,7 +8,6 @@ use Rattle.base.specs.Lists.{all}
 use Rattle.base.specs.Need.{need}
 use Rattle.base.specs.Range.{within}
 use Rattle.context.specs.declared.ContextError.{ContextError}
-use Rattle.context.specs.declared.ChainContext.{ChainContext}
 use Rattle.context.specs.declared.Gate.{Gate}
 use Rattle.context.specs.declared.ContextError.TheVariants.{InvalidChainId, InvalidNetworkId, InvalidGenesisId, ProtocolMismatch, VmMismatch, GenesisMismatch}
 
@@ -35,12 +34,7 @@ gate_of chain network genesis protocol vm computed expected_protocol expected_vm
     (need (equal vm expected_vm) (Err VmMismatch)
     (genesis_of genesis computed)))))
 
--- what a context is beside the versions that are expected: the gate's answer where its own genesis id is the computed one
-abbrev pub valid_of : ChainContext → (expected_protocol expected_vm : List ℕ) → Result (Unit {0}) ContextError
-valid_of c expected_protocol expected_vm =
-    gate_of c.chain_id.now c.network_id.now c.genesis_id.now c.protocol_version.now c.vm_version.now c.genesis_id.now expected_protocol expected_vm
-
--- the same of a gate's texts
+-- of a gate's texts
 abbrev pub gate_at : Gate → Result (Unit {0}) ContextError
 gate_at g =
     let c = g.context in

@@ -2,7 +2,8 @@
 #![tactic(auto)]
 
 ghost use Rattle.std.specs.Prelude.{◌≡◌};
-ghost use Rattle.context.specs.Gate.{is_hex_digit, is_network, is_genesis_id, valid_of, genesis_of, gate_at, context_error_numbered};
+ghost use Rattle.context.specs.Gate.{is_hex_digit, is_network, is_genesis_id, genesis_of, gate_at, context_error_numbered};
+ghost use Rattle.context.specs.Code.Valid.{valid_of};
 ghost use Rattle.base.specs.Lists.{all};
 ghost use Rattle.numbered.specs.Numbered.{Answered, unit_numbered, result_numbered};
 

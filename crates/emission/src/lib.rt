@@ -11,7 +11,7 @@ ghost use Rattle.emission.specs.Code.Emitted.{known_tree, binding_tree, KnownMea
 mod operator;
 mod waiting;
 
-use base::Span;
+use base::{Span, copy};
 use bindings::names::Known;
 use expression::factors::{Factor, factor_at};
 use expression::parts::Level;
@@ -120,6 +120,6 @@ fn put_again(out: &mut [u8], at: usize, piece: Span) -> usize
 {
     let len = piece.end - piece.start;
     let (before, behind) = out.split_at_mut(at);
-    behind[..len].copy_from_slice(&before[piece.start..piece.end]);
+    copy(&mut behind[..len], &before[piece.start..piece.end]);
     at + len
 }

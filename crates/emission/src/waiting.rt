@@ -1,6 +1,6 @@
 // Operators that wait for their right side, the newest last, with a none for each open parenthesis.
 ghost use Rattle.std.specs.Prelude.{◌≡◌, ◌+◌, ◌<◌, ◌≤◌, Some, length};
-ghost use Rattle.word.specs.Operator.{binary_of};
+ghost use Rattle.word.specs.Code.Operator.{binary_of};
 ghost use Rattle.grammar.specs.Written.{kind_number};
 ghost use Rattle.writer.specs.Code.Overwrites.{Overwrites};
 ghost use Rattle.expression.specs.Code.Parts.{level_number};

@@ -8,7 +8,7 @@ use native.Mathlib.Omega.{arith}
 use lib.ListN.{length, drop}
 use Rattle.word.specs.Apply.{Binary, add, sub, mul, div, eq, lt}
 use Rattle.word.specs.declared.Operator.{Operator}
-use Rattle.word.specs.Operator.{binary_of}
+use Rattle.word.specs.Code.Operator.{binary_of}
 use Rattle.token.specs.Token.{tokens}
 use Rattle.token.specs.Code.Places.{first, first_span, start_at}
 use Rattle.token.proofs.Tokens.{token_next}

@@ -14,7 +14,7 @@ use Rattle.base.specs.declared.span.Span.{Span}
 use Rattle.base.proofs.Tests.{by_eqb}
 use Rattle.word.specs.declared.Operator.{Operator}
 use Rattle.word.specs.declared.Operator.TheVariants.{Add, Sub, Mul, Div, Equal, Less}
-use Rattle.word.specs.Operator.{binary_of}
+use Rattle.word.specs.Code.Operator.{binary_of}
 use Rattle.token.specs.Code.Places.{first, start_at, token_at}
 use Rattle.token.proofs.Tokens.{Next, token_from, token_next, token_length}
 use Rattle.expression.specs.declared.parts.Sign.{Sign}

@@ -1,6 +1,6 @@
 // The figures of two expressions that an operator joins.
 ghost use Rattle.std.specs.Prelude.{◌≡◌, ◌≤◌};
-ghost use Rattle.word.specs.Operator.{binary_of};
+ghost use Rattle.word.specs.Code.Operator.{binary_of};
 ghost use Rattle.grammar.specs.Tree.{applied};
 ghost use Rattle.grammar.specs.Code.Lengths.{operator_length};
 ghost use Rattle.figures.specs.Code.Figures.{SumsFit, Joined};

@@ -2,7 +2,7 @@
 // are always ready for one operation more, which `CanStep` says of them and of the stack buffer: C lends that, so no struct holds both.
 // What a contract leaves free is named at `RefinesEffect`.
 ghost use Rattle.std.specs.Prelude.{◌≡◌, ℕ, ◌+◌, ◌-◌, ◌^◌, ◌<◌, ◌≤◌, min, not, Bool, List, length, ◌==◌, nat_eq};
-ghost use Rattle.word.specs.Operator.{binary_of};
+ghost use Rattle.word.specs.Code.Operator.{binary_of};
 ghost use Rattle.machine.specs.Machine.{jumps, push_of, binop_of, dup_of, swap_of, jump_if_of, load_of, store_of};
 ghost use Rattle.machine.specs.Code.Registers.{CanStep, RefinesEffect, RefinesOnStack, gone_on};
 

@@ -2,7 +2,7 @@
 #![tactic(auto)]
 
 ghost use Rattle.std.specs.Prelude.{length};
-ghost use Rattle.kinds.specs.Program.{Paired};
+ghost use Rattle.kinds.specs.Code.Program.{Paired};
 ghost use Rattle.machine.specs.Machine.{decode};
 ghost use Rattle.machine.specs.Code.Registers.{Running, RefinesRun};
 

@@ -1,13 +1,15 @@
-// Copies and zeros in the lent buffers, by std's calls, with the promises that the run's definition is met by. The run calls them with lengths that lie within both buffers, by the test of lengths (34).
+// Copies and zeros in the lent buffers, with the promises that the run's definition is met by. The run calls them with lengths that lie within both buffers, by the test of lengths (34).
 ghost use Rattle.std.specs.Prelude.{◌≡◌, ◌++◌, ◌&&◌, ◌-◌, ◌≤◌, length, take, replicate, leb, ltb};
 ghost use Rattle.perform.specs.Code.Needed.{Copied};
+
+use base::copy;
 
 // The part of `s` from `a` up to `e`, put at the same place of `d`.
 pub fn copy_part(d: &mut [u64], s: &[u64], a: usize, e: usize)
     requires { (a ≤ e) × (e ≤ length d.old) × (e ≤ length s.now) }
     ensures { Copied (λ j. leb a j && ltb j e) s.now d.old d.new }
 {
-    d[a..e].copy_from_slice(&s[a..e]);
+    copy(&mut d[a..e], &s[a..e]);
 }
 
 // Zeros from `a` to the end.

@@ -3,7 +3,7 @@
 // How much is used stays beside the buffers: what lies past it is theirs too, and each promise speaks of it.
 ghost use Rattle.std.specs.Prelude.{◌≡◌, ◌&&◌, ◌≤◌, ltb, length};
 ghost use Rattle.kinds.specs.Kinds.{operation};
-ghost use Rattle.kinds.specs.Program.{Paired};
+ghost use Rattle.kinds.specs.Code.Program.{Paired};
 ghost use Rattle.perform.specs.Code.Needed.{Copied, names, named, needed, stores, changed};
 
 use super::buffers;

@@ -15,7 +15,7 @@ use Rattle.std.proofs.lemmas.List.Folds.{list_any_at}
 use Rattle.base.specs.Code.Skips.{Skips}
 use Rattle.base.proofs.Tests.{by_bool, false_true}
 use Rattle.search.specs.First.{first_at}
-use Rattle.base.specs.Lists.{without}
+use Rattle.base.specs.Code.Without.{without}
 use Rattle.search.specs.Code.Scan.{FirstThat, is_at}
 use Rattle.search.proofs.Laws.{passed, found_at}
 

@@ -7,7 +7,7 @@ ghost use Rattle.std.specs.Prelude.{◌≡◌, [], ◌∷◌, true, false, ◌+�
 ghost use Rattle.std.specs.Option.{option_or};
 ghost use Rattle.std.specs.List.{prefix_len};
 ghost use Rattle.search.specs.First.{prefix_of, first_at};
-ghost use Rattle.base.specs.Lists.{without};
+ghost use Rattle.base.specs.Code.Without.{without};
 ghost use Rattle.search.specs.Code.Scan.{RoomAtEach, FirstThat, is_at};
 
 use base::{lacks, pick};

@@ -1,10 +1,11 @@
 -- What trimming does to a text, by the bytes that it starts with.
-use Prim.Native.Nat.{ℕ, suc, ◌≤◌}
+use Prim.Native.Nat.{ℕ, suc, ◌+◌, ◌≤◌}
 use mathlib.Core.Path.{◌≡◌, refl, sym, ap, ◌∙◌}
 use mathlib.Core.List.{List, [], ◌∷◌, reverse, reverse-reverse}
 use mathlib.Core.Bool.{Bool, true, false}
 use native.Mathlib.Omega.{arith}
-use lib.ListN.{length, get_or, take, length-reverse}
+use lib.ListN.{length, get_or, take, drop, length-reverse}
+use Rattle.std.specs.List.{prefix_len}
 use lib.Seq.{take-length}
 use Rattle.base.proofs.Tests.{by_bool}
 use Rattle.base.proofs.Parts.{reverse-take-suc}
@@ -39,6 +40,17 @@ module _ (two : ℕ → ℕ → Bool) (three : ℕ → ℕ → ℕ → Bool) whe
   pub no1 : (a : ℕ) (t : List ℕ) → white1 a ≡ false → ((b : ℕ) → two a b ≡ false) → ((b c : ℕ) → three a b c ≡ false) → trimmed_by two three (a ∷ t) ≡ a ∷ t
   no1 a [] e f g = end1 a [] refl e
   no1 a (b ∷ t) e f g = no2 a b t e (f b) (g b)
+
+-- what White_Space of one byte is passed at a text's start
+pub blanks_passed : (s : List ℕ) → start_trimmed s ≡ start_trimmed (drop (prefix_len white1 s) s)
+blanks_passed [] = refl
+blanks_passed (a ∷ s) = by_bool (white1 a) (λ e. yes1 white2 white3 a s e ∙ blanks_passed s ∙ ap start_trimmed (sym (passes e))) (λ e. ap start_trimmed (sym (stays e)))
+  where
+    passes : white1 a ≡ true → drop (prefix_len white1 (a ∷ s)) (a ∷ s) ≡ drop (prefix_len white1 s) s
+    passes e = let n : 1 + prefix_len white1 s ≡ suc (prefix_len white1 s) = omega arith in rw (e, n) refl
+
+    stays : white1 a ≡ false → drop (prefix_len white1 (a ∷ s)) (a ∷ s) ≡ a ∷ s
+    stays e = rw e refl
 
 -- a first byte, and a last one, that no White_Space has there
 pub start_stays : (a : ℕ) (t : List ℕ) → white1 a ≡ false → (a ≡ 0xC2 → ⊥) → (0xE1 ≤ a → a ≤ 0xE3 → ⊥) → start_trimmed (a ∷ t) ≡ a ∷ t

@@ -2,6 +2,7 @@
 #![tactic(auto)]
 
 ghost use Rattle.std.specs.Prelude.{◌≡◌, ◌-◌, ◌≤◌, ◌<◌, length, get_or, drop};
+ghost use Rattle.std.specs.List.{prefix_len};
 ghost use Rattle.base.specs.Part.{Part};
 ghost use Rattle.trim.specs.Trim.{start_trimmed, end_trimmed, trimmed, leading_blanks, white1, white2, white3};
 ghost use Rattle.trim.specs.Code.Trims.{WhiteLen, LastWhiteLen};
@@ -18,12 +19,21 @@ pub fn trim<'a>(s: &'a [u8]) -> &'a [u8]
 pub fn trim_start<'a>(s: &'a [u8]) -> &'a [u8]
     ensures { Part s.entry result (leading_blanks s.now) (start_trimmed s.now) }
 {
-    let mut i: usize = 0;
+    let mut i = ascii_blanks(s);
     // A character has one byte to three, so no iterator is plainer; so too in the two loops below.
     while let Some(n) = white_len(&s[i..]) {
         i += n;
     }
     &s[i..]
+}
+
+// How many bytes of White_Space of one byte a text starts with. They are most of what is trimmed; character by character, 60,000 of them
+// took 1.4 of the time.
+fn ascii_blanks(s: &[u8]) -> usize
+    ensures count { result ≡ prefix_len white1 s.now }
+    ensures within { result ≤ length s.now }
+{
+    s.iter().take_while(|a| is_white1(**a)).count()
 }
 
 pub fn trim_end<'a>(s: &'a [u8]) -> &'a [u8]

@@ -1,2 +1,2 @@
 pub mod Apply
-pub mod Operator
+pub mod Code

@@ -3,7 +3,7 @@
 
 ghost use Rattle.std.specs.Prelude.{◌≡◌, ◌*◌, ◌%◌, ◌^◌};
 ghost use Rattle.word.specs.Apply.{apply};
-ghost use Rattle.word.specs.Operator.{binary_of};
+ghost use Rattle.word.specs.Code.Operator.{binary_of};
 
 // A two-sided operation, which the machine and the assembler's expressions share.
 #[derive(Clone, Copy, Debug, PartialEq, Eq)]

@@ -10,6 +10,7 @@ ghost use Rattle.mnemonic.specs.Kinds.{follows};
 ghost use Rattle.mnemonic.specs.Written.{written};
 ghost use Rattle.writer.specs.Code.Overwrites.{Overwrites};
 
+use base::copy;
 use decimal::{decimal_len, write_decimal};
 
 pub fn put_bytes(out: &mut [u8], at: usize, bytes: &[u8]) -> usize
@@ -17,7 +18,7 @@ pub fn put_bytes(out: &mut [u8], at: usize, bytes: &[u8]) -> usize
     ensures { Overwrites out.old at bytes.now out.new result }
 {
     let end = at + bytes.len();
-    out[at..end].copy_from_slice(bytes);
+    copy(&mut out[at..end], bytes);
     end
 }
 

@@ -10,6 +10,6 @@ returns c =
     let b = c.requires.0 in
     let s = c.split_at_mut-before.ensures in
     record {
-      is = copied a.out.now a.at a.piece.start a.piece.end b.ordered b.before (omega (arith, c.requires.1)) s.front s.back c.copy_from_slice.ensures.after;
+      is = copied a.out.now a.at a.piece.start a.piece.end b.ordered b.before (omega (arith, c.requires.1)) s.front s.back c.copy.ensures;
       next = omega (arith, length-slice a.piece.start a.piece.end a.out.now (omega (arith, b.before, c.requires.1)));
     }

@@ -13,7 +13,7 @@ use Rattle.expression.specs.declared.parts.Level.{Level}
 use Rattle.expression.specs.declared.ExprError.TheVariants.{UnexpectedEnd, UnbalancedParenthesis, UnconsumedTokens}
 use Rattle.expression.specs.declared.Operand.{Operand}
 use Rattle.expression.specs.declared.Left.{Left}
-use Rattle.word.specs.Operator.{binary_of}
+use Rattle.word.specs.Code.Operator.{binary_of}
 use Rattle.figures.specs.Code.Figures.{Joined}
 use Rattle.grammar.specs.Parse.{symbol, term, sum, expression}
 use Rattle.bindings.specs.Code.Table.{Entry, value_unless_none}

@@ -5,7 +5,7 @@ use Rattle.std.specs.Option.{option_or}
 use Rattle.std.specs.Simd.{first_chunks}
 use Rattle.base.proofs.Parts.{take-length-drop}
 use Rattle.search.specs.First.{first_at}
-use Rattle.base.specs.Lists.{without}
+use Rattle.base.specs.Code.Without.{without}
 use Rattle.search.proofs.Laws.{no_room, or_nothing}
 use Rattle.search.proofs.Blocks.{blocks_skipped}
 use Rattle.search.proofs.find_by_blocks.Goals as goal

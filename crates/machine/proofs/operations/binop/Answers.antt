@@ -1,6 +1,6 @@
 -- `operations::binop` meets its contract: too few items, no value, and the value in the place of two items.
 use Rattle.std.proofs.Common.{ℕ, ◌-◌, ◌≤◌, List, length, take, refl, arith, sym, ◌∙◌}
-use Rattle.word.specs.Operator.{binary_of}
+use Rattle.word.specs.Code.Operator.{binary_of}
 use Rattle.machine.specs.Machine.{binop_of}
 use Rattle.machine.proofs.Stack.{below_two, stack_two, stack_put}
 use Rattle.machine.specs.declared.Refusal.TheVariants.{DivisionByZero, StackUnderflow}
