@@ -19,7 +19,7 @@ pub no_words : (number : ℕ) → (1 ≤ number → 27 ≤ number) → [] ≡ wo
 no_words zero h = refl
 no_words (suc n) h = let k = h (omega arith) in let e : length words ≡ 26 = refl in sym (get_or-eq_default words [] {n = n} (omega arith))
 
-key_number : (place : ℕ) → (place ≡ 0 → ⊥) → decimal place ≡ key_text place
+pub key_number : (place : ℕ) → (place ≡ 0 → ⊥) → decimal place ≡ key_text place
 key_number zero n = absurd (n refl)
 key_number (suc place) n = refl
 

@@ -48,5 +48,5 @@ pub fn assemble(
     if !stem_fits(stem) {
         return Err(AssembleError::BadStem);
     }
-    write_output(contract, stem, &checked, out)
+    write_output(contract, stem, checked, out)
 }

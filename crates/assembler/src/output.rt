@@ -3,7 +3,6 @@ ghost use Rattle.assembler.specs.Code.Ready.{Ready, Writes};
 
 use crate::Assembly;
 use crate::header::{header_len, put_header};
-use bindings::names::Known;
 use contract::CheckedContract;
 use emission::emit;
 use scope::refusal::AssembleError;
@@ -13,11 +12,11 @@ use writer::put_bytes;
 pub fn write_output(
     contract: &[u8],
     stem: &[u8],
-    checked: &CheckedContract,
+    checked: CheckedContract,
     out: &mut [u8],
 ) -> Result<Assembly, AssembleError>
-    requires { Ready contract.now stem.now checked.now }
-    ensures { Writes contract.now stem.now checked.now out.old out.new result }
+    requires { Ready contract.now stem.now checked }
+    ensures { Writes contract.now stem.now checked out.old out.new result }
 {
     let expected = checked.expected;
     let returned = checked.returned;
@@ -27,14 +26,17 @@ pub fn write_output(
     if room < frame || ((room - frame) as u64) < read.len {
         return Err(AssembleError::OutputTooLong);
     }
-    let known = Known {
-        text: contract,
-        table: &checked.table,
-        values: &checked.values,
-        count: returned.count,
-    };
+    let count = returned.count;
     let first = put_header(out, stem, expected);
-    let halt = emit(known, returned.expr, out, first);
+    let halt = emit(
+        contract,
+        checked.table,
+        checked.values,
+        count,
+        returned.expr,
+        out,
+        first,
+    );
     let written = put_bytes(out, halt, b"Halt\n");
     Ok(Assembly {
         written,

@@ -47,9 +47,9 @@ module _ {s : List ℕ} {start end : ℕ} (w : Within s start end) {first : Code
   met_first = record { is = ap (lines_met s end (met_of first) start) (all_lines s start end w) }
 
   module _ {at : ℕ} {a : Code.TableState} (m : Meeting s start end first at a) where
-    pub met_done : lines_from s end at ≡ [] → ReadsBody s start end first a (Ok tt)
+    pub met_done : lines_from s end at ≡ [] → ReadsBody s start end first (Ok a)
     unfolding lines_met
-    met_done e = record { is = λ g. sym (m.is ∙ ap (lines_met s end (met_of a) at) e) }
+    met_done e = record { is = sym (m.is ∙ ap (lines_met s end (met_of a) at) e) }
 
     pub met_next : {l : Line} {r : Code.TableState} {x : Result (Unit {0}) AssembleError} → line_at (take end s) at ≡ Some l → MeetsLine s l.text.start l.text.end a r x → x ≡ Ok tt → Meeting s start end first l.next r
     unfolding lines_met
@@ -60,8 +60,8 @@ module _ {s : List ℕ} {start end : ℕ} (w : Within s start end) {first : Code
           ∙ ap (λ (x : Met). lines_met s end x l.next (lines_from s end l.next)) (sym (f.is g ∙ ap (λ (k : ℕ). meeting s (met_of a) (statement_at s k l.text.end)) (step_line (take end s) at l e).starts));
     }
 
-pub met_off : {s : List ℕ} {start end : ℕ} {first r : Code.TableState} {x : Result (Unit {0}) AssembleError} {why : AssembleError} → x ≡ Err why → ReadsBody s start end first r x
-met_off b = record { is = λ g. cc }
+pub met_off : {s : List ℕ} {start end : ℕ} {first : Code.TableState} {x : Result Code.TableState AssembleError} {why : AssembleError} → x ≡ Err why → ReadsBody s start end first x
+met_off {s} {start} {end} {first} b = subst (ReadsBody s start end first) (sym b) (record { is = tt })
 
 -- one line
 module _ {s : List ℕ} {start end : ℕ} {a : Code.TableState} where

@@ -1,5 +1,6 @@
 -- Laws of the whole: the parameters, then the body, then the last return's value.
 use Rattle.std.specs.Prelude.{Option, Some, None, Result, Ok, Err}
+use Rattle.std.proofs.lemmas.Result.{IfOk-at_ok}
 use Prim.Native.Nat.{ℕ, ◌≤◌}
 use mathlib.Core.Path.{◌≡◌, refl, sym, ap, ap₂, subst, ◌∙◌}
 use mathlib.Core.List.{List}
@@ -42,7 +43,7 @@ use Rattle.body.proofs.LastReturn.{all_made, no_place}
 use Rattle.contract.specs.Assembled.{readable, body_read, compared, returned, function_read, places_of, assembled_tree}
 use Rattle.contract.specs.Code.Concluded.{BodyReached, Accepts, Concludes, concluded, judged_value, judged, Located}
 
-started_represents : (s : List ℕ) (a : Code.TableState) → a ≡ nothing_yet → Represents s a started
+pub started_represents : (s : List ℕ) (a : Code.TableState) → a ≡ nothing_yet → Represents s a started
 started_represents s a h = subst (λ (x : Code.TableState). Represents s x started) (sym h) (record {
   full = record { name_start = refl; name_len = refl; expr_start = refl; expr_len = refl; ks = refl; ps = refl; value = refl; none = refl; len = refl; tag = refl };
   holds = record { room = omega arith; told = tt };
@@ -116,10 +117,10 @@ module _ (s vector : List ℕ) (p : Places) (f : Located s p) where
         pub body_off : {why : AssembleError} → y ≡ Err why → body_read s vector p ≡ refused (assemble_error_numbered why)
         body_off q = by_leads body_led (λ st o r e. cc) (λ other o e. e ∙ ap (λ (w : AssembleError). refused (assemble_error_numbered w)) (same_refusal o q))
 
-        pub reached : ReadsBody s p.body.start p.body.end a r y → y ≡ Ok tt → (q : BodyReached s vector r) × (q.places ≡ p)
-        reached m q =
+        pub reached : {z : Result Code.TableState AssembleError} → ReadsBody s p.body.start p.body.end a z → z ≡ Ok r → y ≡ Ok tt → (q : BodyReached s vector r) × (q.places ≡ p)
+        reached m i q =
             by_leads body_led
-            (λ st o u e. (record { places = p; found = f.found; st = st; read = e; represents = u; place = ap (λ (m : Met). m.last) (m.is q ∙ ap (body_met s p.body.start p.body.end) met) }, refl))
+            (λ st o u e. (record { places = p; found = f.found; st = st; read = e; represents = u; place = ap (λ (m : Met). m.last) (IfOk-at_ok (λ (t : Code.TableState). met_of t ≡ body_met s p.body.start p.body.end (met_of a)) i m.is ∙ ap (body_met s p.body.start p.body.end) met) }, refl))
             (λ why o e. cc)
           where
             met : met_of a ≡ record { count = length (parameters (part s p.params.start p.params.end)); last = None }
@@ -199,7 +200,7 @@ module _ (s vector : List ℕ) where
     no_vector f = rw (e, f)
 
     module _ (f : readable vector ≡ true) where
-      both_readable : assembled_tree s vector ≡ and_then (places_of (function_of s)) (function_read s vector)
+      pub both_readable : assembled_tree s vector ≡ and_then (places_of (function_of s)) (function_read s vector)
       unfolding assembled_tree
       both_readable = rw (e, f)
 

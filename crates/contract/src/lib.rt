@@ -58,13 +58,12 @@ fn read_function(
         (function_read contract.now vector.now places) result }
 {
     let expected = number_for(vector, b"expected", 0)?;
-    let mut state = started();
-    bind_parameters(contract, vector, places.params, &mut state)?;
-    read_body(contract, places.body, &mut state)?;
-    let returned = judged(state.last, expected)?;
+    let bound = bind_parameters(contract, vector, places.params, started())?;
+    let read = read_body(contract, places.body, bound)?;
+    let returned = judged(read.last, expected)?;
     Ok(CheckedContract {
-        table: state.table,
-        values: state.values,
+        table: read.table,
+        values: read.values,
         returned,
         expected,
     })

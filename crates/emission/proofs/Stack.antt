@@ -65,6 +65,32 @@ popped_shut A p n h l = ap (popped p) (stack_pop A n h) ∙ popped_none p (get_o
 pub popped_more : (A : List ℕ) (p n : ℕ) → 0 < n → level_of (get_or A (n - 1) 0) ≤ p → popped p (stack_of A n) ≡ get_or A (n - 1) 0 ∷ popped p (stack_of A (n - 1))
 popped_more A p n h l = ap (popped p) (stack_pop A n h) ∙ popped_one p (get_or A (n - 1) 0) (stack_of A (n - 1)) l
 
+-- what is left is the stack of so many elements fewer
+pub record Pops (A : List ℕ) (p n : ℕ) : Type 0 where
+  pub few : length (popped p (stack_of A n)) ≤ n
+  pub left : stack_of A (n - length (popped p (stack_of A n))) ≡ left p (stack_of A n)
+
+pops_none : (A : List ℕ) (p : ℕ) → Pops A p zero
+unfolding stack_of popped left
+pops_none A p = record { few = omega arith; left = refl }
+
+pub pops : (A : List ℕ) (p n : ℕ) → Pops A p n
+unfolding stack_of
+pops A p zero = pops_none A p
+pops A p (suc n) = let s = pops A p n in by_leb (level_of (get_or A n 0)) p (λ h. one s h) none
+  where
+    one : Pops A p n → level_of (get_or A n 0) ≤ p → Pops A p (suc n)
+    one s h =
+        let e = ap length (popped_one p (get_or A n 0) (stack_of A n) h) in
+        let z : suc n - length (popped p (stack_of A (suc n))) ≡ n - length (popped p (stack_of A n)) = omega arith in
+        record { few = omega (arith, s.few); left = ap (stack_of A) z ∙ s.left ∙ sym (left_one p (get_or A n 0) (stack_of A n) h) }
+
+    none : p < level_of (get_or A n 0) → Pops A p (suc n)
+    none h =
+        let e = ap length (popped_none p (get_or A n 0) (stack_of A n) h) in
+        let z : suc n - length (popped p (stack_of A (suc n))) ≡ suc n = omega arith in
+        record { few = omega arith; left = ap (stack_of A) z ∙ sym (left_none p (get_or A n 0) (stack_of A n) h) }
+
 -- the text of operators
 
 pub text_num : (n : ℕ) → text_of (num n) ≡ push_text n

@@ -6,13 +6,15 @@ ghost use Rattle.std.specs.Prelude.{◌+◌, ◌-◌, ◌<◌, ◌≤◌, length
 ghost use Rattle.std.proofs.Math.Seq.{slice};
 ghost use Rattle.grammar.specs.Code.Texts.{text_of};
 ghost use Rattle.writer.specs.Code.Overwrites.{Overwrites};
-ghost use Rattle.emission.specs.Code.Emitted.{known_tree, binding_tree, KnownMeans, KnownStand, Keeps, Before};
+ghost use Rattle.bindings.specs.Code.Source.{sources};
+ghost use Rattle.emission.specs.Code.Emitted.{tree_between, MeansTree, known_tree, binding_tree, KnownMeans, KnownStand, Keeps, Before};
 
 mod operator;
 mod waiting;
 
 use base::{Span, copy};
 use bindings::names::Known;
+use bindings::{Bindings, Values};
 use expression::factors::{Factor, factor_at};
 use expression::parts::Level;
 use operator::operate;
@@ -20,13 +22,29 @@ use waiting::none_waiting;
 use writer::put_push;
 
 // Writes, at an offset of the output, the expression in a span of the text, where there is room for it, and returns the offset
-// behind it. Assembly calls it with the last return of a contract that it accepts, whose expressions were all parsed, and only where
-// the output's length, added up in parsing, fits (26).
-pub fn emit(known: Known, expr: Span, out: &mut [u8], at: usize) -> usize
-    requires means_tree { KnownMeans known expr }
-    requires end_in_bounds { at + length (text_of (known_tree known expr)) ≤ length out.old }
-    ensures { Overwrites out.old at (text_of (known_tree known.entry expr)) out.new result }
+// behind it. Its names mean the first count bindings. Assembly calls it with the last return of a contract that it accepts, whose
+// expressions were all parsed, and only where the output's length, added up in parsing, fits (26).
+pub fn emit(
+    text: &[u8],
+    table: Bindings,
+    values: Values,
+    count: usize,
+    expr: Span,
+    out: &mut [u8],
+    at: usize,
+) -> usize
+    requires means_tree { MeansTree text.now (sources table values) count expr.start expr.end }
+    requires end_in_bounds { at + length (text_of (tree_between text.now (sources table values) count expr.start expr.end))
+        ≤ length out.old }
+    ensures { Overwrites out.old at (text_of (tree_between text.now (sources table values) count expr.start expr.end))
+        out.new result }
 {
+    let known = Known {
+        text,
+        table: &table,
+        values: &values,
+        count,
+    };
     // Where what a binding wrote stands in the output, for each that there may be: memory is fixed.
     let mut pieces = [None; 256];
     expression(known, expr, out, at, &mut pieces)

@@ -36,7 +36,7 @@ use Rattle.grammar.proofs.Steps.{ended, too_deep, opened_refused, unclosed, clos
 use Rattle.bindings.proofs.Lookup.{Looked, looked}
 use Rattle.expression.proofs.Atoms.{closed_is, closed_other}
 
-none_meets : (s : List ℕ) (at : ℕ) (c : Columns) (d : ℕ) → tokens (drop at s) ≡ [] → ParsesAs s at c factor d (Err UnexpectedEnd)
+pub none_meets : (s : List ℕ) (at : ℕ) (c : Columns) (d : ℕ) → tokens (drop at s) ≡ [] → ParsesAs s at c factor d (Err UnexpectedEnd)
 none_meets s at c d e = record { fine = tt; means = λ env h. rw e (ended env d) }
 
 -- figures with the sign behind them
@@ -49,7 +49,7 @@ bound_figures : (s : List ℕ) (e : Entry) (end : ℕ) (b : Binding) → RowFor 
 bound_figures s e end b t = record { k = t.k; p = t.p; value = t.value; len = t.len; short = t.short }
 
 module _ {s : List ℕ} {at : ℕ} (c : Columns) {start end : ℕ} (n : Next s at start end) where
-  deep_meets : {room : ℕ} → room ≡ 0 → symbol (token_from s start) ≡ 40 → ParsesAs s at c factor room (Err TooDeep)
+  pub deep_meets : {room : ℕ} → room ≡ 0 → symbol (token_from s start) ≡ 40 → ParsesAs s at c factor room (Err TooDeep)
   deep_meets q o = subst (λ (r : ℕ). ParsesAs s at c factor r (Err TooDeep)) (sym q) (record { fine = tt; means = λ env h. rw n.list (too_deep env (token_from s start) (tokens (drop end s)) o) })
 
   module _ {d : ℕ} (o : symbol (token_from s start) ≡ 40) where
@@ -118,15 +118,15 @@ module _ {s : List ℕ} {at : ℕ} (c : Columns) {start end : ℕ} (n : Next s a
             (λ q. subst (λ (r : Result Figures ExprError). ParsesAs s at c factor (suc d) (followed_by s r)) (closed_other v t.end a.list q) (inner_other m a q)))
 
   module _ {room d : ℕ} (q : room ≡ suc d) (o : symbol (token_from s start) ≡ 40) where
-    inner_refused : {e : ExprError} → ParsesAs s end c expression d (Err e) → ParsesAs s at c factor room (Err e)
+    pub inner_refused : {e : ExprError} → ParsesAs s end c expression d (Err e) → ParsesAs s at c factor room (Err e)
     inner_refused {e} m = subst (λ (r : ℕ). ParsesAs s at c factor r (Err e)) (sym q) (opened o m)
 
-    inner_closed : {u : Operand} → ParsesAs s end c expression d (Ok u) → ParsesAs s at c factor room (followed_by s (closed_read (tokens (drop u.figures.next s)) (end_at s u.figures.next) u.figures))
+    pub inner_closed : {u : Operand} → ParsesAs s end c expression d (Ok u) → ParsesAs s at c factor room (followed_by s (closed_read (tokens (drop u.figures.next s)) (end_at s u.figures.next) u.figures))
     inner_closed {u} m = subst (λ (r : ℕ). ParsesAs s at c factor r (followed_by s (closed_read (tokens (drop u.figures.next s)) (end_at s u.figures.next) u.figures))) (sym q) (closed o m)
 
   -- a token that opens no parenthesis
   module _ (d : ℕ) (o : symbol (token_from s start) ≡ 40 → ⊥) where
-    literal_meets : all digit (token_from s start) ≡ true → (v : ℕ) → value (token_from s start) ≡ v → v < 2 ^ 64 → ParsesAs s at c factor d (followed_by s (Ok (of_number v end)))
+    pub literal_meets : all digit (token_from s start) ≡ true → (v : ℕ) → value (token_from s start) ≡ v → v < 2 ^ 64 → ParsesAs s at c factor d (followed_by s (Ok (of_number v end)))
     literal_meets e v q h =
         let l = length_word v h in
         record {
@@ -157,7 +157,7 @@ module _ {s : List ℕ} {at : ℕ} (c : Columns) {start end : ℕ} (n : Next s a
       found_looked : (env : Env) → TableFor s c env → {f : Option ℕ} → found c.count s c.names c.lens c.tags (token_from s start) ≡ f → Looked s c env (token_from s start) f
       found_looked env h q = subst (Looked s c env (token_from s start)) q (looked s c c.count env (token_from s start) h.told)
 
-      name_meets : (i : ℕ) → found c.count s c.names c.lens c.tags (token_from s start) ≡ Some i → Fits (bound_read (entry_at c i) end) → ParsesAs s at c factor d (followed_by s (Ok (bound_read (entry_at c i) end)))
+      pub name_meets : (i : ℕ) → found c.count s c.names c.lens c.tags (token_from s start) ≡ Some i → Fits (bound_read (entry_at c i) end) → ParsesAs s at c factor d (followed_by s (Ok (bound_read (entry_at c i) end)))
       name_meets i q a = record {
         fine = (
           record {

@@ -1,6 +1,7 @@
 // Signs of an expression: a token of one byte or ==, and the levels of the operators among them.
 // Offsets stay beside the slice, since the contracts speak of places in the whole text.
 ghost use Rattle.std.specs.Prelude.{◌≡◌};
+ghost use Rattle.grammar.specs.Parse.{symbol};
 ghost use Rattle.expression.specs.Code.Parts.{sign_of, sign_at, level_of};
 
 use token::token_at;
@@ -53,6 +54,18 @@ pub fn sign_of(token: &[u8]) -> Option<Sign>
         [b'<'] => Some(Sign::Operator(Operator::Less)),
         [b'=', b'='] => Some(Sign::Operator(Operator::Equal)),
         _ => None,
+    }
+}
+
+// The byte of a token of one byte, that of = for == and for no other, else 0.
+pub fn symbol_byte(token: &[u8]) -> u8
+    ensures { result ≡ symbol token.now }
+{
+    match token {
+        [b'='] => 0,
+        [byte] => *byte,
+        [b'=', b'='] => b'=',
+        _ => 0,
     }
 }
 

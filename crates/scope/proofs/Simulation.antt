@@ -22,7 +22,7 @@ use Rattle.numbered.specs.declared.Numbered.{Numbered}
 use Rattle.base.specs.Outcome.{Outcome, is, refused}
 use Rattle.scope.specs.Numbers.{assemble_error_numbered}
 use Rattle.scope.specs.Code.Stored.{More, Binds}
-use Rattle.scope.specs.Code.Held.{LastIs, Represents, SimulatesBy, Simulates}
+use Rattle.scope.specs.Code.Held.{LastIs, Represents, SimulatesBy, Simulates, SimulatesStep, SimulatesTo}
 use Rattle.scope.proofs.Stored.{full_more, row_more}
 use Rattle.scope.proofs.Tables.{holds_length, holds_later, holds_more}
 use Rattle.scope.proofs.Sources.{env_later, stand_later, last_later, Gives, env_more, stand_more, last_more}
@@ -43,6 +43,14 @@ module _ {s : List ℕ} {a : Code.TableState} {x : Result (Unit {0}) AssembleErr
       go : (y : Result (Unit {0}) AssembleError) → x ≡ y → SimulatesBy y s a whole rest → P
       go (Ok u) o h = on h.0 o h.1.0 h.1.1
       go (Err why) o h = off why o h
+
+-- a step, by its answer
+module _ {s t : List ℕ} {a : Code.TableState} {f : Scope → Outcome Numbered Scope} {x : Result Code.TableState AssembleError} (g : SimulatesTo s a f t x) where
+  pub simulates_ok : {r : Code.TableState} → x ≡ Ok r → SimulatesStep s a f t r (Ok tt)
+  simulates_ok e = subst (SimulatesTo s a f t) e g
+
+  pub simulates_err : {why : AssembleError} → x ≡ Err why → SimulatesStep s a f t a (Err why)
+  simulates_err e = subst (SimulatesTo s a f t) e g
 
 module _ (s : List ℕ) (i e : ℕ) (h : i ≤ e) (k : e ≤ length s) where
   pub represents_later : {a : Code.TableState} {st : Scope} → Represents (take i s) a st → Represents (take e s) a st

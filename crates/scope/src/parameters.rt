@@ -5,7 +5,7 @@ ghost use Rattle.source.specs.Parameters.{parameters};
 ghost use Rattle.scope.specs.Part.{part};
 ghost use Rattle.scope.specs.Parameters.{keyed, parameter_bound};
 ghost use Rattle.scope.specs.Scope.{each};
-ghost use Rattle.scope.specs.Code.Held.{SimulatesStep, Within, keyed_as};
+ghost use Rattle.scope.specs.Code.Held.{SimulatesTo, Within, keyed_as};
 
 use crate::refusal::AssembleError;
 use crate::state::TableState;
@@ -20,13 +20,14 @@ pub fn bind_parameters(
     contract: &[u8],
     vector: &[u8],
     params: Span,
-    state: &mut TableState,
-) -> Result<(), AssembleError>
+    state: TableState,
+) -> Result<TableState, AssembleError>
     requires { Within contract.now params.start params.end }
-    ensures { SimulatesStep (take params.start contract.now) state.old
+    ensures { SimulatesTo (take params.start contract.now) state
         (λ st. each (parameter_bound vector.now) 1 st (parameters (part contract.now params.start params.end)))
-        (take params.end contract.now) state.new result }
+        (take params.end contract.now) result }
 {
+    let mut state = state;
     let names = Parameters {
         text: &contract[..params.end],
         at: params.start,
@@ -39,7 +40,7 @@ pub fn bind_parameters(
         };
         state.bind(contract, name, expr, Figures::of_number(number, 0))?;
     }
-    Ok(())
+    Ok(state)
 }
 
 // The number that the vector has for a key with a place.

@@ -23,7 +23,7 @@ loop-number-init c =
       can = (tt, tt);
       finite = tt;
       text = refl;
-      lines = turn_first s line_read (lines_from s a.body.end) (lines (part s a.body.start a.body.end)) a.body.start a.body.end a.state.now c.requires.0 (all_lines s a.body.start a.body.end c.requires.0);
+      lines = turn_first s line_read (lines_from s a.body.end) (lines (part s a.body.start a.body.end)) a.body.start a.body.end a.state c.requires.0 (all_lines s a.body.start a.body.end c.requires.0);
       met = met_first c.requires.0;
     }))
 
@@ -60,7 +60,7 @@ returns-in_err-read_line c =
     let e = line_given a.contract.now a.body.end at i.text s.1.0 in
     let t = rw (sym s.0.0) at i.lines in
     let p = err_from_is_err_and c.from_residual.result c.from_residual.ensures.1 in
-    rw (p.1, p.2) (turn_off c.requires.0 t (line_item a.contract.now a.body.start a.body.end c.requires.0 at _ e) c.read_line.ensures.0 c.in_err-read_line.was, met_off refl)
+    rw (p.1, p.2) (turn_off c.requires.0 t (line_item a.contract.now a.body.start a.body.end c.requires.0 at _ e) c.read_line.ensures.0 c.in_err-read_line.was {left = a.state}, met_off refl)
 
 -- the numbers do not end first, as each line has a byte
 pub returns : goal.returns

@@ -2,7 +2,7 @@
 use Rattle.figures.specs.declared.Figures.{Figures}
 use Rattle.scope.specs.declared.refusal.AssembleError.{AssembleError}
 use Rattle.scope.specs.declared.state.Returned.{Returned}
-use Rattle.std.specs.Prelude.{ℕ, ◌+◌, ◌≡◌, List, [], ◌∷◌, Option, Some, None, Result, Ok, Err, length, take}
+use Rattle.std.specs.Prelude.{ℕ, ◌+◌, ◌≡◌, List, [], ◌∷◌, Option, Some, None, Result, Ok, Err, IfOk, length, take}
 use Rattle.lines.specs.Lines.{lines}
 use Rattle.lines.specs.Cursor.{line_from}
 use Rattle.source.specs.declared.function.Places.{Places}
@@ -60,9 +60,9 @@ ReadToLast s (Err why) = Unit {0}
 pub record MeetsLine (s : List ℕ) (start end : ℕ) (a r : TableState) (x : Result (Unit {0}) AssembleError) : Type 0 where
   pub is : x ≡ Ok tt → met_of r ≡ meeting s (met_of a) (statement_at s start end)
 
--- r is what the body makes of a, unless the answer x refuses
-pub record ReadsBody (s : List ℕ) (start end : ℕ) (a r : TableState) (x : Result (Unit {0}) AssembleError) : Type 0 where
-  pub is : x ≡ Ok tt → met_of r ≡ body_met s start end (met_of a)
+-- the answer x is what the body makes of a, unless it refuses
+pub record ReadsBody (s : List ℕ) (start end : ℕ) (a : TableState) (x : Result TableState AssembleError) : Type 0 where
+  pub is : IfOk x (λ r. met_of r ≡ body_met s start end (met_of a))
 
 -- the last return stands where the contract's does, unless the answer x refuses
 pub record Standing (s : List ℕ) (p : Places) (a : TableState) (x : Result (Unit {0}) AssembleError) : Type 0 where

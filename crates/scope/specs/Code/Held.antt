@@ -56,6 +56,11 @@ pub record Simulates (s : List ℕ) (a : Code.TableState) (x : Result (Unit {0})
 pub record SimulatesStep (s : List ℕ) (a : Code.TableState) (f : Scope → Outcome Numbered Scope) (t : List ℕ) (r : Code.TableState) (x : Result (Unit {0}) AssembleError) : Type 0 where
   pub leads : (st : Scope) → Represents s a st → Simulates t r x (f st) is
 
+-- one step of the simulation whose answer has the state: it represents what f makes of a, or the answer refuses as f does
+abbrev pub SimulatesTo : List ℕ → Code.TableState → (Scope → Outcome Numbered Scope) → List ℕ → Result Code.TableState AssembleError → Type 0
+SimulatesTo s a f t (Ok r) = SimulatesStep s a f t r (Ok tt)
+SimulatesTo s a f t (Err why) = SimulatesStep s a f t a (Err why)
+
 -- a part of a contract, whose offsets fit the table
 pub record Within (s : List ℕ) (start end : ℕ) : Type 0 where
   pub short : length s ≤ 65536

@@ -9,7 +9,7 @@ use Rattle.assembler.proofs.output.write_output.Goals.{then-room-frame-via-then-
 pub overflow_add-frame : goal.overflow_add-frame
 overflow_add-frame c =
     let a = c.args in
-    omega (arith, c.header_len-frame.ensures, header-length a.stem.now a.checked.now.expected, length_word a.checked.now.expected (omega arith), c.requires.short)
+    omega (arith, c.header_len-frame.ensures, header-length a.stem.now a.checked.expected, length_word a.checked.expected (omega arith), c.requires.short)
 
 pub returns-then-room-frame : goal.returns-then-room-frame
 returns-then-room-frame c =

@@ -21,7 +21,7 @@ loop-place-init c =
       can = (tt, tt);
       finite = tt;
       text = refl;
-      names = turn_first s (parameter_bound a.vector.now) (names_from s a.params.end) (parameters (part s a.params.start a.params.end)) a.params.start a.params.end a.state.now c.requires (all_names s a.params.start a.params.end c.requires);
+      names = turn_first s (parameter_bound a.vector.now) (names_from s a.params.end) (parameters (part s a.params.start a.params.end)) a.params.start a.params.end a.state c.requires (all_names s a.params.start a.params.end c.requires);
     }))
 
 pub slice_bounds-number_for-count : goal.slice_bounds-number_for-count
@@ -60,7 +60,7 @@ returns-in_err-number c =
     let w = name_within a.contract.now a.params.start a.params.end c.requires at _ e in
     let t = rw (sym c.in-Some.ensures.steps.0.0) at i.names in
     let p = err_from_is_err_and c.from_residual.result c.from_residual.ensures.1 in
-    rw (p.1, p.2) (turn_off c.requires t (name_item a.contract.now a.params.start a.params.end c.requires at _ e) (parameter_refused a.contract.now a.vector.now _ _ _ w _ _ c.number_for.ensures c.in_err-number.was {left = c.loop-place.state}) refl)
+    rw (p.1, p.2) (turn_off c.requires t (name_item a.contract.now a.params.start a.params.end c.requires at _ e) (parameter_refused a.contract.now a.vector.now _ _ _ w _ _ c.number_for.ensures c.in_err-number.was {left = c.args.state}) refl)
 
 pub bind-requires : goal.bind-requires
 bind-requires c =
