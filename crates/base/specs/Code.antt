@@ -1,3 +1,4 @@
 pub mod Skips
+pub mod Scan
 pub mod Cursor
 pub mod Stack

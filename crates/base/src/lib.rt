@@ -1,12 +1,14 @@
-// A range of bytes, a choice by a test, a byte that is not in a text, and a part of a text.
+// A range of bytes, a choice by a test, a byte that is not in a text, scans of offsets by a test, and a part of a text.
 #![tactic(auto)]
 
 ghost use Rattle.std.specs.Prelude.{◌≡◌, cond};
 ghost use Rattle.base.specs.Range.{within};
 ghost use Rattle.base.specs.Lists.{without};
 
+mod scans;
 mod span;
 
+pub use scans::{any_at, first_that};
 pub use span::Span;
 
 // The two tests are joined with no branch, so that loops over bytes compile to vector code.
