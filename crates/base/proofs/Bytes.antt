@@ -15,3 +15,6 @@ module _ (s : List ℕ) (at : ℕ) where
 
   pub at3 : at + 2 < length s → drop at s ≡ get_or s at 0 ∷ get_or s (at + 1) 0 ∷ get_or s (at + 2) 0 ∷ drop (at + 3) s
   at3 h = at2 (omega arith) ∙ ap (λ (t : List ℕ). get_or s at 0 ∷ get_or s (at + 1) 0 ∷ t) (drop_cons_at s (at + 2) (at + 3) h (omega arith))
+
+  pub at4 : at + 3 < length s → drop at s ≡ get_or s at 0 ∷ get_or s (at + 1) 0 ∷ get_or s (at + 2) 0 ∷ get_or s (at + 3) 0 ∷ drop (at + 4) s
+  at4 h = at3 (omega arith) ∙ ap (λ (t : List ℕ). get_or s at 0 ∷ get_or s (at + 1) 0 ∷ get_or s (at + 2) 0 ∷ t) (drop_cons_at s (at + 3) (at + 4) h (omega arith))

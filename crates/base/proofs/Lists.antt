@@ -109,6 +109,9 @@ module _ (test : ℕ → Bool) (past : test 0 ≡ false) (s : List ℕ) (i : ℕ
   pub end_more : test (get_or s i 0) ≡ true → end_from test s i ≡ end_from test s (i + 1)
   end_more e = omega (arith, ap length (take_while_more test s i (passes_inside e) e))
 
+pub end_none : (test : ℕ → Bool) (s : List ℕ) (i : ℕ) → test (get_or s i 0) ≡ false → end_from test s i ≡ i
+end_none test s i e = omega (arith, ap length (take_while_none test s i e))
+
 -- a fold by a test that is joined with those before it, in code with no branch
 pub fold_all : (test : ℕ → Bool) (b : Bool) (s : List ℕ) → fold (λ p a. p && test a) b s ≡ (b && all test s)
 fold_all test b [] = sym (and-true b)

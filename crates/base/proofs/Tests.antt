@@ -1,6 +1,6 @@
 -- What a test says, and tests that are joined.
 use Prim.Native.Nat.{ℕ, ◌<◌, ◌≤◌}
-use mathlib.Core.Path.{◌≡◌, refl, sym}
+use mathlib.Core.Path.{◌≡◌, refl, sym, ◌∙◌}
 use mathlib.Core.Bool.{Bool, true, false, cond, ◌&&◌, ◌||◌, and-false, or-true}
 use borrow.Author.Tests.{le-leb, lt-leb, leb-true, leb-false, eqb-true, eqb-false}
 use native.Mathlib.Omega.{arith}
@@ -20,6 +20,10 @@ and_right false q e = false_true e
 
 pub and_both : (p q : Bool) → p ≡ true → q ≡ true → (p && q) ≡ true
 and_both p q e f = rw e f
+
+pub and_false_left : (p q : Bool) → (p && q) ≡ false → q ≡ true → p ≡ false
+and_false_left true q e h = sym h ∙ e
+and_false_left false q e h = refl
 
 pub or_left : (p q : Bool) → (p || q) ≡ false → p ≡ false
 or_left true q e = e

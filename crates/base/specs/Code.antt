@@ -1,4 +1,5 @@
 pub mod Skips
+pub mod Scan
 pub mod Cursor
 pub mod Stack
 pub mod Without

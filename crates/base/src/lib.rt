@@ -1,4 +1,4 @@
-// A range of bytes, a choice by a test, a byte that is not in a text, a part of a text, and copying.
+// A range of bytes, a choice by a test, a byte that is not in a text, scans of offsets by a test, a part of a text, and copying.
 #![tactic(auto)]
 
 ghost use Rattle.std.specs.Prelude.{◌≡◌, cond};
@@ -6,9 +6,11 @@ ghost use Rattle.base.specs.Range.{within};
 ghost use Rattle.base.specs.Code.Without.{without};
 
 mod copies;
+mod scans;
 mod span;
 
 pub use copies::copy;
+pub use scans::{any_at, first_that};
 pub use span::Span;
 
 // The two tests are joined with no branch, so that loops over bytes compile to vector code.

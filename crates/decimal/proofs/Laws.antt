@@ -72,6 +72,18 @@ length_one n h = ap length (decimal_one n h)
 pub length_more : (n : ℕ) → 10 ≤ n → length (decimal n) ≡ length (decimal (n / 10)) + 1
 length_more n h = ap length (decimal_more n h) ∙ length-append (decimal (n / 10)) ((48 + n % 10) ∷ [])
 
+pub length_four_more : (n : ℕ) → 10000 ≤ n → length (decimal n) ≡ length (decimal (n / 10000)) + 4
+length_four_more n h =
+    let e : n / 10 / 10 / 10 / 10 ≡ n / 10000 = omega arith in
+    omega (
+      arith,
+      length_more n (omega arith),
+      length_more (n / 10) (omega arith),
+      length_more (n / 10 / 10) (omega arith),
+      length_more (n / 10 / 10 / 10) (omega arith),
+      ap (λ (m : ℕ). length (decimal m)) e,
+    )
+
 pub length_positive : (n : ℕ) → 0 < length (decimal n)
 length_positive n = by_leb 10 n (λ h. omega (arith, length_more n h)) (λ h. omega (arith, length_one n h))
 

@@ -14,6 +14,7 @@ use Rattle.base.specs.Lists.{all, take_while}
 use Rattle.base.proofs.Tests.{by_bool, and_left, and_right, between}
 use Rattle.base.proofs.Parts.{drop_cons_at}
 use lib.Dec.{eqb}
+use Rattle.base.proofs.Lists as lists
 use Rattle.base.proofs.Lists.{length-take_while, take_while_more, take_while_none, end_from, passes_inside, end_more}
 use Rattle.decimal.specs.Decimal.{digit, value_from, value}
 use Rattle.decimal.specs.Code.Digits.{capped, digits_at}
@@ -45,7 +46,7 @@ pub value_none : (s : List ℕ) (i : ℕ) → digit (get_or s i 0) ≡ false →
 value_none s i e acc = ap (value_from acc) (take_while_none digit s i e)
 
 pub end_none : (s : List ℕ) (i : ℕ) → digit (get_or s i 0) ≡ false → end_from digit s i ≡ i
-end_none s i e = let z = ap length (take_while_none digit s i e) in omega arith
+end_none = lists.end_none digit
 
 -- zeros are passed
 pub no_zeros : (s : List ℕ) (at end : ℕ) → end ≡ at → ZerosTo s at end

@@ -62,7 +62,8 @@ pub fn from_str(s: &[u8]) -> Option<u64>
 {
     let digits = s.strip_prefix(b"+").unwrap_or(s);
     let run = digits_at(digits, 0);
-    if run.len == 0 || run.len < digits.len() {
+    let none = run.len == 0;
+    if none || run.len < digits.len() {
         return None;
     }
     run.value

@@ -14,13 +14,13 @@ use Rattle.std.proofs.lemmas.List.Sums.{prefix_len_passes}
 use Rattle.std.proofs.lemmas.Slice.Eq.{bytes_eq-Decides}
 use Rattle.base.proofs.Parts.{length_part}
 use Rattle.search.proofs.Blocks.{chunk_at}
-use Rattle.base.proofs.Tests.{by_bool, by_leb}
+use Rattle.base.proofs.Tests.{by_bool, by_leb, by_eqb}
 use Rattle.search.specs.First.{prefix_of, first_at}
 use Rattle.search.proofs.Prefix.{same_at}
 use Rattle.search.proofs.Laws.{hit, miss}
 use Rattle.key.specs.Key.{quoted}
 use Rattle.key.specs.Code.Marked.{Quotes, of_quotes}
-use Rattle.key.proofs.Quoted.{quoted-length, byte_here}
+use Rattle.key.proofs.Quoted.{quoted-length, key_byte, closing_quote, byte_here}
 
 -- the last n blocks of a part
 pub last_blocks : (s : List ℕ) (from end n : ℕ) → from ≤ end → end ≤ length s
@@ -44,6 +44,15 @@ last_blocks s from end n h g t e xs x l q m k a b =
 -- quotes up to others
 pub joined : (s : List ℕ) (from mid end : ℕ) → Quotes s from mid → Quotes s mid end → Quotes s from end
 joined s from mid end p q k l g = by_leb mid k (λ h. q k h g) (λ h. p k l h)
+
+-- a key of quotes alone has them between two more
+pub quotes_around : (key : List ℕ) → Quotes key 0 (length key) → Quotes (quoted key) 0 (length key + 2)
+quotes_around key q k l g =
+    by_eqb k 0
+    (λ e. ap (λ (n : ℕ). get_or (quoted key) n 0) e)
+    (λ p. by_leb k (length key)
+    (λ h. key_byte key k (omega arith) h ∙ q (k - 1) (omega arith) (omega arith))
+    (λ h. let e : k ≡ length key + 1 = omega arith in ap (λ (n : ℕ). get_or (quoted key) n 0) e ∙ closing_quote key))
 
 -- a part of quotes alone
 pub of_part : (s : List ℕ) (from mid : ℕ) → from ≤ mid → mid ≤ length s → ((k : ℕ) → k < length (take (mid - from) (drop from s)) → get_or (take (mid - from) (drop from s)) k 0 ≡ 0x22) → Quotes s from mid

@@ -10,7 +10,7 @@ ghost use Rattle.search.specs.First.{prefix_of, first_at};
 ghost use Rattle.key.specs.Key.{quoted};
 ghost use Rattle.key.specs.Code.Marked.{Quotes, Marks, FirstBefore, Other, Holds, of_quotes};
 
-use search::{any_at, first_that};
+use base::{any_at, first_that};
 
 // How many offsets a block has.
 const BLOCK: usize = 16;

@@ -74,9 +74,6 @@ fn before_return(s: &[u8], at: usize, feed: usize) -> usize
     requires { (at ≤ feed) × ((feed < length s.now) × (feed ≡ feed_from s.now at)) }
     ensures { result ≡ at + length (first_line (drop at s.now)) }
 {
-    if at < feed && s[feed - 1] == b'\r' {
-        feed - 1
-    } else {
-        feed
-    }
+    let returned = at < feed && s[feed - 1] == b'\r';
+    if returned { feed - 1 } else { feed }
 }

@@ -6,7 +6,8 @@ use mathlib.Core.Bool.{Bool, true, false, cond, ◌&&◌, and-true, and-false}
 use borrow.Author.Tests.{eq-eqb, ne_eqb}
 use native.Mathlib.Omega.{arith}
 use lib.Dec.{eqb}
-use lib.ListN.{length, get_or, take, length-append}
+use lib.ListN.{length, get_or, take, drop, length-append}
+use lib.Seq.{drop-drop}
 use Rattle.base.proofs.Tests.{by_eqb, by_bool}
 use Rattle.search.specs.First.{prefix_of}
 use Rattle.search.proofs.Prefix.{same, other, fits}
@@ -28,6 +29,18 @@ agreed (a ∷ w) (x ∷ s) b h = agreed w s (b && eqb x a) (omega arith) ∙ ste
         by_eqb x a
         (λ e. rw (eq-eqb x a e, same a x w s (sym e), and-true b) refl)
         (λ n. rw (ne_eqb x a n, other a x w s (λ e. n (sym e)), and-false b) refl)
+
+prefix_append : (p q s : List ℕ) → prefix_of (p ++ q) s ≡ (prefix_of p s && prefix_of q (drop (length p) s))
+prefix_append [] q s = refl
+prefix_append (a ∷ p) q [] = refl
+prefix_append (a ∷ p) q (b ∷ s) =
+    by_eqb a b
+    (λ e. same a b (p ++ q) s e ∙ prefix_append p q s ∙ ap (λ (x : Bool). x && prefix_of q (drop (length p) s)) (sym (same a b p s e)))
+    (λ n. other a b (p ++ q) s n ∙ ap (λ (x : Bool). x && prefix_of q (drop (length p) s)) (sym (other a b p s n)))
+
+-- two parts of a word, one right behind the other
+pub joined : (p q t : List ℕ) (i : ℕ) → prefix_of (p ++ q) (drop i t) ≡ (prefix_of p (drop i t) && prefix_of q (drop (i + length p) t))
+joined p q t i = prefix_append p q (drop i t) ∙ ap (λ (s : List ℕ). prefix_of p (drop i t) && prefix_of q s) (drop-drop (length p) i t)
 
 -- a line is no operation's, or is parted at the word of a kind
 pub parted_at : {P : Type 0} (t : List ℕ) → (head_of t ≡ Unknown → P)

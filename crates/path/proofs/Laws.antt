@@ -89,6 +89,10 @@ tail_length s = ap length (take-length-drop s 1) ∙ length-drop 1 s
 tail_cons : (a : ℕ) (s : List ℕ) → tail (a ∷ s) ≡ s
 tail_cons a s = take-length-drop (a ∷ s) 1
 
+pub stem_whole : (s : List ℕ) → has 0x2E (tail s) ≡ false → stem_of s ≡ s
+stem_whole [] h = refl
+stem_whole (a ∷ s) h = ap (λ (u : List ℕ). a ∷ u) (before_none 0x2E s (sym (ap (has 0x2E) (tail_cons a s)) ∙ h))
+
 pub stem_cut : (s : List ℕ) (i : ℕ) → Last 0x2E (tail s) i → stem_of s ≡ take (i + 1) s
 stem_cut [] i l = let m = l.inside in absurd (omega (arith, tail_length []))
 stem_cut (a ∷ s) i l =

@@ -1,22 +1,23 @@
 -- Blocks of a list: those that a search passes, and the first place in one.
 use Rattle.std.specs.Prelude.{Some, None}
 use Prim.Native.Nat.{ℕ, zero, suc, ◌+◌, ◌-◌, ◌*◌, ◌/◌, ◌<◌, ◌≤◌}
-use mathlib.Core.Path.{◌≡◌, refl, sym, ap, ◌∙◌}
+use mathlib.Core.Path.{◌≡◌, sym, ap, ◌∙◌}
 use mathlib.Core.List.{List, [], ◌∷◌}
-use mathlib.Core.Bool.{Bool, true, false, not, ◌&&◌, ◌||◌, and-true}
+use mathlib.Core.Bool.{true, false}
 use borrow.Author.Tests.{eq-eqb, eqb-true}
 use native.Mathlib.Omega.{arith}
 use lib.Dec.{eqb}
 use lib.ListN.{length, get_or, take, drop, length-drop}
 use lib.Seq.{drop-drop, length-take-le}
-use Rattle.std.specs.List.{fold, list_any, prefix_len}
+use Rattle.std.specs.List.{list_any, prefix_len}
 use Rattle.std.specs.Simd.{first_chunks}
 use Rattle.std.proofs.lemmas.List.Folds.{list_any_at}
 use Rattle.base.specs.Code.Skips.{Skips}
 use Rattle.base.proofs.Tests.{by_bool, false_true}
 use Rattle.search.specs.First.{first_at}
 use Rattle.base.specs.Code.Without.{without}
-use Rattle.search.specs.Code.Scan.{FirstThat, is_at}
+use Rattle.base.specs.Code.Scan.{FirstThat}
+use Rattle.search.specs.Code.Scan.{is_at}
 use Rattle.search.proofs.Laws.{passed, found_at}
 
 -- the block of n bytes at a place

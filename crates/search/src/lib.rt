@@ -3,14 +3,15 @@
 // Offsets stay beside the slice, since the contracts speak of places in the whole text.
 #![tactic(auto)]
 
-ghost use Rattle.std.specs.Prelude.{◌≡◌, [], ◌∷◌, true, false, ◌+◌, ◌<◌, ◌≤◌, ◌^◌, ℕ, length, drop};
+ghost use Rattle.std.specs.Prelude.{◌≡◌, [], ◌∷◌, true, ◌+◌, ◌≤◌, length, drop};
 ghost use Rattle.std.specs.Option.{option_or};
 ghost use Rattle.std.specs.List.{prefix_len};
 ghost use Rattle.search.specs.First.{prefix_of, first_at};
 ghost use Rattle.base.specs.Code.Without.{without};
-ghost use Rattle.search.specs.Code.Scan.{RoomAtEach, FirstThat, is_at};
+ghost use Rattle.base.specs.Code.Scan.{FirstThat};
+ghost use Rattle.search.specs.Code.Scan.{RoomAtEach, is_at};
 
-use base::{lacks, pick};
+use base::{any_at, first_that, lacks, pick};
 
 // How many offsets a block has.
 const BLOCK: usize = 16;
@@ -125,21 +126,6 @@ fn find_string(s: &[u8], p: &[u8], at: usize) -> Option<usize>
     string_before(s, p, at + BLOCK * blocks, stop)
 }
 
-// Whether a test says yes at one of the n offsets starting at an offset. It has no branch. Counted from 0, since a block's n is a constant:
-// a loop over `at..at + n` took 1.1 to 1.6 times the time. A fold's proof has to follow what the closure asks at each turn.
-pub fn any_at<F: Fn(usize) -> bool>(at: usize, n: usize, test: F) -> bool
-    requires fits { at + n < 2 ^ 64 }
-    requires test { (i : ℕ) → at ≤ i → i < at + n → F.pre test i }
-    ensures some { result ≡ true → (i : ℕ) × (at ≤ i) × (i < at + n) × F.post test i true }
-    ensures none { result ≡ false → (i : ℕ) → at ≤ i → i < at + n → F.post test i false }
-{
-    let mut hit = false;
-    for k in 0..n {
-        hit |= test(at + k);
-    }
-    hit
-}
-
 // Whether the first, the middle and the last byte of p stand where they do if p stands at an offset.
 fn agrees(s: &[u8], p: &[u8], at: usize) -> bool
     requires { RoomAtEach p.now s.now at (at + 1) }
@@ -148,20 +134,6 @@ fn agrees(s: &[u8], p: &[u8], at: usize) -> bool
     let middle = p.len() / 2;
     let last = p.len() - 1;
     (s[at] == p[0]) & (s[at + last] == p[last]) & (s[at + middle] == p[middle])
-}
-
-// The first offset from an offset on and before end at which a test says yes. Its callers' tests have room at each of them. `find` over
-// the range was measured slower.
-pub fn first_that<F: Fn(usize) -> bool>(at: usize, end: usize, test: F) -> Option<usize>
-    requires { (i : ℕ) → at ≤ i → i < end → F.pre test i }
-    ensures { FirstThat (F.post test) at end result }
-{
-    for i in at..end {
-        if test(i) {
-            return Some(i);
-        }
-    }
-    None
 }
 
 // The first offset before end at which p stands.

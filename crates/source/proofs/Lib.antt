@@ -5,4 +5,6 @@ pub mod Trimmed
 pub mod Names
 pub mod Pieces
 pub mod Cursor
+pub mod Keys
+pub mod Numbers
 mod Examples

@@ -48,6 +48,10 @@ goes_no_space a b e =
     (λ p. part_bound b (and_right (name_start a) (name_part b) p)) in
     not_so (space b) (λ q. let x = space-bound b q in omega arith)
 
+-- no token goes on past the text's end, where a place reads 0
+pub goes_on_end : (a : ℕ) → goes_on a 0 ≡ false
+goes_on_end a = simp and-false
+
 pub goes_on_equals : (a : ℕ) → goes_on a 61 ≡ false
 goes_on_equals a = simp and-false
 

@@ -9,9 +9,9 @@ use lib.Dec.{eqb}
 use lib.ListN.{length, get_or, take, drop, length-drop, drop_of_length-le}
 use lib.Seq.{drop-drop, get_or-drop, append_snoc, length-take-le}
 use Rattle.base.specs.Lists.{take_while}
-use Rattle.base.proofs.Tests.{by_bool, by_leb, by_eqb, below, between}
+use Rattle.base.proofs.Tests.{or_left, or_right, by_bool, by_leb, by_eqb, below, between}
 use Rattle.base.proofs.Parts.{drop_cons_at}
-use Rattle.base.proofs.Lists.{take_while_same, length-take_while, take-take_while, take_while_last, take_while_stops}
+use Rattle.base.proofs.Lists.{take_while_same, length-take_while, take-take_while, take_while_last, take_while_stops, passes_inside}
 use Rattle.decimal.specs.Decimal.{digit}
 use Rattle.base.specs.declared.span.Span.{Span}
 use Rattle.std.specs.Prelude.{Some, None}
@@ -76,6 +76,13 @@ scan_token a s =
 pub rest_run : (a : ℕ) (s : List ℕ) → name_part a ≡ true → rest a s ≡ take_while (goes_on a) s
 rest_run a s e = let n = no_equals_lem a (part_allowed a e) in simp n
 
+pub rest_none : (a : ℕ) (s : List ℕ) → name_part a ≡ false → eqb a 61 ≡ false → rest a s ≡ []
+rest_none a s e n = simp n (none s)
+  where
+    none : (t : List ℕ) → take_while (goes_on a) t ≡ []
+    none [] = refl
+    none (b ∷ t) = let d = or_right (name_start a) (digit a) e in let m = or_left (name_start a) (digit a) e in simp (d, m)
+
 -- what a token has behind its first byte stands in the text, and ends with no space
 rest_laws : (a : ℕ) (s : List ℕ) → (length (rest a s) ≤ length s) × (take (length (rest a s)) s ≡ rest a s)
 rest_laws a s =
@@ -86,6 +93,16 @@ rest_laws a s =
     second_laws : (t : List ℕ) → (length (second t) ≤ length t) × (take (length (second t)) t ≡ second t)
     second_laws [] = (omega arith, refl)
     second_laws (b ∷ t) = by_bool (eqb b 61) (λ e. simp e (omega arith, refl)) (λ e. simp e (omega arith, refl))
+
+-- whether `==` goes on at an offset, past whose end a byte reads 0
+pub second_there : (s : List ℕ) (i : ℕ) → eqb (get_or s i 0) 61 ≡ true → length (second (drop i s)) ≡ 1
+second_there s i e = rw (drop_cons_at s i (i + 1) (passes_inside (λ (a : ℕ). eqb a 61) refl s i e) refl) (simp e)
+
+pub second-not : (s : List ℕ) (i : ℕ) → eqb (get_or s i 0) 61 ≡ false → length (second (drop i s)) ≡ 0
+second-not s i e =
+    by_leb (length s) i
+    (λ h. ap (λ (t : List ℕ). length (second t)) (drop_of_length-le s h))
+    (λ h. rw (drop_cons_at s i (i + 1) h refl) (simp e))
 
 rest_last : (a : ℕ) (s : List ℕ) (n : ℕ) → length (rest a s) ≡ suc n → space (get_or s n 0) ≡ false
 rest_last a s n h =

@@ -3,7 +3,7 @@ use Prim.Native.Nat.{ℕ, suc, ◌+◌, ◌<◌, ◌≤◌}
 use mathlib.Core.Path.{◌≡◌, refl, sym, ap, ◌∙◌}
 use mathlib.Core.List.{List, [], ◌∷◌, ◌++◌, append_assoc, reverse, reverse-cons, reverse-append}
 use mathlib.Core.Bool.{true, false, not}
-use borrow.Author.Tests.{eq-eqb}
+use borrow.Author.Tests.{eq-eqb, ne_eqb}
 use native.Mathlib.Omega.{arith}
 use lib.Dec.{eqb}
 use lib.ListN.{length, get_or, drop, length-append, length-drop}
@@ -119,7 +119,10 @@ blanks s at h =
     }
 
 -- by the bytes that a text starts with
-at_feed : (a : ℕ) → a ≡ 10 → blank1 a ≡ false
+pub blank_one : (a : ℕ) (t : List ℕ) → white1 a ≡ true → (a ≡ 10 → ⊥) → blanks_len (a ∷ t) ≡ suc (blanks_len t)
+blank_one a t e n = let b : blank1 a ≡ true = simp (e, ne_eqb a 10 n) in rw (b, blanks_len)
+
+pub at_feed : (a : ℕ) → a ≡ 10 → blank1 a ≡ false
 at_feed a e = rw e refl
 
 on : (a : ℕ) (t : List ℕ) → blank1 a ≡ false → blanks_len (a ∷ t) ≡ blanks1 a t

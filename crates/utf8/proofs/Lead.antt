@@ -81,8 +81,17 @@ four_at a (b ∷ c ∷ []) n h = absurd (omega arith)
 four_at a (b ∷ c ∷ d ∷ t) n h = four_is a b c d t h
 
 -- a text that ends within its first character
-pub four_short : (a : ℕ) (t : List ℕ) → length t < 3 → 0xEF < a → utf8 (a ∷ t) ≡ false
-four_short a [] n h = lead a [] (omega arith)
-four_short a (b ∷ []) n h = lead2 a b [] (omega arith)
-four_short a (b ∷ c ∷ []) n h = lead3 a b c [] h
-four_short a (b ∷ c ∷ d ∷ t) n h = absurd (omega arith)
+pub two_short : (a : ℕ) (t : List ℕ) → 0x7F < a → length t < 1 → utf8 (a ∷ t) ≡ false
+two_short a [] h n = lead a [] h
+two_short a (b ∷ t) h n = absurd (omega arith)
+
+pub three_short : (a : ℕ) (t : List ℕ) → 0xDF < a → length t < 2 → utf8 (a ∷ t) ≡ false
+three_short a [] h n = lead a [] (omega arith)
+three_short a (b ∷ []) h n = lead2 a b [] h
+three_short a (b ∷ c ∷ t) h n = absurd (omega arith)
+
+pub four_short : (a : ℕ) (t : List ℕ) → 0xEF < a → length t < 3 → utf8 (a ∷ t) ≡ false
+four_short a [] h n = lead a [] (omega arith)
+four_short a (b ∷ []) h n = lead2 a b [] (omega arith)
+four_short a (b ∷ c ∷ []) h n = lead3 a b c [] h
+four_short a (b ∷ c ∷ d ∷ t) h n = absurd (omega arith)

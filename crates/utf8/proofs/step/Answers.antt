@@ -25,4 +25,4 @@ returns-in-len3-up c =
 
 pub returns-in_default-3 : goal.returns-in_default-3
 returns-in_default-3 c =
-    let a = c.args in missed a.s.now _ a.at c.requires (take-length-drop a.s.now (a.at + 1)) (four_short _ _ c.in_default.len_below c.if-a-le239.false)
+    let a = c.args in missed a.s.now _ a.at c.requires (take-length-drop a.s.now (a.at + 1)) (four_short _ _ c.if-a-le239.false c.in_default.len_below)
