@@ -23,9 +23,8 @@ impl fmt::Display for Message {
                 }
                 writeln!(f, "assemble: {number}: {words}, key {place}")
             }
-            AssembleError::NoEquals(line)
-            | AssembleError::Expression(_, line)
-            | AssembleError::TooLong(line) => {
+            AssembleError::NoEquals(n) => writeln!(f, "assemble: {number}: {words}, line {n}"),
+            AssembleError::Expression(_, line) | AssembleError::TooLong(line) => {
                 writeln!(f, "assemble: {number}: {words}, line {line}")
             }
             _ => writeln!(f, "assemble: {number}: {words}"),

@@ -1,13 +1,13 @@
 -- A refusal is displayed as its message, by what it carries.
 -- Assumes nothing.
-use Rattle.std.proofs.Common.{arith, sym, ap, ◌∙◌, ℕ, ◌++◌}
+use Rattle.std.proofs.Common.{arith, refl, sym, ap, ◌∙◌, ℕ, ◌++◌, inl, inr}
 use Rattle.std.proofs.Output.{has_written_of_eq}
 use Rattle.std.specs.Fmt.{decimal as std_decimal}
 use Rattle.base.specs.Ascii.{ascii}
 use Rattle.assemble.specs.Message.{key_text}
 use Rattle.assemble.proofs.Messages.{carried, key_said, line_said, nothing_carried, message_said}
 use Rattle.assemble.proofs.message.MessageDisplay.fmt.Goals as goal
-use Rattle.assemble.proofs.message.MessageDisplay.fmt.Goals.{in-NoEquals, in-NoEquals-2, in-NoEquals-3}
+use Rattle.assemble.proofs.message.MessageDisplay.fmt.Goals.{in-Expression, in-Expression-2}
 
 pub returns-then-place-eq0-clause-writes : goal.returns-then-place-eq0-clause-writes
 returns-then-place-eq0-clause-writes g c = λ p q.
@@ -21,10 +21,15 @@ returns-else-place-eq0-clause-writes g c = λ p q.
 
 pub returns-in-NoEquals-clause-writes : goal.returns-in-NoEquals-clause-writes
 returns-in-NoEquals-clause-writes g c = λ p q.
-    let t = ascii ", line " ++ std_decimal c.in-NoEquals-1.line in
+    let t = line_said refl (omega arith) (inl c.in-NoEquals.is) in
+    has_written_of_eq _ _ _ _ _ (message_said c.args.self.now.0 c.numbered-number.result c.numbered-number.ensures (omega arith) c.words-words.ensures t) (c.writeln-in-NoEquals.ensures.writes p q)
+
+pub returns-in-Expression-clause-writes : goal.returns-in-Expression-clause-writes
+returns-in-Expression-clause-writes g c = λ p q.
+    let t = ascii ", line " ++ std_decimal c.in-Expression-1.line in
     has_written_of_eq _ _ _ _ _ (message_said c.args.self.now.0 c.numbered-number.result c.numbered-number.ensures (omega arith) {t = t} c.words-words.ensures
-    (elim c.in-NoEquals-1.branch [ in-NoEquals w ↦ line_said w.line-is (omega arith) w.in-NoEquals.is | in-NoEquals-2 w ↦ line_said w.line-is (omega arith) w.in-NoEquals.is | in-NoEquals-3 w ↦ line_said w.line-is (omega arith) w.in-NoEquals.is ]))
-    (c.writeln-in-NoEquals.ensures.writes p q)
+    (elim c.in-Expression-1.branch [ in-Expression w ↦ line_said w.line-is (omega arith) (inr w.in-Expression.is) | in-Expression-2 w ↦ line_said w.line-is (omega arith) (inr w.in-Expression.is) ]))
+    (c.writeln-in-Expression.ensures.writes p q)
 
 pub returns-in_default : goal.returns-in_default
 returns-in_default g c =
