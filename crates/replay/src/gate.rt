@@ -1,4 +1,5 @@
 // What the chain gate compares.
+use crate::parts;
 use context::{ChainContext, Gate};
 
 // Eight texts, with the byte FF between them; those that are not there are empty.
@@ -18,5 +19,5 @@ pub fn of_texts(texts: &[u8]) -> Gate<'_> {
 }
 
 fn part(texts: &[u8], i: usize) -> &[u8] {
-    texts.split(|b| *b == 0xFF).nth(i).unwrap_or(&[])
+    parts::nth(texts, 0xFF, i)
 }

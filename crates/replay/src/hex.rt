@@ -1,8 +1,7 @@
 // Bytes in hexadecimal, two digits each, in lower case; `-` is the empty text. The kit's crate `hex` refuses a text that isn't whole,
 // and here the digits in front count.
-ghost use Rattle.std.specs.Prelude.{◌<◌, IfSome};
+ghost use Rattle.std.specs.Prelude.{◌<◌, ◌≤◌, length, IfSome};
 
-use std::alloc::{AllocError, Global};
 use std::fmt;
 
 #[derive(Clone, Copy)]
@@ -20,16 +19,22 @@ impl fmt::Display for Hex<'_> {
     }
 }
 
-// The bytes that the digits in front write.
-pub fn decode(alloc: Global, digits: &[u8]) -> Result<Vec<u8>, AllocError> {
-    let mut bytes = Vec::new(alloc);
-    for pair in digits.chunks_exact(2) {
-        let (Some(high), Some(low)) = (digit(pair[0]), digit(pair[1])) else {
-            break;
-        };
-        bytes.push(high * 16 + low)?;
+// The bytes that the digits in front write, as many as the buffer holds. They are counted first: written at once, the count is an
+// invariant of the loop.
+pub fn decode<'a>(digits: &[u8], buffer: &'a mut [u8]) -> &'a [u8]
+    ensures { length result.now ≤ length buffer.old }
+{
+    let (pairs, _) = digits.as_chunks::<2>();
+    let len = pairs
+        .iter()
+        .take(buffer.len())
+        .take_while(|pair| digit(pair[0]).is_some() && digit(pair[1]).is_some())
+        .count();
+    let bytes = &mut buffer[..len];
+    for (byte, pair) in bytes.iter_mut().zip(pairs) {
+        *byte = value(pair[0]) * 16 + value(pair[1]);
     }
-    Ok(bytes)
+    bytes
 }
 
 fn digit(b: u8) -> Option<u8>
@@ -40,4 +45,10 @@ fn digit(b: u8) -> Option<u8>
         b'a'..=b'f' => Some(b - b'a' + 10),
         _ => None,
     }
+}
+
+fn value(b: u8) -> u8
+    ensures { result < 16 }
+{
+    digit(b).unwrap_or(0)
 }

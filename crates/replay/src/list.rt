@@ -32,16 +32,23 @@ impl<T: fmt::Display + PartialEq> fmt::Display for List<'_, T> {
 pub fn numbers(alloc: Global, text: &[u8]) -> Result<Vec<u64>, AllocError> {
     let mut numbers = Vec::new(alloc);
     for entry in text.split(|b| *b == b',') {
-        let mut parts = entry.split(|b| *b == b'*');
-        let first = parts.next().and_then(|part| decimal::from_str(part));
-        let (times, value) = match parts.next() {
-            Some(value) => (first.unwrap_or(0), number(value)),
-            None => (u64::from(first.is_some()), first.unwrap_or(0)),
+        let (times, value) = match decimal::from_str(entry) {
+            Some(value) => (1, value),
+            None => repeated(entry),
         };
         let len = numbers.len().saturating_add(times as usize);
         numbers.resize(len.min(LONGEST), value)?;
     }
     Ok(numbers)
+}
+
+// How many times an entry `n*v` has its value; none where there is no star.
+fn repeated(entry: &[u8]) -> (u64, u64) {
+    let mut parts = entry.split(|b| *b == b'*');
+    match (parts.next(), parts.next()) {
+        (Some(times), Some(value)) => (number(times), number(value)),
+        _ => (0, 0),
+    }
 }
 
 // The numbers of a list as bytes.

@@ -21,27 +21,71 @@ mod function;
 mod gate;
 mod hex;
 mod list;
+mod parts;
 mod reader;
 mod runs;
 mod text;
 
+ghost use Rattle.std.specs.Prelude.{◌≤◌, length, IfOk};
+ghost use Rattle.std.specs.Io.{ReadsAtMost};
+
 use call::Call;
 use case::Case;
-use std::io::{self, BufRead, BufReader};
+use std::io::{self, Read};
 
-// A last line that no line feed ends is no case.
+// A line that is longer with its line feed ends the run.
+const LONGEST: usize = 262144;
+
 fn main(rt: HostRuntime) -> io::Result<()> {
-    let mut input = BufReader::new(rt.alloc(), rt.reader())?;
-    let mut line = Vec::new(rt.alloc());
-    for _ in 0..u64::MAX {
-        line.clear();
-        input.read_until(b'\n', &mut line)?;
-        let Some(case) = line.strip_suffix(b"\n") else {
+    let mut buffer = [0; LONGEST];
+    replay_all(&rt, &mut rt.stdin(), &mut buffer)
+}
+
+// The buffer holds the start of a line that isn't whole yet; more is read behind it. A last line that no line feed ends is no case.
+fn replay_all(
+    rt: &(impl Print + AllocGlobal),
+    input: &mut impl Read,
+    buffer: &mut [u8],
+) -> io::Result<()> {
+    let mut held = 0;
+    for _ in 0..65536 {
+        let n = more(input, buffer, held)?;
+        let done = replay_lines(rt, &buffer[..n])?;
+        if done == 0 {
             break;
-        };
-        replay(&rt, Case(case))?;
+        }
+        buffer.copy_within(done..n, 0);
+        held = n - done;
     }
     Ok(())
+}
+
+// Reads behind what is held; how many bytes the buffer holds then.
+fn more(input: &mut impl Read, buffer: &mut [u8], held: usize) -> io::Result<usize>
+    requires { held ≤ length buffer.old }
+    ensures { ReadsAtMost result buffer.new }
+{
+    let mut done = held;
+    while done < buffer.len() {
+        let n = input.read(&mut buffer[done..])?;
+        if n == 0 {
+            break;
+        }
+        done += n;
+    }
+    Ok(done)
+}
+
+// Replays the whole lines of a text; how many bytes they are.
+fn replay_lines(rt: &(impl Print + AllocGlobal), text: &[u8]) -> io::Result<usize>
+    ensures { IfOk result (λ n. n ≤ length text.now) }
+{
+    let mut at = 0;
+    while let Some(end) = search::find_byte(text, b'\n', at) {
+        replay(rt, Case(&text[at..end]))?;
+        at = end + 1;
+    }
+    Ok(at)
 }
 
 // A letter that names no call gives an empty line.

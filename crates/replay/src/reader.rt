@@ -3,15 +3,17 @@ use crate::answer::Told;
 use crate::case::Case;
 use crate::hex::Hex;
 use crate::list::List;
+use crate::text;
 use numbered::Answer;
 use std::io;
 
-pub fn replay(rt: &(impl Print + AllocGlobal), case: Case) -> io::Result<()> {
-    let text = case.text(rt.alloc(), 4)?;
+pub fn replay(rt: &impl Print, case: Case) -> io::Result<()> {
+    let mut text = [0; text::LONGEST];
+    let text = case.text(4, &mut text);
     let mut kinds = [200u8; 18];
     let mut operands = [77u64; 18];
     let answer = ops::parse_ops(
-        &text,
+        text,
         &mut kinds[..case.length(2, 18)],
         &mut operands[..case.length(3, 18)],
     );
@@ -22,7 +24,7 @@ pub fn replay(rt: &(impl Print + AllocGlobal), case: Case) -> io::Result<()> {
         List(&operands)
     )?;
     for line in 0..4 {
-        print!(rt; " | {}", Hex(ops::trimmed_line(&text, line)))?;
+        print!(rt; " | {}", Hex(ops::trimmed_line(text, line)))?;
     }
     Ok(())
 }

@@ -2,8 +2,8 @@
 use crate::answer::Told;
 use crate::call::RunCall;
 use crate::case::Case;
-use crate::gate;
 use crate::list::List;
+use crate::{gate, text};
 use checks::VmError;
 use kinds::Program;
 use numbered::Answer;
@@ -21,14 +21,16 @@ pub fn verify(rt: &(impl Print + AllocGlobal), case: Case) -> io::Result<()> {
 }
 
 // What is written of the original is what it has after the call: the items and the used slots. Document 01 says it of all three buffers
-// whole.
+// whole. It is no part of its caller's code: there its arrays would be a part of every case's frame.
+#[inline(never)]
 pub fn run(rt: &(impl Print + AllocGlobal), call: RunCall, case: Case) -> io::Result<()> {
     let kinds = case.bytes(rt.alloc(), 2)?;
     let operands = case.numbers(rt.alloc(), 3)?;
     let mut stack = [9; 4100];
     let mut work = [9; 65540];
     let mut storage = case.numbers(rt.alloc(), 9)?;
-    let texts = case.text(rt.alloc(), 10)?;
+    let mut texts = [0; text::LONGEST];
+    let texts = case.text(10, &mut texts);
     let run = Run {
         program: Program {
             kinds: &kinds,
@@ -42,7 +44,7 @@ pub fn run(rt: &(impl Print + AllocGlobal), call: RunCall, case: Case) -> io::Re
     };
     let stack = &mut stack[..case.length(7, 4100)];
     let work = &mut work[..case.length(8, 65540)];
-    let answer = called(call, run, &texts, stack, work, &mut storage);
+    let answer = called(call, run, texts, stack, work, &mut storage);
     rt.print(Told(answer.numbered()))?;
     if case.is_of_document() {
         return print!(rt; " | {} | {} | {}", List(stack), List(&storage), List(work));

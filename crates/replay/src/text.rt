@@ -9,27 +9,28 @@ use numbered::Answer;
 use std::fmt::Display;
 use std::io;
 
-pub fn replay(rt: &(impl Print + AllocGlobal), call: TextCall, case: Case) -> io::Result<()> {
-    let a = case.text(rt.alloc(), 2)?;
-    let b = case.text(rt.alloc(), 3)?;
+// Longer texts are cut off here; the calls of the assembler take longer ones.
+pub const LONGEST: usize = 1024;
+
+pub fn replay(rt: &impl Print, call: TextCall, case: Case) -> io::Result<()> {
+    let mut text = [0; LONGEST];
+    let text = case.text(2, &mut text);
     match call {
-        TextCall::IsUtf8 => rt.print(u8::from(utf8::is_utf8(&a))),
-        TextCall::Trim => rt.print(Hex(trim::trim(&a))),
-        TextCall::TrimStart => rt.print(Hex(trim::trim_start(&a))),
-        TextCall::TrimEnd => rt.print(Hex(trim::trim_end(&a))),
-        TextCall::Lines => lines(rt, &a),
-        TextCall::FromStr => or_dash(rt, decimal::from_str(&a)),
-        TextCall::Rewritten => rewritten(rt, &a),
-        TextCall::Digits => digits(rt, &a),
-        TextCall::Find => or_dash(rt, search::find(&a, &b, 0)),
-        TextCall::FindByte => found_byte(rt, &a, &b),
+        TextCall::IsUtf8 => rt.print(u8::from(utf8::is_utf8(text))),
+        TextCall::Trim => rt.print(Hex(trim::trim(text))),
+        TextCall::TrimStart => rt.print(Hex(trim::trim_start(text))),
+        TextCall::TrimEnd => rt.print(Hex(trim::trim_end(text))),
+        TextCall::Lines => lines(rt, text),
+        TextCall::FromStr => or_dash(rt, decimal::from_str(text)),
+        TextCall::Rewritten => rewritten(rt, text),
+        TextCall::Digits => digits(rt, text),
+        TextCall::Find => found(rt, text, case),
+        TextCall::FindByte => found_byte(rt, text, case),
         TextCall::WrappingMul => rt.print(word::wrapping_mul(case.number(2), case.number(3))),
-        TextCall::FindFunction => function::print(rt, &a),
-        TextCall::JsonU64ForKey => {
-            rt.print(Told(source::vector::json_u64_for_key(&a, &b).numbered()))
-        }
+        TextCall::FindFunction => function::print(rt, text),
+        TextCall::JsonU64ForKey => json_u64_for_key(rt, text, case),
         TextCall::ExecutionGate => {
-            rt.print(Told(context::execution_gate(gate::of_texts(&a)).numbered()))
+            rt.print(Told(context::execution_gate(gate::of_texts(text)).numbered()))
         }
     }
 }
@@ -44,7 +45,7 @@ fn lines(rt: &impl Print, text: &[u8]) -> io::Result<()> {
 fn or_dash<T: Display + Drop>(rt: &impl Print, value: Option<T>) -> io::Result<()> {
     match value {
         Some(value) => rt.print(value),
-        None => rt.print("-"),
+        None => rt.write_all(b"-"),
     }
 }
 
@@ -68,9 +69,21 @@ fn digits(rt: &impl Print, s: &[u8]) -> io::Result<()> {
     }
 }
 
-fn found_byte(rt: &impl Print, s: &[u8], sought: &[u8]) -> io::Result<()> {
-    match sought.first() {
+fn found(rt: &impl Print, s: &[u8], case: Case) -> io::Result<()> {
+    let mut sought = [0; LONGEST];
+    or_dash(rt, search::find(s, case.text(3, &mut sought), 0))
+}
+
+fn found_byte(rt: &impl Print, s: &[u8], case: Case) -> io::Result<()> {
+    let mut sought = [0; LONGEST];
+    match case.text(3, &mut sought).first() {
         Some(b) => or_dash(rt, search::find_byte(s, *b, 0)),
         None => Ok(()),
     }
+}
+
+fn json_u64_for_key(rt: &impl Print, vector: &[u8], case: Case) -> io::Result<()> {
+    let mut key = [0; LONGEST];
+    let answer = source::vector::json_u64_for_key(vector, case.text(3, &mut key));
+    rt.print(Told(answer.numbered()))
 }
