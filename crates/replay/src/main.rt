@@ -41,7 +41,8 @@ fn main(rt: HostRuntime) -> io::Result<()> {
     replay_all(&rt, &mut rt.stdin(), &mut buffer)
 }
 
-// The buffer holds the start of a line that isn't whole yet; more is read behind it. A last line that no line feed ends is no case.
+// The buffer holds the start of a line that isn't whole yet; more is read behind it, 65,536 times at most. A last line that no line feed
+// ends is no case.
 fn replay_all(
     rt: &(impl Print + AllocGlobal),
     input: &mut impl Read,

@@ -1,14 +1,16 @@
 -- What trimming does to a text, by the bytes that it starts with.
-use Prim.Native.Nat.{ℕ, suc, ◌+◌, ◌≤◌}
+use Prim.Native.Nat.{ℕ, zero, suc, ◌+◌, ◌*◌, ◌≤◌}
 use mathlib.Core.Path.{◌≡◌, refl, sym, ap, ◌∙◌}
 use mathlib.Core.List.{List, [], ◌∷◌, reverse, reverse-reverse}
-use mathlib.Core.Bool.{Bool, true, false}
+use mathlib.Core.Bool.{Bool, true, false, ◌&&◌}
 use native.Mathlib.Omega.{arith}
 use lib.ListN.{length, get_or, take, drop, length-reverse}
 use Rattle.std.specs.List.{prefix_len}
-use lib.Seq.{take-length}
-use Rattle.base.proofs.Tests.{by_bool}
-use Rattle.base.proofs.Parts.{reverse-take-suc}
+use lib.Seq.{take-length, drop-drop}
+use Rattle.std.specs.Simd.{first_chunks}
+use Rattle.base.specs.Lists.{all}
+use Rattle.base.proofs.Tests.{by_bool, and_left, and_right}
+use Rattle.base.proofs.Parts.{reverse-take-suc, drop_cons_at}
 use Rattle.trim.proofs.White.{not2, not3}
 use Rattle.trim.specs.Trim.{white1, white2, white3, trimmed_by, after1, after2, start_trimmed, back, end_trimmed, trimmed}
 use Rattle.trim.specs.Code.Trims.{back2, back3}
@@ -41,16 +43,35 @@ module _ (two : ℕ → ℕ → Bool) (three : ℕ → ℕ → ℕ → Bool) whe
   no1 a [] e f g = end1 a [] refl e
   no1 a (b ∷ t) e f g = no2 a b t e (f b) (g b)
 
--- what White_Space of one byte is passed at a text's start
-pub blanks_passed : (s : List ℕ) → start_trimmed s ≡ start_trimmed (drop (prefix_len white1 s) s)
-blanks_passed [] = refl
-blanks_passed (a ∷ s) = by_bool (white1 a) (λ e. yes1 white2 white3 a s e ∙ blanks_passed s ∙ ap start_trimmed (sym (passes e))) (λ e. ap start_trimmed (sym (stays e)))
-  where
-    passes : white1 a ≡ true → drop (prefix_len white1 (a ∷ s)) (a ∷ s) ≡ drop (prefix_len white1 s) s
-    passes e = let n : 1 + prefix_len white1 s ≡ suc (prefix_len white1 s) = omega arith in rw (e, n) refl
+-- White_Space of one byte is passed at a text's start
+pub white_passed : (s : List ℕ) (n at : ℕ) → at + n ≤ length s → all white1 (take n (drop at s)) ≡ true → start_trimmed (drop at s) ≡ start_trimmed (drop (at + n) s)
+white_passed s zero at h e = let m : at ≡ at + 0 = omega arith in ap (λ (k : ℕ). start_trimmed (drop k s)) m
+white_passed s (suc n) at h e =
+    let d : drop at s ≡ get_or s at 0 ∷ drop (at + 1) s = drop_cons_at s at (at + 1) (omega arith) refl in
+    let z : (white1 (get_or s at 0) && all white1 (take n (drop (at + 1) s))) ≡ true = sym (ap (λ (t : List ℕ). all white1 (take (suc n) t)) d) ∙ e in
+    let m : at + 1 + n ≡ at + suc n = omega arith in
+    ap start_trimmed d
+    ∙ yes1 white2 white3 (get_or s at 0) (drop (at + 1) s) (and_left _ _ z)
+    ∙ white_passed s n (at + 1) (omega arith) (and_right (white1 (get_or s at 0)) _ z)
+    ∙ ap (λ (k : ℕ). start_trimmed (drop k s)) m
 
-    stays : white1 a ≡ false → drop (prefix_len white1 (a ∷ s)) (a ∷ s) ≡ a ∷ s
-    stays e = rw e refl
+-- the blocks of it that come first
+pub blocks_passed : (n : ℕ) (s : List ℕ) (k at : ℕ) → at + k * n ≤ length s
+    → start_trimmed (drop at s) ≡ start_trimmed (drop (at + n * prefix_len (all white1) (first_chunks n k (drop at s))) s)
+blocks_passed n s zero at h = let e : at ≡ at + n * 0 = omega arith in ap (λ (j : ℕ). start_trimmed (drop j s)) e
+blocks_passed n s (suc k) at h =
+    by_bool (all white1 (take n (drop at s)))
+    (λ e.
+    let q = prefix_len (all white1) (first_chunks n k (drop (at + n) s)) in
+    let z : at + n + n * q ≡ at + n * (1 + q) = omega arith in
+    rw (e, drop-drop n at s) (white_passed s n at (omega arith) e ∙ blocks_passed n s k (at + n) (omega arith) ∙ ap (λ (j : ℕ). start_trimmed (drop j s)) z))
+    (λ e. let z : at ≡ at + n * 0 = omega arith in rw e (ap (λ (j : ℕ). start_trimmed (drop j s)) z))
+
+pub first_blocks_passed : (n : ℕ) (s : List ℕ) (k : ℕ) → k * n ≤ length s → start_trimmed s ≡ start_trimmed (drop (n * prefix_len (all white1) (first_chunks n k s)) s)
+first_blocks_passed n s k h =
+    let m = n * prefix_len (all white1) (first_chunks n k s) in
+    let z : 0 + m ≡ m = omega arith in
+    blocks_passed n s k 0 (omega arith) ∙ ap (λ (j : ℕ). start_trimmed (drop j s)) z
 
 -- a first byte, and a last one, that no White_Space has there
 pub start_stays : (a : ℕ) (t : List ℕ) → white1 a ≡ false → (a ≡ 0xC2 → ⊥) → (0xE1 ≤ a → a ≤ 0xE3 → ⊥) → start_trimmed (a ∷ t) ≡ a ∷ t
