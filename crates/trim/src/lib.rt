@@ -6,7 +6,7 @@ ghost use Rattle.std.specs.List.{prefix_len};
 ghost use Rattle.base.specs.Lists.{all};
 ghost use Rattle.base.specs.Part.{Part};
 ghost use Rattle.trim.specs.Trim.{start_trimmed, end_trimmed, trimmed, leading_blanks, white1, white2, white3};
-ghost use Rattle.trim.specs.Code.Trims.{WhiteLen, LastWhiteLen};
+ghost use Rattle.trim.specs.Code.Trims.{White, WhiteLen, LastWhiteLen};
 ghost use Rattle.trim.specs.Code.Blank.{BlankLen, blanks_end};
 
 use base::in_range;
@@ -24,13 +24,30 @@ pub fn trim<'a>(s: &'a [u8]) -> &'a [u8]
 pub fn trim_start<'a>(s: &'a [u8]) -> &'a [u8]
     ensures { Part s.entry result (leading_blanks s.now) (start_trimmed s.now) }
 {
-    let (blocks, _) = s.as_chunks::<BLOCK>();
-    let mut i = BLOCK * white_blocks(blocks);
+    let mut i = skip_white(s);
     // A character has one byte to three, so no iterator is plainer; so too in the two loops below.
     while let Some(n) = white_len(&s[i..]) {
         i += n;
     }
     &s[i..]
+}
+
+// How many bytes of White_Space of one byte are passed by whole blocks. Most texts are short, so the blocks are no part of this code.
+fn skip_white(s: &[u8]) -> usize
+    ensures { White s.now result }
+{
+    if s.len() < BLOCK {
+        return 0;
+    }
+    skip_blocks(s)
+}
+
+#[inline(never)]
+fn skip_blocks(s: &[u8]) -> usize
+    ensures { White s.now result }
+{
+    let (blocks, _) = s.as_chunks::<BLOCK>();
+    BLOCK * white_blocks(blocks)
 }
 
 // How many blocks of White_Space of one byte come first.

@@ -1,13 +1,5 @@
--- `trim::trim_start` meets its contract: blocks of White_Space of one byte are passed first.
-use Rattle.std.proofs.Common.{ℕ, sym, ap, ◌∙◌, ◌*◌, ◌/◌, drop, length, arith}
-use Rattle.std.specs.List.{prefix_len}
-use Rattle.base.specs.Lists.{all}
-use Rattle.trim.specs.Trim.{white1, start_trimmed}
-use Rattle.trim.proofs.Laws.{first_blocks_passed}
+-- `trim::trim_start` meets its contract: what is passed first is White_Space.
 use Rattle.trim.proofs.trim_start.Goals as goal
 
 pub loop-n-init : goal.loop-n-init
-loop-n-init c =
-    let s = c.args.s.now in
-    let e = c.white_blocks-i.ensures.white ∙ ap (prefix_len (all white1)) c.as_chunks.ensures.front in
-    (omega arith, first_blocks_passed 16 s (length s / 16) (omega arith) ∙ ap (λ (m : ℕ). start_trimmed (drop (16 * m) s)) (sym e))
+loop-n-init c = let w = c.skip_white-i.ensures in (w.within, w.same)

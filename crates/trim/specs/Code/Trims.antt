@@ -9,6 +9,11 @@ back2 b a = white2 a b
 abbrev pub back3 : ℕ → ℕ → ℕ → Bool
 back3 c b a = white3 a b c
 
+-- the first n bytes of a text are White_Space
+pub record White (s : List ℕ) (n : ℕ) : Type 0 where
+  pub within : n ≤ length s
+  pub same : start_trimmed s ≡ start_trimmed (drop n s)
+
 -- n bytes of White_Space start a text, or none does
 abbrev pub WhiteLen : List ℕ → Option ℕ → Type 0
 WhiteLen s r = MatchOption r (start_trimmed s ≡ s) (λ n. (0 < n) × (n ≤ length s) × (start_trimmed s ≡ start_trimmed (drop n s)))
