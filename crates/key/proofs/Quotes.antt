@@ -1,12 +1,9 @@
 -- Laws of quotes alone: where a key of them stands, and what another byte tells of the places before it.
 use Rattle.std.specs.Prelude.{Some}
 use Prim.Native.Nat.{ℕ, zero, suc, ◌+◌, ◌-◌, ◌*◌, ◌/◌, ◌%◌, ◌<◌, ◌≤◌}
-use mathlib.Core.Path.{◌≡◌, refl, sym, ap, ◌∙◌}
-use mathlib.Core.List.{List, [], ◌∷◌, reverse}
-use mathlib.Core.Bool.{Bool, true, false, ◌&&◌}
-use lib.Dec.{eqb}
-use Rattle.std.specs.Str.{bytes_eq}
-use Rattle.base.specs.Lists.{all}
+use mathlib.Core.Path.{◌≡◌, sym, ap, ◌∙◌}
+use mathlib.Core.List.{List, [], reverse}
+use mathlib.Core.Bool.{true, false}
 use borrow.Author.Tests.{eqb-true}
 use native.Mathlib.Omega.{arith}
 use lib.ListN.{length, get_or, take, drop, replicate, drop_of_length-le}
@@ -24,13 +21,6 @@ use Rattle.search.proofs.Laws.{hit, miss}
 use Rattle.key.specs.Key.{quoted}
 use Rattle.key.specs.Code.Marked.{Quotes, of_quotes}
 use Rattle.key.proofs.Quoted.{quoted-length, key_byte, closing_quote, byte_here}
-
--- n bytes that are quotes, one by one and at once
-pub quotes_all : (n : ℕ) (s : List ℕ) → length s ≡ n → all (λ c. eqb c 0x22) s ≡ bytes_eq s (replicate n 0x22)
-quotes_all zero [] e = refl
-quotes_all zero (a ∷ s) e = absurd (omega arith)
-quotes_all (suc n) [] e = absurd (omega arith)
-quotes_all (suc n) (a ∷ s) e = ap (λ (b : Bool). eqb a 0x22 && b) (quotes_all n s (omega arith))
 
 -- the last n blocks of a part
 pub last_blocks : (s : List ℕ) (from end n : ℕ) → from ≤ end → end ≤ length s
